@@ -1,0 +1,28 @@
+-- `field::inv` meets its contract: the table is the list of the inverses, which antt computes.
+-- Assumes nothing.
+use mathlib.Core.Path.{ap, _∙_, sym, subst}
+use Prim.Native.Nat.{ℕ, _<_}
+use lib.Dec.{ltb→lt}
+use Rattle.field.specs.Laws.{inverse-bound}
+use native.Mathlib.Nat.{zero-add}
+use borrow.Author.Needs.{needs}
+use Rattle.algebra.specs.Polynomial.{times, remainder, productIn, inverseIn, squares}
+use Rattle.field.specs.Gf16.{product, inverse}
+use Rattle.algebra.specs.Every.{values, values-at}
+use Rattle.field.proofs.inv.Statement.{statement}
+use Rattle.field.proofs.inv.Tie as tie
+
+wide-requires : tie.Need-wide-requires
+wide-requires c κs = search needs
+
+array-read-result : tie.Need-array-read-result
+array-read-result c = search needs
+
+returns : tie.Need-returns
+unfolding values productIn remainder times inverseIn squares
+returns c =
+    let e = values-at 16 0 inverse (c .wide .result) (search needs) ∙ ap inverse (zero-add (c .wide .result) ∙ c .wide .ensures) in
+    (e, subst (λ (n : ℕ). n < 16) (sym e) (ltb→lt (inverse (c .before .args .a)) 16 (inverse-bound (c .before .args .a) (search needs))))
+
+pub inv-spec : {M : Type 1} → statement M
+inv-spec = tie.close (tie.spec wide-requires array-read-result returns)
