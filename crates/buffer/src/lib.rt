@@ -1,0 +1,1 @@
+// Lent bytes.

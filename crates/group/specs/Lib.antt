@@ -1,0 +1,6 @@
+pub mod Widths
+pub mod Body
+pub mod Parity
+pub mod CheckRecord
+pub mod Members
+pub mod Rebuilding

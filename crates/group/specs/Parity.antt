@@ -1,0 +1,21 @@
+-- Parity of a group's four bodies at a check place. Document 01: check unit j of a group (0 to 2) uses column 4 + j. Assumes nothing.
+use Prim.Native.Nat.{ℕ, _+_}
+use mathlib.Core.List.{List}
+use Rattle.code.specs.Matrix.{entry}
+use Rattle.group.specs.Body.{addBody, scaleBody}
+
+-- the coefficient of the data unit at place p in the check unit at place j
+unfoldable pub coefficient : ℕ → ℕ → ℕ
+coefficient p j = entry p (4 + j)
+
+-- the sum over the four places of a group
+unfoldable pub sum4 : (ℕ → List ℕ) → List ℕ
+sum4 f = addBody (addBody (addBody (f 0) (f 1)) (f 2)) (f 3)
+
+-- the parity at check place j: the sum of the bodies of the four places, each times its coefficient
+unfoldable pub parity : ℕ → (ℕ → List ℕ) → List ℕ
+parity j bodies = sum4 (λ p. scaleBody (coefficient p j) (bodies p))
+
+-- a parity at check place j after the body of place p got this change (the sum of the old and the new body)
+unfoldable pub adjusted : ℕ → ℕ → List ℕ → List ℕ → List ℕ
+adjusted j p change old = addBody old (scaleBody (coefficient p j) change)

@@ -1,0 +1,17 @@
+-- Rebuilding a body from four members of its group. Member m stands under column m of the matrix. Assumes nothing.
+use Prim.Native.Nat.{ℕ}
+use mathlib.Core.Bool.{Bool}
+use mathlib.Core.List.{List}
+use lib.ListN.{getD}
+use Rattle.code.specs.Rule.{weightsOf}
+use Rattle.group.specs.Body.{addBody, scaleBody}
+use Rattle.group.specs.Parity.{sum4}
+use Rattle.group.specs.Members.{firstFour}
+
+-- four bodies, each times its weight, added up
+unfoldable pub weighed : List ℕ → (ℕ → List ℕ) → List ℕ
+weighed ws bodies = sum4 (λ i. scaleBody (getD ws i 0) (bodies i))
+
+-- the body of place p, from what the first four members in service hold; on tells who is in service
+unfoldable pub rebuilt : (ℕ → Bool) → (ℕ → List ℕ) → ℕ → List ℕ
+rebuilt on hold p = weighed (weightsOf (firstFour on) p) (λ i. hold (getD (firstFour on) i 0))

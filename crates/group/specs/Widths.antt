@@ -1,0 +1,21 @@
+-- The widths of a record's parts, in bytes (document 01, "Bytes of a store"). Every length that depends on one is given by these names.
+-- Assumes nothing.
+use Prim.Native.Nat.{ℕ, _+_, _*_}
+
+-- a key, and a body
+abbrev pub keyBytes : ℕ
+keyBytes = 4
+
+abbrev pub bodyBytes : ℕ
+bodyBytes = 16
+
+-- a slot: a key and a body
+abbrev pub slotBytes : ℕ
+slotBytes = keyBytes + bodyBytes
+
+-- the keys of a check record, one for each place of the group; and the whole record: these and the parity
+abbrev pub keysBytes : ℕ
+keysBytes = 4 * keyBytes
+
+abbrev pub checkBytes : ℕ
+checkBytes = keysBytes + bodyBytes
