@@ -1,0 +1,6 @@
+pub mod Ledger
+pub mod Picture
+pub mod Table
+pub mod Answers
+pub mod Runs
+pub mod Claims

@@ -1,0 +1,80 @@
+-- Document 01, "Bytes of a store": its parts by name (`Store`), the bytes that the parts fill (`bytes`), and the parts of given bytes (`view`).
+-- Ranks are counted from 0 here. Assumes nothing.
+use Prim.Native.Nat.{ℕ, _+_, _*_}
+use mathlib.Core.List.{List, [], _∷_, _++_}
+use lib.ListN.{take, drop}
+use Rattle.buffer.specs.Bytes.{byte, be32, bytes32, part}
+use Rattle.buffer.specs.Table.{tab}
+use Rattle.group.specs.Widths.{keyBytes, slotBytes, checkBytes}
+
+-- byte 0: the version
+abbrev pub version : ℕ
+version = 1
+
+-- version, length, b, M, K and the states of 16 data units and 12 check units; and the whole store, 36 + 704b
+abbrev pub headerBytes : ℕ
+headerBytes = 36
+
+abbrev pub storeBytes : ℕ → ℕ
+storeBytes b = headerBytes + (16 * slotBytes + 12 * checkBytes) * b
+
+pub record Store : Type 0 where
+  pub front : List ℕ  -- version, length, b, M and K: 8 bytes
+  pub dstate : ℕ → ℕ  -- data unit → its state: 0 not in place, 1 in service, 2 out
+  pub cstate : ℕ → ℕ  -- check unit → its state; check unit j of group g is 3g + j
+  pub size : ℕ  -- b, the ranks of a unit
+  pub slot : ℕ → ℕ → List ℕ  -- data unit, rank → the slot: key and body
+  pub check : ℕ → ℕ → List ℕ  -- check unit, rank → the check record: four keys by place in the group, parity
+  pub rest : List ℕ  -- what the slice has behind the store
+
+unfoldable pub bytes : Store → List ℕ
+bytes s =
+    s .front
+    ++ (tab 16 (λ u. s .dstate u ∷ [])
+    ++ (tab 12 (λ c. s .cstate c ∷ [])
+    ++ (tab 16 (λ u. tab (s .size) (s .slot u))
+    ++ (tab 12 (λ c. tab (s .size) (s .check c))
+    ++ s .rest))))
+
+-- where a slot and a check record stand, with b ranks to a unit
+abbrev pub slotAt : ℕ → ℕ → ℕ → ℕ
+slotAt b u r = headerBytes + (u * b + r) * slotBytes
+
+abbrev pub checkAt : ℕ → ℕ → ℕ → ℕ
+checkAt b c r = headerBytes + 16 * slotBytes * b + (c * b + r) * checkBytes
+
+unfoldable pub view : List ℕ → Store
+view x = record {
+  front = take 8 x;
+  dstate = λ u. byte x (8 + u);
+  cstate = λ c. byte x (24 + c);
+  size = byte x 5;
+  slot = λ u r. part (slotAt (byte x 5) u r) slotBytes x;
+  check = λ c r. part (checkAt (byte x 5) c r) checkBytes x;
+  rest = drop (storeBytes (byte x 5)) x;
+}
+
+-- M and K, the store's level
+unfoldable pub unitsIn : Store → ℕ
+unitsIn v = byte (v .front) 6
+
+unfoldable pub levelIn : Store → ℕ
+levelIn v = byte (v .front) 7
+
+-- a slot's bytes: a key and a body; and the key of a slot, or of the first bytes of a list
+unfoldable pub slotOf : ℕ → List ℕ → List ℕ
+slotOf k body = bytes32 k ++ body
+
+unfoldable pub keyOf : List ℕ → ℕ
+keyOf x = be32 x 0
+
+-- the first 8 bytes of a store with b ranks, m units and level k
+unfoldable pub frontOf : ℕ → ℕ → ℕ → List ℕ
+frontOf b m k = version ∷ (bytes32 (storeBytes b) ++ (b ∷ m ∷ k ∷ []))
+
+-- the same store with other slots, and with other check records
+unfoldable pub withSlots : Store → (ℕ → ℕ → List ℕ) → Store
+withSlots s f = record { front = s .front; dstate = s .dstate; cstate = s .cstate; size = s .size; slot = f; check = s .check; rest = s .rest }
+
+unfoldable pub withChecks : Store → (ℕ → ℕ → List ℕ) → Store
+withChecks s f = record { front = s .front; dstate = s .dstate; cstate = s .cstate; size = s .size; slot = s .slot; check = f; rest = s .rest }

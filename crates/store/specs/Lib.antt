@@ -1,0 +1,7 @@
+pub mod Units
+pub mod Layout
+pub mod Reads
+pub mod Sound
+pub mod Numbers
+pub mod Changes
+pub mod Perform

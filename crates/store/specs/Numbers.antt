@@ -1,0 +1,103 @@
+-- Document 01, "Numbers returned": the calls of demand 3 and, for each, the rows of the table that concern it, in the order 2, 1, 3, 9, 4, 8,
+-- 5, 6, 7. The first condition that holds gives the number; where none holds the call is granted. Assumes nothing.
+use Prim.Native.Nat.{ℕ, pred, _+_, _*_, _-_, _/_}
+use mathlib.Core.List.{List, [], _∷_}
+use mathlib.Core.Bool.{Bool, not, _&&_}
+use lib.Dec.{eqb, ltb, leb}
+use lib.ListN.{length}
+use Rattle.buffer.specs.Choice.{pick}
+use Rattle.group.specs.Widths.{bodyBytes, slotBytes}
+use Rattle.store.specs.Units.{splitPointer}
+use Rattle.store.specs.Layout.{Store, view, unitsIn, levelIn}
+use Rattle.store.specs.Reads.{homeIn, fillIn, rankIn, outsIn, stateIn, beyondIn, listedFill, listedRank, lostIn, totalIn}
+use Rattle.store.specs.Sound.{sound}
+
+-- the calls, each with its arguments: keys, bodies, unit and group numbers, and output buffers as they are lent
+pub data Call : Type 0 where
+  teach : ℕ → List ℕ → Call
+  correct : ℕ → List ℕ → Call
+  erase : ℕ → Call
+  read : ℕ → List ℕ → Call
+  readInPlace : ℕ → Call
+  list : List ℕ → Call
+  unitOut : ℕ → Call
+  repair : ℕ → Call
+  grow : Call
+  shrink : Call
+  raise : Call
+
+-- the number of the first test that holds, and 0 where none does
+unfoldable pub firstOf : List (Bool × ℕ) → ℕ
+firstOf [] = 0
+firstOf (t ∷ ts) = pick (t .0) (t .1) (firstOf ts)
+
+-- the rows for a store with the parts v, whose bytes are sound or not
+unfoldable pub refusalsIn : Bool → Store → Call → List (Bool × ℕ)
+refusalsIn ok v (teach k x) =
+    (eqb k 0, 2)
+    ∷ (not (eqb (length x) bodyBytes), 2)
+    ∷ (not ok, 1)
+    ∷ (ltb 0 (outsIn v (homeIn v k / 4)), 4)
+    ∷ (ltb (rankIn v (homeIn v k) k) (fillIn v (homeIn v k)), 5)
+    ∷ (leb (v .size) (fillIn v (homeIn v k)), 7)
+    ∷ []
+refusalsIn ok v (correct k x) =
+    (eqb k 0, 2)
+    ∷ (not (eqb (length x) bodyBytes), 2)
+    ∷ (not ok, 1)
+    ∷ (ltb 0 (outsIn v (homeIn v k / 4)), 4)
+    ∷ (leb (fillIn v (homeIn v k)) (rankIn v (homeIn v k) k), 6)
+    ∷ []
+refusalsIn ok v (erase k) =
+    (eqb k 0, 2)
+    ∷ (not ok, 1)
+    ∷ (ltb 0 (outsIn v (homeIn v k / 4)), 4)
+    ∷ (leb (fillIn v (homeIn v k)) (rankIn v (homeIn v k) k), 6)
+    ∷ []
+refusalsIn ok v (read k out) =
+    (eqb k 0, 2)
+    ∷ (not (eqb (length out) bodyBytes), 2)
+    ∷ (not ok, 1)
+    ∷ (eqb (v .dstate (homeIn v k)) 2 && beyondIn v (homeIn v k / 4), 8)
+    ∷ (leb (listedFill v (homeIn v k)) (listedRank v (homeIn v k) k), 6)
+    ∷ []
+refusalsIn ok v (readInPlace k) = []
+refusalsIn ok v (list out) =
+    (not ok, 1)
+    ∷ (lostIn v, 8)
+    ∷ (ltb (length out) (slotBytes * totalIn v), 7)
+    ∷ []
+refusalsIn ok v (unitOut w) =
+    (ltb 27 w, 2)
+    ∷ (not ok, 1)
+    ∷ (eqb (stateIn v w) 0, 3)
+    ∷ (eqb (stateIn v w) 2, 4)
+    ∷ []
+refusalsIn ok v (repair g) =
+    (ltb 3 g, 2)
+    ∷ (not ok, 1)
+    ∷ (leb (unitsIn v) (4 * g), 3)
+    ∷ (beyondIn v g, 8)
+    ∷ []
+refusalsIn ok v grow =
+    (not ok, 1)
+    ∷ (leb 16 (unitsIn v), 9)
+    ∷ (ltb 0 (outsIn v (unitsIn v / 4)), 4)
+    ∷ (ltb 0 (outsIn v (splitPointer (unitsIn v) / 4)), 4)
+    ∷ []
+refusalsIn ok v shrink =
+    (not ok, 1)
+    ∷ (leb (unitsIn v) 1, 9)
+    ∷ (ltb 0 (outsIn v (pred (unitsIn v) / 4)), 4)
+    ∷ (ltb 0 (outsIn v (splitPointer (pred (unitsIn v)) / 4)), 4)
+    ∷ (ltb (v .size) (fillIn v (splitPointer (pred (unitsIn v))) + fillIn v (pred (unitsIn v))), 7)
+    ∷ []
+refusalsIn ok v raise =
+    (not ok, 1)
+    ∷ (ltb 0 (splitPointer (unitsIn v)), 9)
+    ∷ (leb 16 (unitsIn v), 9)
+    ∷ (leb 3 (levelIn v), 9)
+    ∷ []
+
+unfoldable pub numberIn : List ℕ → Call → ℕ
+numberIn s c = firstOf (refusalsIn (sound s) (view s) c)

@@ -1,0 +1,76 @@
+-- Document 01, "Sound means": clause by clause, in its order, as a test of any bytes. Parity bytes are not part of it. Assumes nothing.
+use Prim.Native.Nat.{ℕ, _+_, _*_, _/_, _%_}
+use mathlib.Core.List.{List, [], _∷_}
+use mathlib.Core.Bool.{Bool, true, false, not, _&&_, _||_}
+use lib.Dec.{eqb, ltb, leb}
+use lib.ListN.{length}
+use Rattle.buffer.specs.Choice.{pick}
+use Rattle.buffer.specs.Range.{all, first}
+use Rattle.buffer.specs.Bytes.{byte, be32, zeros, part}
+use Rattle.group.specs.Widths.{keyBytes, slotBytes, checkBytes}
+use Rattle.store.specs.Units.{unitOf}
+use Rattle.store.specs.Layout.{Store, view, version, storeBytes, unitsIn, levelIn, keyOf}
+use Rattle.store.specs.Reads.{fillIn, listedKey, listedFill}
+
+-- two lists of bytes are the same
+unfoldable pub same : List ℕ → List ℕ → Bool
+same [] [] = true
+same [] (y ∷ ys) = false
+same (x ∷ xs) [] = false
+same (x ∷ xs) (y ∷ ys) = eqb x y && same xs ys
+
+-- these ranges hold; the slice is long enough
+unfoldable pub ranges : List ℕ → Bool
+ranges s =
+    eqb (byte s 0) version
+    && eqb (be32 s 1) (storeBytes (byte s 5))
+    && leb 1 (byte s 5)
+    && leb (byte s 5) 64
+    && leb 1 (byte s 6)
+    && leb (byte s 6) 16
+    && leb 1 (byte s 7)
+    && leb (byte s 7) 3
+    && leb (storeBytes (byte s 5)) (length s)
+
+-- data units 0 to M - 1 are in place and no others
+unfoldable pub unitsPlaced : Store → Bool
+unitsPlaced v = all 16 (λ u. pick (ltb u (unitsIn v)) (eqb (v .dstate u) 1 || eqb (v .dstate u) 2) (eqb (v .dstate u) 0))
+
+-- the check units in place of a group: the places before the first that is not
+unfoldable pub checksIn : Store → ℕ → ℕ
+checksIn v g = first 3 (λ j. eqb (v .cstate (3 * g + j)) 0)
+
+-- how many check units a group in place may have, in a store of level k: 1 to K
+unfoldable pub checksAllowed : ℕ → ℕ → Bool
+checksAllowed k n = leb 1 n && leb n k
+
+-- each group in place has 1 to K check units, lowest places first, other groups none
+unfoldable pub groupsPlaced : Store → Bool
+groupsPlaced v = all 4 (λ g.
+    pick (ltb (4 * g) (unitsIn v)) (checksAllowed (levelIn v) (checksIn v g)) (eqb (checksIn v g) 0)
+    && all 3 (λ j. pick (ltb j (checksIn v g)) (eqb (v .cstate (3 * g + j)) 1 || eqb (v .cstate (3 * g + j)) 2) (eqb (v .cstate (3 * g + j)) 0)))
+
+-- units out or not in place and data slots without a record are zero
+unfoldable pub zeroed : Store → Bool
+zeroed v =
+    all 16 (λ u. all (v .size) (λ r. (eqb (v .dstate u) 1 && ltb r (fillIn v u)) || same (v .slot u r) (zeros slotBytes)))
+    && all 12 (λ c. all (v .size) (λ r. eqb (v .cstate c) 1 || same (v .check c r) (zeros checkBytes)))
+
+-- the keys of a unit are known: it is in service, or it is out and a check unit of its group is in service
+unfoldable pub keysKnown : Store → ℕ → Bool
+keysKnown v u = eqb (v .dstate u) 1 || eqb (v .dstate u) 2 && not (all 3 (λ j. not (eqb (v .cstate (3 * (u / 4) + j)) 1)))
+
+-- keys are dense, different, in their own unit; an out unit's keys, where listed, obey the same rules
+unfoldable pub keysPlaced : Store → Bool
+keysPlaced v = all 16 (λ u. not (keysKnown v u) || all (v .size) (λ r.
+    pick (ltb r (listedFill v u))
+    (eqb (unitOf (unitsIn v) (keyOf (listedKey v u r))) u && all r (λ q. not (eqb (keyOf (listedKey v u q)) (keyOf (listedKey v u r)))))
+    (eqb (keyOf (listedKey v u r)) 0)))
+
+-- the key lists of check units agree with each other and with data units in service (a unit that is not in place has no keys)
+unfoldable pub listsAgree : Store → Bool
+listsAgree v = all 12 (λ c. not (eqb (v .cstate c) 1) || all (v .size) (λ r. all 4 (λ p.
+    eqb (keyOf (part (keyBytes * p) keyBytes (v .check c r))) (keyOf (listedKey v (4 * (c / 3) + p) r)))))
+
+unfoldable pub sound : List ℕ → Bool
+sound s = ranges s && unitsPlaced (view s) && groupsPlaced (view s) && zeroed (view s) && keysPlaced (view s) && listsAgree (view s)

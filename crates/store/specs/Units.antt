@@ -1,0 +1,34 @@
+-- Document 01, "Units, keys and ranks": where a key lies, and which unit is split. A data unit is linear hashing's bucket, a check unit a
+-- parity bucket, a group a bucket group of four. Assumes nothing.
+use Prim.Native.Nat.{ℕ, suc, _+_, _*_, _-_, _/_, _%_}
+use mathlib.Core.Bool.{Bool, _&&_, _||_}
+use lib.Dec.{eqb, ltb}
+use Rattle.buffer.specs.Choice.{pick}
+
+-- 2^j, the largest power of two that is at most m, for m from 1 to 16
+unfoldable pub powerBelow : ℕ → ℕ
+powerBelow m = pick (ltb m 2) 1 (pick (ltb m 4) 2 (pick (ltb m 8) 4 (pick (ltb m 16) 8 16)))
+
+-- n = M - 2^j, the split pointer: the unit that is split next
+unfoldable pub splitPointer : ℕ → ℕ
+splitPointer m = m - powerBelow m
+
+-- a key's unit: key mod 2^j, or key mod 2^(j+1) where the former is below n
+unfoldable pub unitOf : ℕ → ℕ → ℕ
+unitOf m k = pick (ltb (k % powerBelow m) (splitPointer m)) (k % (2 * powerBelow m)) (k % powerBelow m)
+
+-- unit M is made by splitting unit n: does a key of unit n leave it for unit M?
+unfoldable pub moves : ℕ → ℕ → Bool
+moves m k = eqb (unitOf (suc m) k) m
+
+-- the groups of the unit m that is added or removed, and of the unit that it is split from
+unfoldable pub touched : ℕ → ℕ → Bool
+touched m g = eqb g (m / 4) || eqb g (splitPointer m / 4)
+
+-- the groups brought up to the store's level when unit m is added: a new group, and one whose first unit is split
+unfoldable pub broughtUp : ℕ → ℕ → Bool
+broughtUp m g = eqb g (m / 4) && eqb (m % 4) 0 || eqb g (splitPointer m / 4) && eqb (splitPointer m % 4) 0
+
+-- the group left with no data unit when unit m is removed
+unfoldable pub emptied : ℕ → ℕ → Bool
+emptied m g = eqb g (m / 4) && eqb (m % 4) 0
