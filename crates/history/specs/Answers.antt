@@ -9,8 +9,8 @@ use Rattle.buffer.specs.Choice.{pick}
 use Rattle.buffer.specs.Bytes.{zeros}
 use Rattle.buffer.specs.Table.{tab}
 use Rattle.group.specs.Widths.{bodyBytes}
-use Rattle.store.specs.Numbers.{Call, teach, correct, erase, read, readInPlace, list, unitOut, repair, grow, shrink, raise}
-use Rattle.store.specs.Perform.{Answer, reply}
+use Rattle.model.specs.Numbers.{Call, teach, correct, erase, read, readInPlace, list, unitOut, repair, grow, shrink, raise}
+use Rattle.model.specs.Perform.{Answer, reply}
 use Rattle.history.specs.Ledger.{Ledger, home, recordAt, rankOf, isOut, total, granted}
 use Rattle.history.specs.Picture.{recordBytes}
 use Rattle.history.specs.Table.{number}

@@ -9,10 +9,10 @@ use lib.ListN.{length, drop}
 use Rattle.buffer.specs.Choice.{pick}
 use Rattle.buffer.specs.Bytes.{byte}
 use Rattle.group.specs.Widths.{bodyBytes}
-use Rattle.store.specs.Layout.{Store, view, storeBytes, unitsIn}
-use Rattle.store.specs.Reads.{homeIn, stateIn, beyondIn}
-use Rattle.store.specs.Numbers.{Call, teach, correct, erase, read, readInPlace, list, unitOut, repair, grow, shrink, raise, numberIn}
-use Rattle.store.specs.Perform.{Answer, copied, perform, layOut}
+use Rattle.model.specs.Layout.{Store, view, storeBytes, unitsIn}
+use Rattle.model.specs.Reads.{homeIn, stateIn, beyondIn}
+use Rattle.model.specs.Numbers.{Call, teach, correct, erase, read, readInPlace, list, unitOut, repair, grow, shrink, raise, numberIn}
+use Rattle.model.specs.Perform.{Answer, copied, perform, layOut}
 use Rattle.history.specs.Ledger.{opened}
 use Rattle.history.specs.Picture.{picture}
 use Rattle.history.specs.Answers.{answers, final}

@@ -10,9 +10,9 @@ use Rattle.buffer.specs.Range.{first, count, sum}
 use Rattle.buffer.specs.Bytes.{zeros}
 use Rattle.buffer.specs.Table.{upd}
 use Rattle.group.specs.Widths.{bodyBytes}
-use Rattle.store.specs.Units.{unitOf, splitPointer}
-use Rattle.store.specs.Numbers.{Call, teach, correct, erase, read, readInPlace, list, unitOut, repair, grow, shrink, raise}
-use Rattle.store.specs.Changes.{keep}
+use Rattle.model.specs.Units.{unitOf, splitPointer}
+use Rattle.model.specs.Numbers.{Call, teach, correct, erase, read, readInPlace, list, unitOut, repair, grow, shrink, raise}
+use Rattle.model.specs.Changes.{keep}
 
 pub record Rec : Type 0 where
   pub key : ℕ

@@ -7,7 +7,7 @@ use Rattle.buffer.specs.Bytes.{bytes32, zeros}
 use Rattle.buffer.specs.Table.{tab}
 use Rattle.group.specs.Widths.{slotBytes, checkBytes}
 use Rattle.group.specs.Parity.{parity}
-use Rattle.store.specs.Layout.{Store, bytes, frontOf}
+use Rattle.model.specs.Layout.{Store, bytes, frontOf}
 use Rattle.history.specs.Ledger.{Rec, Ledger, recordAt, state}
 
 -- a record's bytes: key and body

@@ -5,9 +5,9 @@ use mathlib.Core.Bool.{Bool, true, false, _&&_}
 use lib.Dec.{eqb, ltb}
 use Rattle.buffer.specs.Choice.{pick}
 use Rattle.buffer.specs.Table.{tab}
-use Rattle.store.specs.Layout.{Store}
-use Rattle.store.specs.Numbers.{Call, teach, correct, erase, read, readInPlace, list, unitOut, repair, grow, shrink, raise, numberIn}
-use Rattle.store.specs.Perform.{Answer, perform}
+use Rattle.model.specs.Layout.{Store}
+use Rattle.model.specs.Numbers.{Call, teach, correct, erase, read, readInPlace, list, unitOut, repair, grow, shrink, raise, numberIn}
+use Rattle.model.specs.Perform.{Answer, perform}
 
 -- the answers of a list of calls, and the bytes at its end
 unfoldable pub answersIn : List ℕ → List Call → List Answer

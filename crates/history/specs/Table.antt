@@ -5,8 +5,8 @@ use mathlib.Core.Bool.{Bool, false, not, _&&_}
 use lib.Dec.{eqb, ltb, leb}
 use lib.ListN.{length}
 use Rattle.group.specs.Widths.{bodyBytes, slotBytes}
-use Rattle.store.specs.Units.{splitPointer}
-use Rattle.store.specs.Numbers.{Call, teach, correct, erase, read, readInPlace, list, unitOut, repair, grow, shrink, raise, firstOf}
+use Rattle.model.specs.Units.{splitPointer}
+use Rattle.model.specs.Numbers.{Call, teach, correct, erase, read, readInPlace, list, unitOut, repair, grow, shrink, raise, firstOf}
 use Rattle.history.specs.Ledger.{Ledger, home, rankOf, state, isOut, outsOf, beyondOf, lost, total}
 
 unfoldable pub refusals : Ledger → Call → List (Bool × ℕ)

@@ -10,9 +10,9 @@ use Rattle.buffer.specs.Table.{upd}
 use Rattle.group.specs.Widths.{keyBytes, slotBytes, checkBytes}
 use Rattle.group.specs.Body.{addBody}
 use Rattle.group.specs.CheckRecord.{checkRecord, patched}
-use Rattle.store.specs.Units.{splitPointer, moves, touched, broughtUp, emptied}
-use Rattle.store.specs.Layout.{Store, unitsIn, levelIn, keyOf, withSlots, withChecks}
-use Rattle.store.specs.Reads.{fillIn, wholeSlot}
+use Rattle.model.specs.Units.{splitPointer, moves, touched, broughtUp, emptied}
+use Rattle.model.specs.Layout.{Store, unitsIn, levelIn, keyOf, withSlots, withChecks}
+use Rattle.model.specs.Reads.{fillIn, wholeSlot}
 
 -- Teach, correct and erase write a slot at a time: slot (u, r) becomes x, and each check unit in service of u's group gets its key, and the
 -- change of its body times the coefficient, at that rank.

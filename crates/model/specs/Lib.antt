@@ -1,5 +1,6 @@
 pub mod Units
 pub mod Layout
+pub mod LayoutLaws
 pub mod Reads
 pub mod Sound
 pub mod Numbers

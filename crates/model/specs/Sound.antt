@@ -8,9 +8,9 @@ use Rattle.buffer.specs.Choice.{pick}
 use Rattle.buffer.specs.Range.{all, first}
 use Rattle.buffer.specs.Bytes.{byte, be32, zeros, part}
 use Rattle.group.specs.Widths.{keyBytes, slotBytes, checkBytes}
-use Rattle.store.specs.Units.{unitOf}
-use Rattle.store.specs.Layout.{Store, view, version, storeBytes, unitsIn, levelIn, keyOf}
-use Rattle.store.specs.Reads.{fillIn, listedKey, listedFill}
+use Rattle.model.specs.Units.{unitOf}
+use Rattle.model.specs.Layout.{Store, view, version, storeBytes, unitsIn, levelIn, keyOf}
+use Rattle.model.specs.Reads.{fillIn, listedKey, listedFill}
 
 -- two lists of bytes are the same
 unfoldable pub same : List ℕ → List ℕ → Bool

@@ -11,8 +11,8 @@ use Rattle.buffer.specs.Table.{tab}
 use Rattle.group.specs.Widths.{keyBytes, keysBytes, slotBytes}
 use Rattle.group.specs.Members.{outs, beyond, serves}
 use Rattle.group.specs.Rebuilding.{rebuilt}
-use Rattle.store.specs.Units.{unitOf}
-use Rattle.store.specs.Layout.{Store, unitsIn, keyOf}
+use Rattle.model.specs.Units.{unitOf}
+use Rattle.model.specs.Layout.{Store, unitsIn, keyOf}
 
 -- the unit of a key
 unfoldable pub homeIn : Store → ℕ → ℕ

@@ -7,10 +7,10 @@ use lib.ListN.{length, drop}
 use Rattle.buffer.specs.Choice.{pick}
 use Rattle.buffer.specs.Bytes.{zeros, part}
 use Rattle.group.specs.Widths.{keyBytes, bodyBytes, slotBytes, checkBytes}
-use Rattle.store.specs.Layout.{Store, bytes, view, storeBytes, frontOf, slotAt, slotOf, unitsIn}
-use Rattle.store.specs.Reads.{homeIn, fillIn, rankIn, bodyIn, totalIn, listingIn}
-use Rattle.store.specs.Numbers.{Call, teach, correct, erase, read, readInPlace, list, unitOut, repair, grow, shrink, raise, firstOf, numberIn}
-use Rattle.store.specs.Changes.{written, erased, unitLost, repaired, grown, shrunk, raised}
+use Rattle.model.specs.Layout.{Store, bytes, view, storeBytes, frontOf, slotAt, slotOf, unitsIn}
+use Rattle.model.specs.Reads.{homeIn, fillIn, rankIn, bodyIn, totalIn, listingIn}
+use Rattle.model.specs.Numbers.{Call, teach, correct, erase, read, readInPlace, list, unitOut, repair, grow, shrink, raise, firstOf, numberIn}
+use Rattle.model.specs.Changes.{written, erased, unitLost, repaired, grown, shrunk, raised}
 
 -- ---- answers
 

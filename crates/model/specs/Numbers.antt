@@ -7,10 +7,10 @@ use lib.Dec.{eqb, ltb, leb}
 use lib.ListN.{length}
 use Rattle.buffer.specs.Choice.{pick}
 use Rattle.group.specs.Widths.{bodyBytes, slotBytes}
-use Rattle.store.specs.Units.{splitPointer}
-use Rattle.store.specs.Layout.{Store, view, unitsIn, levelIn}
-use Rattle.store.specs.Reads.{homeIn, fillIn, rankIn, outsIn, stateIn, beyondIn, listedFill, listedRank, lostIn, totalIn}
-use Rattle.store.specs.Sound.{sound}
+use Rattle.model.specs.Units.{splitPointer}
+use Rattle.model.specs.Layout.{Store, view, unitsIn, levelIn}
+use Rattle.model.specs.Reads.{homeIn, fillIn, rankIn, outsIn, stateIn, beyondIn, listedFill, listedRank, lostIn, totalIn}
+use Rattle.model.specs.Sound.{sound}
 
 -- the calls, each with its arguments: keys, bodies, unit and group numbers, and output buffers as they are lent
 pub data Call : Type 0 where

@@ -1,0 +1,1 @@
+// What a store means: definitions and theorems only, see specs/ and proofs/.

@@ -1,1 +1,0 @@
-// The store: see specs/.
