@@ -4,3 +4,6 @@ pub mod Alone
 pub mod GroupLaws
 pub mod Records
 pub mod Picture
+pub mod Units
+pub mod States
+pub mod Seen

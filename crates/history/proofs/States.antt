@@ -1,0 +1,67 @@
+-- The state of a unit in a ledger, and what it says: in place, in service, out. Assumes nothing.
+use Prim.Native.Nat.{ℕ, _+_, _*_, _-_, _/_, _%_, _<_}
+use mathlib.Core.Path.{_≡_, refl, sym, ap, _∙_}
+use mathlib.Core.Bool.{Bool, true, false, _&&_, true≢false}
+use native.Mathlib.Omega.{arith}
+use lib.Dec.{eqb, ltb}
+use borrow.Author.Tests.{ltb-false, lt-ltb, le-ltb}
+use Rattle.buffer.specs.Choice.{pick}
+use Rattle.buffer.specs.Range.{count}
+use Rattle.buffer.specs.RangeLaws.{count-zero}
+use Rattle.buffer.specs.TestLaws.{not-both}
+use Rattle.history.specs.Ledger.{Ledger, placed, isOut, state, outsOf}
+
+module _ (l : Ledger) where
+  pub state-out : (w : ℕ) → eqb (state l w) 2 ≡ isOut l w
+  unfolding state isOut pick
+  state-out w = go (placed l w) (l .out w)
+    where
+      go : (p o : Bool) → eqb (pick p (pick o 2 1) 0) 2 ≡ (p && o)
+      go true true = refl
+      go true false = refl
+      go false o = refl
+
+  pub state-placed : (w : ℕ) → ltb 0 (state l w) ≡ placed l w
+  unfolding state pick
+  state-placed w = go (placed l w) (l .out w)
+    where
+      go : (p o : Bool) → ltb 0 (pick p (pick o 2 1) 0) ≡ p
+      go true true = refl
+      go true false = refl
+      go false o = refl
+
+  pub state-in : (w : ℕ) → placed l w ≡ true → isOut l w ≡ false → state l w ≡ 1
+  unfolding state isOut pick
+  state-in w e f = go (placed l w) (l .out w) e f
+    where
+      go : (p o : Bool) → p ≡ true → (p && o) ≡ false → _≡_ {A = ℕ} (pick p (pick o 2 1) 0) 1
+      go true true e f = not-both refl f
+      go true false e f = refl
+      go false o e f = not-both e refl
+
+  -- a data unit, and the check unit at a place of a group
+  pub placed-unit : (u : ℕ) → u < 16 → placed l u ≡ ltb u (l .units)
+  unfolding placed pick
+  placed-unit u a = rw (lt-ltb u 16 a)
+
+  pub placed-check : (g j : ℕ) → j < 3 → placed l (16 + (3 * g + j)) ≡ ltb j (l .checks g)
+  unfolding placed pick
+  placed-check g j a =
+      let e : 16 + (3 * g + j) - 16 ≡ 3 * g + j = omega arith in
+      let d : (3 * g + j) / 3 ≡ g = omega arith in
+      let m : (3 * g + j) % 3 ≡ j = omega arith in
+      rw (le-ltb (16 + (3 * g + j)) 16 (omega arith), e, d, m)
+
+  pub state-check : (g j : ℕ) → j < 3 → state l (16 + (3 * g + j)) ≡ pick (ltb j (l .checks g)) (pick (l .out (16 + (3 * g + j))) 2 1) 0
+  unfolding state
+  state-check g j a = rw (placed-check g j a)
+
+  -- a group with no unit out
+  none-out : (g : ℕ) → ltb 0 (outsOf l g) ≡ false → count 4 (λ p. isOut l (4 * g + p)) ≡ 0
+  unfolding outsOf
+  none-out g e = omega (arith, ltb-false 0 (outsOf l g) e)
+
+  pub unit-serving : (u : ℕ) → placed l u ≡ true → ltb 0 (outsOf l (u / 4)) ≡ false → state l u ≡ 1
+  unit-serving u a e =
+      let d : u ≡ 4 * (u / 4) + u % 4 = omega arith in
+      state-in u a (ap (isOut l) d ∙ count-zero 4 (λ p. isOut l (4 * (u / 4) + p)) (none-out (u / 4) e) (u % 4) (omega arith))
