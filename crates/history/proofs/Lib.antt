@@ -7,3 +7,6 @@ pub mod Picture
 pub mod Units
 pub mod States
 pub mod Seen
+pub mod Writing
+pub mod Listed
+pub mod Rebuilt
