@@ -10,3 +10,4 @@ pub mod Seen
 pub mod Writing
 pub mod Listed
 pub mod Rebuilt
+pub mod PictureSound
