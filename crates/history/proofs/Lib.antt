@@ -11,3 +11,4 @@ pub mod Writing
 pub mod Listed
 pub mod Rebuilt
 pub mod PictureSound
+pub mod Simulation
