@@ -8,8 +8,8 @@ use borrow.Author.Tests.{eq-eqb}
 use Rattle.buffer.specs.Choice.{pick}
 use Rattle.buffer.specs.RangeLaws.{count-fails}
 use Rattle.buffer.specs.TestLaws.{not-both, and-false-first}
-use Rattle.store.specs.Units.{splitPointer}
-use Rattle.store.specs.Numbers.{Call, teach, correct, erase, read, readInPlace, list, unitOut, repair, grow, shrink, raise, firstOf}
+use Rattle.model.specs.Units.{splitPointer}
+use Rattle.model.specs.Numbers.{Call, teach, correct, erase, read, readInPlace, list, unitOut, repair, grow, shrink, raise, firstOf}
 use Rattle.history.specs.Ledger.{Ledger, home, placed, isOut, outsOf, beyondOf, lost, total, withRecords, withOut, withIn, grownLedger, shrunkLedger, raisedLedger, granted}
 use Rattle.history.specs.Table.{refusals, number}
 use Rattle.history.specs.Answers.{after, final}

@@ -7,7 +7,7 @@ use lib.Dec.{eqb}
 use borrow.Author.Tests.{eqb-true}
 use Rattle.buffer.specs.Choice.{pick}
 use Rattle.buffer.specs.ChoiceLaws.{pick-true, pick-false}
-use Rattle.store.specs.Numbers.{Call, teach, correct, erase, read, readInPlace, list, unitOut, repair, grow, shrink, raise}
+use Rattle.model.specs.Numbers.{Call, teach, correct, erase, read, readInPlace, list, unitOut, repair, grow, shrink, raise}
 use Rattle.history.specs.Ledger.{Ledger, granted}
 use Rattle.history.specs.Table.{refusals, number}
 use Rattle.history.specs.Answers.{after}

@@ -1,3 +1,6 @@
 pub mod Rows
 pub mod Granted
 pub mod Alone
+pub mod Shared
+pub mod Split
+pub mod Dealt
