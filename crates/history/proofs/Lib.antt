@@ -4,3 +4,5 @@ pub mod Alone
 pub mod Shared
 pub mod Split
 pub mod Dealt
+pub mod Touched
+pub mod Seek
