@@ -1,10 +1,14 @@
 pub mod Rows
 pub mod Granted
 pub mod Alone
+pub mod Shared
+pub mod Split
+pub mod Dealt
+pub mod Touched
+pub mod Seek
 pub mod GroupLaws
 pub mod Records
 pub mod Picture
-pub mod Units
 pub mod States
 pub mod Seen
 pub mod Writing

@@ -24,7 +24,7 @@ use Rattle.history.specs.Picture.{recordBytes, pictureSlot, image, pictu
 use Rattle.history.proofs.GroupLaws.{Laws}
 use Rattle.history.proofs.Records.{key-record, empty-bytes}
 use Rattle.history.proofs.Picture.{Valid, seen}
-use Rattle.history.proofs.Units.{unit-lt}
+use Rattle.history.proofs.Split.{unitOf-lt}
 use Rattle.history.proofs.States.{state-out, state-in, state-placed, placed-unit, unit-serving}
 
 -- a rank behind the records
@@ -81,7 +81,7 @@ module _ (laws : Laws) (l : Ledger) (rest : List ℕ) (h : Valid l) where
 
   pub home-lt : (k : ℕ) → home l k < l .units
   unfolding home
-  home-lt k = unit-lt (l .units) k (h .some)
+  home-lt k = unitOf-lt (l .units) k (h .some) (h .few)
 
   pub home-low : (k : ℕ) → home l k < 16
   home-low k = omega (arith, home-lt k, h .few)
