@@ -16,3 +16,7 @@ pub mod Listed
 pub mod Rebuilt
 pub mod PictureSound
 pub mod Simulation
+pub mod OneList
+pub mod Teach
+pub mod Correct
+pub mod Erase
