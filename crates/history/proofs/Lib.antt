@@ -20,3 +20,5 @@ pub mod OneList
 pub mod Teach
 pub mod Correct
 pub mod Erase
+pub mod UnitOut
+pub mod Repair
