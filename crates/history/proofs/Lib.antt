@@ -22,3 +22,7 @@ pub mod Correct
 pub mod Erase
 pub mod UnitOut
 pub mod Repair
+pub mod Read
+pub mod ReadInPlace
+pub mod List
+pub mod Raise
