@@ -6,3 +6,6 @@ pub mod Split
 pub mod Dealt
 pub mod Touched
 pub mod Seek
+pub mod Changed
+pub mod Stand
+pub mod Taught
