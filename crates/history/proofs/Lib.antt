@@ -9,3 +9,13 @@ pub mod Seek
 pub mod Changed
 pub mod Stand
 pub mod Taught
+pub mod GroupLaws
+pub mod Records
+pub mod Picture
+pub mod States
+pub mod Seen
+pub mod Writing
+pub mod Listed
+pub mod Rebuilt
+pub mod PictureSound
+pub mod Simulation
