@@ -6,14 +6,16 @@ use mathlib.Core.Bool.{Bool, true, false, _&&_, and-false}
 use lib.Dec.{eqb, ltb}
 use borrow.Author.Tests.{eq-eqb}
 use Rattle.buffer.specs.Choice.{pick}
+use Rattle.buffer.specs.ChoiceLaws.{by-pick}
 use Rattle.buffer.specs.RangeLaws.{count-fails}
 use Rattle.buffer.specs.TestLaws.{not-both, and-false-first}
 use Rattle.model.specs.Units.{splitPointer}
 use Rattle.model.specs.Numbers.{Call, teach, correct, erase, read, readInPlace, list, unitOut, repair, grow, shrink, raise, firstOf}
-use Rattle.history.specs.Ledger.{Ledger, home, placed, isOut, outsOf, beyondOf, lost, total, withRecords, withOut, withIn, grownLedger, shrunkLedger, raisedLedger, granted}
+use Rattle.history.specs.Ledger.{Ledger, opened, home, placed, isOut, state, outsOf, beyondOf, lost, total, withRecords, withOut, withIn, grownLedger, shrunkLedger, raisedLedger, granted}
 use Rattle.history.specs.Table.{refusals, number}
 use Rattle.history.specs.Answers.{after, final}
 use Rattle.history.specs.Runs.{lasting}
+use Rattle.history.specs.Claims.{AllTyped}
 use Rattle.history.proofs.Rows.{Free, free-first}
 use Rattle.history.proofs.Granted.{granted-free, granted-after, refused-after}
 
@@ -135,3 +137,25 @@ alone-again (c ∷ cs) l = go (eqb (number l c) 0) (lasting c) refl refl (alone-
     go true true e f ih = rw (number-bare l c f e, after-lasting l c f e) ih
     go true false e f ih = rw (sym (after-passing l c f e)) ih
     go false w e f ih = rw (sym (after-refused l c e)) ih
+
+-- ---- from a layout
+
+pub bare-opened : (b : ℕ) → bare (opened b) ≡ opened b
+unfolding bare opened
+bare-opened b = refl
+
+-- a unit in service is in service with no unit out
+pub bare-state : (l : Ledger) (w : ℕ) → state l w ≡ 1 → state (bare l) w ≡ 1
+unfolding bare state placed pick
+bare-state l w = go (placed l w) (l .out w)
+  where
+    go : (p o : Bool) → _≡_ {A = ℕ} (pick p (pick o 2 1) 0) 1 → _≡_ {A = ℕ} (pick p 1 0) 1
+    go true o e = refl
+    go false o e = e
+
+pub alone-typed : (cs : List Call) (l : Ledger) → AllTyped cs → AllTyped (alone l cs)
+unfolding alone
+alone-typed [] l t = tt
+alone-typed (c ∷ cs) l t =
+    let rest : AllTyped (alone (after l c) cs) = alone-typed cs (after l c) (t .1) in
+    by-pick AllTyped (eqb (number l c) 0 && lasting c) (c ∷ alone (after l c) cs) (alone (after l c) cs) (λ e. (t .0, rest)) (λ e. rest)

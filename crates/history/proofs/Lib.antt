@@ -6,6 +6,9 @@ pub mod Split
 pub mod Dealt
 pub mod Touched
 pub mod Seek
+pub mod Changed
+pub mod Stand
+pub mod Taught
 pub mod GroupLaws
 pub mod Records
 pub mod Picture

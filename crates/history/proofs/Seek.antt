@@ -6,12 +6,11 @@ use mathlib.Core.List.{List, [], _∷_, _++_}
 use mathlib.Core.Bool.{Bool, true, false}
 use native.Mathlib.Omega.{arith}
 use native.Mathlib.Nat.{not-suc-le-zero, zero-lt-suc}
-use lib.Dec.{eqb, ltb}
+use lib.Dec.{eqb, ltb, leb}
 use lib.ListN.{length, getD}
-use borrow.Author.Tests.{eq-eqb, ne-eqb, eqb-true, eqb-false, ltb-true, ltb-false}
+use borrow.Author.Tests.{eq-eqb, ne-eqb, eqb-true, eqb-false, ltb-true, ltb-false, leb-true, leb-false}
 use Rattle.buffer.specs.Choice.{pick}
 use Rattle.buffer.specs.ChoiceLaws.{by-test, by-pick, pick-true, pick-false, pick-same, pick-map}
-use Rattle.buffer.specs.Range.{first}
 use Rattle.buffer.specs.RangeLaws.{first-holds, first-misses}
 use Rattle.model.specs.Changes.{keep}
 use Rattle.history.specs.Ledger.{Rec, empty, rankOf}
@@ -107,12 +106,13 @@ module _ (xs : List Rec) (k : ℕ) where
       (λ e. let a : rankOf xs k < length xs = ltb-true (rankOf xs k) (length xs) e in hit (rankOf xs k) a (rank-key a))
       (λ e. miss (rank-without (ltb-false (rankOf xs k) (length xs) e)))
 
-  pub seek-rank : Different xs → seek xs k ≡ pick (ltb (rankOf xs k) (length xs)) (present (getD xs (rankOf xs k) empty .body)) absent
+  -- what the table's row "not present" asks
+  pub seek-rank : Different xs → seek xs k ≡ pick (leb (length xs) (rankOf xs k)) absent (present (getD xs (rankOf xs k) empty .body))
   seek-rank d =
       by-pick
       (λ t. seek xs k ≡ t)
-      (ltb (rankOf xs k) (length xs))
-      (present (getD xs (rankOf xs k) empty .body))
+      (leb (length xs) (rankOf xs k))
       absent
-      (λ e. let a : rankOf xs k < length xs = ltb-true (rankOf xs k) (length xs) e in seek-hit xs k (rankOf xs k) d a (rank-key a))
-      (λ e. seek-miss xs k (rank-without (ltb-false (rankOf xs k) (length xs) e)))
+      (present (getD xs (rankOf xs k) empty .body))
+      (λ e. seek-miss xs k (rank-without (leb-true (length xs) (rankOf xs k) e)))
+      (λ e. let a : rankOf xs k < length xs = leb-false (length xs) (rankOf xs k) e in seek-hit xs k (rankOf xs k) d a (rank-key a))
