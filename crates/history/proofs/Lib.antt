@@ -29,3 +29,5 @@ pub mod Read
 pub mod ReadInPlace
 pub mod List
 pub mod Raise
+pub mod Opened
+pub mod History
