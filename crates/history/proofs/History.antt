@@ -37,7 +37,7 @@ pub record Run (l : Ledger) (rest : List ℕ) (cs : List Call) : Type 0 where
   pub granted : allGranted (picture l rest) cs ≡ allGrantedBy l cs
   pub taught : (k : ℕ) (t : Taught) → lastTaught k (picture l rest) cs t ≡ lastTaughtBy k l cs t
 
-ordered-of : (l : Ledger) → Valid l → Ordered l
+pub ordered-of : (l : Ledger) → Valid l → Ordered l
 ordered-of l h = record { some = h .some; few = h .few; own = h .own; differ = h .differ }
 
 module _ (laws : Laws) (grow-simulated : (l : Ledger) (rest : List ℕ) → Valid l → Simulated l rest grow) (shrink-simulated : (l : Ledger) (rest : List ℕ) → Valid l → Simulated l rest shrink) where

@@ -31,3 +31,5 @@ pub mod List
 pub mod Raise
 pub mod Opened
 pub mod History
+pub mod Unlost
+pub mod Demand3

@@ -32,7 +32,7 @@ unfolding refusals
 found l k out e = leb-false (length (l .records (home l k))) (rankOf (l .records (home l k)) k) (granted-free l (read k out) e .1 .1 .1 .1 .0)
 
 module _ (laws : Laws) (l : Ledger) (rest : List ℕ) (h : Valid l) where
-  lost-row : (k : ℕ) → (eqb (view (picture l rest) .dstate (homeIn (view (picture l rest)) k)) 2 && beyondIn (view (picture l rest)) (homeIn (view (picture l rest)) k / 4))
+  pub lost-row : (k : ℕ) → (eqb (view (picture l rest) .dstate (homeIn (view (picture l rest)) k)) 2 && beyondIn (view (picture l rest)) (homeIn (view (picture l rest)) k / 4))
       ≡ (isOut l (home l k) && beyondOf l (home l k / 4))
   lost-row k =
       rw (home-seen laws l rest h k)
