@@ -1,17 +1,16 @@
 -- Different columns are different points: `distinct-points`.
 use mathlib.Core.Path.{_≡_, refl, ap, _∙_, sym}
-use mathlib.Core.Bool.{Bool, true}
+use mathlib.Core.Bool.{true}
 use mathlib.Core.List.{List, [], _∷_, map}
-use Prim.Native.Nat.{ℕ, _%_, _≤_, _<_}
+use Prim.Native.Nat.{ℕ, _≤_, _<_}
 use native.Mathlib.Omega.{arith}
 use lib.Dec.{T, eqb, eqb→eq}
-use borrow.Author.Tests.{lt-ltb}
 use Rattle.algebra.specs.Every.{every, every-at}
 use Rattle.algebra.specs.Polynomial.{Point, fin, inf, All, Distinct}
 use Rattle.field.specs.Gf16Laws.{Symbol}
 use Rattle.code.specs.Matrix.{within, absent, different}
 use Rattle.code.specs.Lists.{within-head, within-tail, absent-head, absent-tail, different-head, different-tail}
-use Rattle.code.specs.Point.{point, point-if, low, places}
+use Rattle.code.specs.Point.{point, places}
 
 -- the column of a point
 number : Point Symbol → ℕ
@@ -45,11 +44,3 @@ distinct-points (x ∷ xs) w d = (
 pub distinct-places : Distinct places
 unfolding point
 distinct-places = distinct-points (0 ∷ 1 ∷ 2 ∷ 3 ∷ []) refl refl
-
-pub point-low : (a : ℕ) → a < 16 → point a ≡ fin (a % 16, low a)
-unfolding point
-point-low a h = ap (λ (t : Bool). point-if t a) (lt-ltb a 16 h)
-
-pub point-top : point 16 ≡ inf
-unfolding point
-point-top = refl
