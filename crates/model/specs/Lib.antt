@@ -6,3 +6,4 @@ pub mod Sound
 pub mod Numbers
 pub mod Changes
 pub mod Perform
+pub mod Demand1
