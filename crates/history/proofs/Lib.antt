@@ -19,3 +19,7 @@ pub mod Listed
 pub mod Rebuilt
 pub mod PictureSound
 pub mod Simulation
+pub mod RecordsSeen
+pub mod Grown
+pub mod Grow
+pub mod Shrunk
