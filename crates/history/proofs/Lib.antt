@@ -23,3 +23,4 @@ pub mod RecordsSeen
 pub mod Grown
 pub mod Grow
 pub mod Shrunk
+pub mod Shrink
