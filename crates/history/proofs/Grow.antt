@@ -8,7 +8,7 @@ use native.Mathlib.Omega.{arith}
 use native.Mathlib.Nat.{le-refl}
 use lib.Dec.{eqb, ltb}
 use lib.ListN.{getD, set, List·getD-map}
-use borrow.Author.Tests.{eqb-true, eqb-false, lt-ltb}
+use borrow.Author.Tests.{leb-false, eqb-true, eqb-false, lt-ltb}
 use Rattle.buffer.specs.Choice.{pick}
 use Rattle.buffer.specs.ChoiceLaws.{by-pick}
 use Rattle.buffer.specs.TestLaws.{not-both, ltb-suc}
@@ -19,18 +19,24 @@ use Rattle.group.specs.CheckRecord.{checkRecord}
 use Rattle.model.specs.Units.{splitPointer, unitOf, moves, touched}
 use Rattle.model.specs.Layout.{Store, bytes, view, keyOf, frontOf}
 use Rattle.model.specs.LayoutLaws.{Same, bytes-ext}
+use Rattle.model.specs.Numbers.{grow, refusalsIn}
+use Rattle.model.specs.Perform.{reply, givenIn, grantedIn}
 use Rattle.model.specs.Changes.{keep, recordsIn, dealt, grownState, grown}
-use Rattle.history.specs.Ledger.{Rec, empty, Ledger, recordAt, placed, isOut, state, outsOf, grownLedger}
+use Rattle.history.specs.Ledger.{Rec, empty, Ledger, recordAt, placed, isOut, state, outsOf, grownLedger, granted}
 use Rattle.history.specs.Picture.{recordBytes, pictureSlot, checkOver, pictureCheck, image, picture}
+use Rattle.history.specs.Table.{refusals}
+use Rattle.history.specs.Answers.{given}
 use Rattle.history.proofs.GroupLaws.{Laws}
 use Rattle.history.proofs.Records.{key-record, empty-bytes, over-ext, anew-over}
 use Rattle.history.proofs.Picture.{Valid, seen}
-use Rattle.history.proofs.Seen.{slot-kept, level-seen, serving}
+use Rattle.history.proofs.Seen.{slot-kept, units-seen, level-seen, outs-seen, serving}
 use Rattle.history.proofs.RecordsSeen.{records-seen}
 use Rattle.history.proofs.Shared.{wording}
 use Rattle.history.proofs.Split.{split-lt, not-moves}
 use Rattle.history.proofs.Dealt.{keep-ext, keep-map}
 use Rattle.history.proofs.Touched.{by-either, data-state, check-state, is-touched, not-touched, quiet-data, quiet-check}
+use Rattle.history.proofs.OneList.{sound-row}
+use Rattle.history.proofs.Simulation.{Simulated}
 use Rattle.history.proofs.Grown.{dealtTo, by-dealt, fewer, more-checks, valid-grown}
 
 -- a check unit that is not out is in service where it is in place
@@ -208,3 +214,18 @@ module _ (laws : Laws) (l : Ledger) (rest : List ℕ) (h : Valid l) (top : l .un
     check = λ c r a b. rw (cstate-grown c a) (check-grown c r a b);
     rest = s .rest;
   })
+
+-- ---- the call
+
+pub grow-simulated : (laws : Laws) (l : Ledger) (rest : List ℕ) → Valid l → Simulated l rest grow
+unfolding reply refusalsIn refusals granted grantedIn given givenIn
+grow-simulated laws l rest h = record {
+  tests = rw (units-seen laws l rest h) (refl, sound-row laws l rest h, λ _. (refl, refl, λ e.
+      let top : l .units < 16 = leb-false 16 (l .units) e in
+      (refl, rw (outs-seen laws l rest h (l .units / 4) (omega arith)), λ _.
+      (refl, rw (outs-seen laws l rest h (splitPointer (l .units) / 4) (omega (arith, split-lt (l .units) (h .some) (h .few)))), λ _. tt))));
+  hands = λ f. refl;
+  counts = λ f n y. refl;
+  bytes = λ f. rw (units-seen laws l rest h) (grow-picture laws l rest h (omega (arith, leb-false 16 (l .units) (f .1 .0))) (f .1 .1 .0) (f .1 .1 .1 .0));
+  valid = λ f. valid-grown laws l h (omega (arith, leb-false 16 (l .units) (f .1 .0)));
+}

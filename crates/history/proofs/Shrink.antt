@@ -1,14 +1,14 @@
 -- Shrink on a picture: the store that it leaves is the picture of the shrunk ledger. Assumes the laws of the group layer, as a parameter.
-use Prim.Native.Nat.{ℕ, suc, _+_, _*_, _/_, _%_, _≤_, _<_}
+use Prim.Native.Nat.{ℕ, suc, pred, _+_, _*_, _/_, _%_, _≤_, _<_}
 use mathlib.Core.Path.{_≡_, refl, sym, ap, _∙_, subst}
 use mathlib.Core.Logic.{inl, inr}
 use mathlib.Core.List.{List, _++_, map-append}
 use mathlib.Core.Bool.{Bool, true, false, _&&_, not, and-false}
 use native.Mathlib.Omega.{arith}
 use native.Mathlib.Nat.{le-refl}
-use lib.Dec.{eqb, ltb}
+use lib.Dec.{eqb, ltb, leb}
 use lib.ListN.{length, getD, set, List·getD-map}
-use borrow.Author.Tests.{eqb-true, eqb-false, ltb-true, ltb-false, le-ltb}
+use borrow.Author.Tests.{leb-false, eqb-true, eqb-false, ltb-true, ltb-false, le-ltb}
 use Rattle.buffer.specs.Choice.{pick}
 use Rattle.buffer.specs.ChoiceLaws.{by-test, by-pick}
 use Rattle.buffer.specs.TestLaws.{not-both, ltb-suc}
@@ -19,18 +19,24 @@ use Rattle.group.specs.CheckRecord.{checkRecord}
 use Rattle.model.specs.Units.{splitPointer, touched, emptied}
 use Rattle.model.specs.Layout.{Store, bytes, view, frontOf}
 use Rattle.model.specs.LayoutLaws.{Same, bytes-ext}
+use Rattle.model.specs.Reads.{fillIn, outsIn}
+use Rattle.model.specs.Numbers.{shrink, refusalsIn}
+use Rattle.model.specs.Perform.{reply, givenIn, grantedIn}
 use Rattle.model.specs.Changes.{recordsIn, merged, shrunkState, shrunk}
-use Rattle.history.specs.Ledger.{Rec, empty, Ledger, recordAt, placed, isOut, state, outsOf, shrunkLedger}
+use Rattle.history.specs.Ledger.{Rec, empty, Ledger, recordAt, placed, isOut, state, outsOf, shrunkLedger, granted}
 use Rattle.history.specs.Picture.{recordBytes, pictureSlot, checkOver, pictureCheck, image, picture}
+use Rattle.history.specs.Table.{refusals}
+use Rattle.history.specs.Answers.{given}
 use Rattle.history.proofs.GroupLaws.{Laws}
 use Rattle.history.proofs.Records.{empty-bytes, over-ext, anew-over}
 use Rattle.history.proofs.Picture.{Valid, seen}
-use Rattle.history.proofs.Seen.{slot-kept, serving}
+use Rattle.history.proofs.Seen.{slot-kept, size-seen, units-seen, outs-seen, serving, fill-seen}
 use Rattle.history.proofs.RecordsSeen.{records-seen}
 use Rattle.history.proofs.Shared.{wording}
-use Rattle.history.proofs.Split.{split-lt}
 use Rattle.history.proofs.Touched.{data-state, check-state, is-touched, not-touched, quiet-data}
-use Rattle.history.proofs.Shrunk.{bothLists, by-merged, checks-gone, checks-kept, valid-shrunk}
+use Rattle.history.proofs.OneList.{sound-row}
+use Rattle.history.proofs.Simulation.{Simulated}
+use Rattle.history.proofs.Shrunk.{bothLists, by-merged, before, checks-gone, checks-kept, valid-shrunk}
 
 -- the emptied group is the one whose first unit is removed
 by-emptied : (P : Bool → Type 0) (m g : ℕ) → 1 ≤ m → m ≤ 16 → g < 4 → (4 * g ≡ m → P true) → ((4 * g ≡ m → ⊥) → P false) → P (emptied m g)
@@ -57,8 +63,8 @@ module _ (laws : Laws) (l : Ledger) (rest : List ℕ) (h : Valid l) (m : ℕ) (i
   top : m ≤ 15
   top = omega (arith, h .few)
 
-  before : n < m
-  before = split-lt m pos (omega (arith, top))
+  low : n < m
+  low = before laws l h m is pos
 
   valid : Valid (shrunkLedger l m)
   valid = valid-shrunk laws l h m is pos new old fit
@@ -68,7 +74,7 @@ module _ (laws : Laws) (l : Ledger) (rest : List ℕ) (h : Valid l) (m : ℕ) (i
   merged-list : (r : ℕ) → getD (recordsIn v n ++ recordsIn v m) r (zeros slotBytes) ≡ recordBytes (getD (bothLists l m) r empty)
   merged-list r =
       rw (
-        records-seen laws l rest h n (omega (arith, before, top)) (serving laws l rest h n (omega (arith, before)) old),
+        records-seen laws l rest h n (omega (arith, low, top)) (serving laws l rest h n (omega (arith, low)) old),
         records-seen laws l rest h m (omega (arith, top)) (serving laws l rest h m (omega arith) new),
         ← (map-append recordBytes (l .records n) (l .records m)),
         ← empty-bytes,
@@ -78,7 +84,7 @@ module _ (laws : Laws) (l : Ledger) (rest : List ℕ) (h : Valid l) (m : ℕ) (i
   record-merged : (u r : ℕ) → u ≡ n → recordAt (shrunkLedger l m) u r ≡ getD (bothLists l m) r empty
   unfolding recordAt
   record-merged u r e =
-      by-merged l m (λ (xs : List Rec). getD xs r empty ≡ getD (bothLists l m) r empty) u (λ f. absurd (omega (arith, before))) (λ _ _. refl) (λ _ d. absurd (d e))
+      by-merged l m (λ (xs : List Rec). getD xs r empty ≡ getD (bothLists l m) r empty) u (λ f. absurd (omega (arith, low))) (λ _ _. refl) (λ _ d. absurd (d e))
 
   record-kept : (u r : ℕ) → (u ≡ m → ⊥) → (u ≡ n → ⊥) → recordAt (shrunkLedger l m) u r ≡ recordAt l u r
   unfolding recordAt
@@ -183,3 +189,54 @@ module _ (laws : Laws) (l : Ledger) (rest : List ℕ) (h : Valid l) (m : ℕ) (i
     check = λ c r a b. rw (cstate-shrunk c a) (check-shrunk c r a b);
     rest = s .rest;
   })
+
+-- ---- the call
+
+-- the last unit, where there is more than one
+last-unit : (u : ℕ) → 1 < u → u ≡ suc (pred u)
+last-unit u a = omega arith
+
+module _ (laws : Laws) (l : Ledger) (rest : List ℕ) (h : Valid l) (m : ℕ) (is : l .units ≡ suc m) (pos : 1 ≤ m) where
+  -- the row "shrink that won't fit in b"
+  fit-row : ltb 0 (outsOf l (m / 4)) ≡ false → ltb 0 (outsOf l (splitPointer m / 4)) ≡ false
+      → ltb (view (picture l rest) .size) (fillIn (view (picture l rest)) (splitPointer m) + fillIn (view (picture l rest)) m)
+      ≡ ltb (l .size) (length (l .records (splitPointer m)) + length (l .records m))
+  fit-row new old =
+      let low : splitPointer m < m = before laws l h m is pos in
+      rw (
+        fill-seen laws l rest h (splitPointer m) (omega (arith, h .few)) (serving laws l rest h (splitPointer m) (omega arith) old),
+        fill-seen laws l rest h m (omega (arith, h .few)) (serving laws l rest h m (omega arith) new),
+        size-seen laws l rest h,
+      )
+
+  out-rows : (ltb 0 (outsIn (view (picture l rest)) (m / 4)) ≡ ltb 0 (outsOf l (m / 4)))
+      × (ltb 0 (outsIn (view (picture l rest)) (splitPointer m / 4)) ≡ ltb 0 (outsOf l (splitPointer m / 4)))
+  out-rows =
+      let low : splitPointer m < m = before laws l h m is pos in
+      (rw (outs-seen laws l rest h (m / 4) (omega (arith, h .few))), rw (outs-seen laws l rest h (splitPointer m / 4) (omega (arith, h .few))))
+
+pub shrink-simulated : (laws : Laws) (l : Ledger) (rest : List ℕ) → Valid l → Simulated l rest shrink
+unfolding reply refusalsIn refusals granted grantedIn given givenIn
+shrink-simulated laws l rest h = record {
+  tests = rw (units-seen laws l rest h) (refl, sound-row laws l rest h, λ _. (refl, refl, λ e.
+      (refl, out-rows laws l rest h m (is e) (pos e) .0, λ new.
+      (refl, out-rows laws l rest h m (is e) (pos e) .1, λ old.
+      (refl, fit-row laws l rest h m (is e) (pos e) new old, λ _. tt)))));
+  hands = λ f. refl;
+  counts = λ f n y. refl;
+  bytes = λ f. rw (units-seen laws l rest h) (shrink-picture laws l rest h m (is (f .1 .0)) (pos (f .1 .0)) (f .1 .1 .0) (f .1 .1 .1 .0) (fits (f .1 .1 .1 .1 .0)));
+  valid = λ f. valid-shrunk laws l h m (is (f .1 .0)) (pos (f .1 .0)) (f .1 .1 .0) (f .1 .1 .1 .0) (fits (f .1 .1 .1 .1 .0));
+}
+  where
+    m : ℕ
+    m = pred (l .units)
+
+    is : leb (l .units) 1 ≡ false → l .units ≡ suc (pred (l .units))
+    is e = last-unit (l .units) (leb-false (l .units) 1 e)
+
+    pos : leb (l .units) 1 ≡ false → 1 ≤ pred (l .units)
+    pos e = omega (arith, leb-false (l .units) 1 e)
+
+    fits : ltb (l .size) (length (l .records (splitPointer (pred (l .units)))) + length (l .records (pred (l .units)))) ≡ false
+        → length (l .records (splitPointer (pred (l .units)))) + length (l .records (pred (l .units))) ≤ l .size
+    fits e = ltb-false (l .size) (length (l .records (splitPointer (pred (l .units)))) + length (l .records (pred (l .units)))) e
