@@ -52,7 +52,7 @@ module _ (laws : Laws) (b : ℕ) where
 
   check-zero : (c r : ℕ) → pictureCheck (opened b) c r ≡ zeros checkBytes
   unfolding pictureCheck recordAt opened
-  check-zero c r = rw (over-empty laws (c % 3)) (pick-same (eqb (state (opened b) (16 + c)) 1) (zeros checkBytes))
+  check-zero c r = rw (over-empty laws (c % 3) (omega arith)) (pick-same (eqb (state (opened b) (16 + c)) 1) (zeros checkBytes))
 
   region-zero : (n w : ℕ) (f : ℕ → ℕ → List ℕ) → ((u r : ℕ) → f u r ≡ zeros w) → tab n (λ u. tab b (f u)) ≡ zeros (w * b * n)
   region-zero n w f h =

@@ -54,7 +54,7 @@ module _ (laws : Laws) where
   length-check l c r h =
       let f : ℕ → Rec = λ p. recordAt l (4 * (c / 3) + p) r in
       by-pick (λ (x : List ℕ). length x ≡ checkBytes) (eqb (state l (16 + c)) 1) (checkOver (c % 3) f) (zeros checkBytes)
-      (λ e. length-over laws (c % 3) f (λ p. h (4 * (c / 3) + p))) (λ e. length-zeros checkBytes)
+      (λ e. length-over laws (c % 3) (omega arith) f (λ p. h (4 * (c / 3) + p))) (λ e. length-zeros checkBytes)
 
   pub image-shaped : (l : Ledger) (rest : List ℕ) → Goods l → Shaped (image l rest)
   unfolding image frontOf bytes32

@@ -12,22 +12,22 @@ use Rattle.buffer.specs.Choice.{pick}
 use Rattle.buffer.specs.ChoiceLaws.{by-test, by-pick, pick-true, pick-false}
 use Rattle.buffer.specs.TestLaws.{not-both}
 use Rattle.buffer.specs.Range.{count}
-use Rattle.buffer.specs.RangeLaws.{count-ext, count-append, count-pos}
+use Rattle.buffer.specs.RangeLaws.{count-ext, count-pos}
 use Rattle.buffer.specs.Bytes.{bytes32, zeros}
 use Rattle.group.specs.Widths.{keyBytes, slotBytes, keysBytes}
-use Rattle.group.specs.Members.{serves}
+use Rattle.group.specs.MembersLaws.{serves-data, serves-check, enough}
 use Rattle.group.specs.Parity.{parity}
 use Rattle.group.specs.Rebuilding.{rebuilt}
 use Rattle.model.specs.Layout.{Store, view, keyOf}
 use Rattle.model.specs.LayoutLaws.{Same}
-use Rattle.model.specs.Reads.{servesIn, holds, listedKey, wholeSlot}
+use Rattle.model.specs.Reads.{beyondIn, servesIn, holds, listedKey, wholeSlot}
 use Rattle.history.specs.Ledger.{Ledger, empty, recordAt, placed, isOut, state, outsOf, beyondOf}
 use Rattle.history.specs.Picture.{recordBytes, image, picture}
 use Rattle.history.proofs.GroupLaws.{Laws}
 use Rattle.history.proofs.Records.{key-bytes, drop-record, parity-over, empty-bytes}
 use Rattle.history.proofs.Picture.{Valid, seen}
-use Rattle.history.proofs.States.{serving-count, kept-count}
-use Rattle.history.proofs.Seen.{past, slot-kept, cstate-is, dstate-out}
+use Rattle.history.proofs.States.{state-le, serving-count}
+use Rattle.history.proofs.Seen.{past, slot-kept, cstate-is, dstate-out, beyond-seen}
 use Rattle.history.proofs.Listed.{Kept, check-kept, key-kept}
 
 -- the records of a unit can be read: it is not out, or its group is not beyond recovery
@@ -53,27 +53,22 @@ module _ (laws : Laws) (l : Ledger) (rest : List ℕ) (h : Valid l) where
   -- ---- the members of a group that is not beyond recovery
 
   module _ (g : ℕ) (hg : g < 4) (nb : beyondOf l g ≡ false) where
-    serves-data : (p : ℕ) → p < 4 → servesIn v g p ≡ not (isOut l (4 * g + p))
-    unfolding servesIn serves
-    serves-data p a = pick-true (lt-ltb p 4 a) _ _ ∙ ap not (dstate-out laws l rest h (4 * g + p) (omega arith))
+    serving-data : (p : ℕ) → p < 4 → servesIn v g p ≡ not (isOut l (4 * g + p))
+    unfolding servesIn
+    serving-data p a =
+        serves-data (λ p. v .dstate (4 * g + p)) (λ j. v .cstate (3 * g + j)) p a ∙ ap not (dstate-out laws l rest h (4 * g + p) (omega arith))
 
-    serves-check : (j : ℕ) → j < 3 → servesIn v g (4 + j) ≡ eqb (state l (16 + (3 * g + j))) 1
-    unfolding servesIn serves
-    serves-check j a =
-        let e : 3 * g + (4 + j - 4) ≡ 3 * g + j = omega arith in
-        pick-false (le-ltb (4 + j) 4 (omega arith)) _ _ ∙ rw e (ap (λ (n : ℕ). eqb n 1) (cstate-is laws l rest h (3 * g + j) (omega arith)))
+    serving-check : (j : ℕ) → j < 3 → servesIn v g (4 + j) ≡ eqb (state l (16 + (3 * g + j))) 1
+    unfolding servesIn
+    serving-check j a =
+        serves-check (λ p. v .dstate (4 * g + p)) (λ j. v .cstate (3 * g + j)) j ∙ ap (λ (n : ℕ). eqb n 1) (cstate-is laws l rest h (3 * g + j) (omega arith))
 
-    enough : 4 ≤ count 7 (servesIn v g)
-    unfolding beyondOf outsOf
-    enough = omega (
-      arith,
-      count-append 4 3 (servesIn v g),
-      count-ext 4 (servesIn v g) (λ p. not (isOut l (4 * g + p))) serves-data,
-      count-ext 3 (λ j. servesIn v g (4 + j)) (λ j. eqb (state l (16 + (3 * g + j))) 1) serves-check,
-      kept-count l 4 (λ p. 4 * g + p),
-      serving-count l 3 (λ j. 16 + (3 * g + j)),
-      ltb-false (count 3 (λ j. placed l (16 + (3 * g + j)))) (outsOf l g) nb,
-    )
+    four-serve : 4 ≤ count 7 (servesIn v g)
+    unfolding servesIn beyondIn
+    four-serve =
+        enough (λ p. v .dstate (4 * g + p)) (λ j. v .cstate (3 * g + j))
+        (λ j a. rw (cstate-is laws l rest h (3 * g + j) (omega arith)) (state-le l (16 + (3 * g + j))))
+        (beyond-seen laws l rest h g hg ∙ nb)
 
     one-serves : (u : ℕ) → u / 4 ≡ g → isOut l u ≡ true → Kept laws l rest h g
     unfolding beyondOf outsOf
@@ -95,7 +90,7 @@ module _ (laws : Laws) (l : Ledger) (rest : List ℕ) (h : Valid l) where
       unfolding holds bodies image
       holds-data p a e =
           pick-true (lt-ltb p 4 a) _ _
-          ∙ ap (drop keyBytes) (s .slot (4 * g + p) r (omega arith) hr ∙ slot-kept l h (4 * g + p) r (omega arith) (not-true (isOut l (4 * g + p)) (sym (serves-data p a) ∙ e)))
+          ∙ ap (drop keyBytes) (s .slot (4 * g + p) r (omega arith) hr ∙ slot-kept l h (4 * g + p) r (omega arith) (not-true (isOut l (4 * g + p)) (sym (serving-data p a) ∙ e)))
           ∙ drop-record (recordAt l (4 * g + p) r)
 
       holds-check : (j : ℕ) → j < 3 → servesIn v g (4 + j) ≡ true → holds v g r (4 + j) ≡ parity j bodies
@@ -104,12 +99,12 @@ module _ (laws : Laws) (l : Ledger) (rest : List ℕ) (h : Valid l) where
           let d : 3 * g + (4 + j - 4) ≡ 3 * g + j = omega arith in
           pick-false (le-ltb (4 + j) 4 (omega arith)) _ _
           ∙ ap (λ (n : ℕ). drop keysBytes (v .check n r)) d
-          ∙ ap (drop keysBytes) (check-kept laws l rest h g hg r hr j a (sym (serves-check j a) ∙ e))
+          ∙ ap (drop keysBytes) (check-kept laws l rest h g hg r hr j a (sym (serving-check j a) ∙ e))
           ∙ parity-over j (λ p. recordAt l (4 * g + p) r)
 
       body-rebuilt : (p : ℕ) → p < 4 → rebuilt (servesIn v g) (holds v g r) p ≡ recordAt l (4 * g + p) r .body
       unfolding bodies
-      body-rebuilt p a = laws .rebuilds (servesIn v g) (holds v g r) bodies (λ q. h .good (4 * g + q) r .body) holds-data holds-check enough p a
+      body-rebuilt p a = laws .rebuilds (servesIn v g) (holds v g r) bodies (λ q. h .good (4 * g + q) r .body) holds-data holds-check four-serve p a
 
   -- ---- a unit that can be read
 

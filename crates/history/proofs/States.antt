@@ -1,13 +1,13 @@
 -- The state of a unit in a ledger, and what it says: in place, in service, out. Assumes nothing.
-use Prim.Native.Nat.{ℕ, zero, suc, _+_, _*_, _-_, _/_, _%_, _<_}
+use Prim.Native.Nat.{ℕ, zero, suc, _+_, _*_, _-_, _/_, _%_, _≤_, _<_}
 use mathlib.Core.Path.{_≡_, refl, ap, _∙_}
-use mathlib.Core.Bool.{Bool, true, false, not, _&&_}
+use mathlib.Core.Bool.{Bool, true, false, _&&_}
 use native.Mathlib.Omega.{arith}
 use lib.Dec.{eqb, ltb}
 use borrow.Author.Tests.{ltb-false, lt-ltb, le-ltb}
 use Rattle.buffer.specs.Choice.{pick}
 use Rattle.buffer.specs.Range.{count}
-use Rattle.buffer.specs.RangeLaws.{count-zero, count-holds}
+use Rattle.buffer.specs.RangeLaws.{count-zero}
 use Rattle.buffer.specs.TestLaws.{not-both}
 use Rattle.history.specs.Ledger.{Ledger, placed, isOut, state, outsOf}
 
@@ -36,6 +36,15 @@ module _ (l : Ledger) where
       go true false = refl
       go false o = refl
 
+  pub state-le : (w : ℕ) → state l w ≤ 2
+  unfolding state pick
+  state-le w = go (placed l w) (l .out w)
+    where
+      go : (p o : Bool) → pick p (pick o 2 1) 0 ≤ 2
+      go true true = omega arith
+      go true false = omega arith
+      go false o = omega arith
+
   pub state-in : (w : ℕ) → placed l w ≡ true → isOut l w ≡ false → state l w ≡ 1
   unfolding state isOut pick
   state-in w e f = go (placed l w) (l .out w) e f
@@ -62,7 +71,7 @@ module _ (l : Ledger) where
   unfolding state
   state-check g j a = rw (placed-check g j a)
 
-  -- of n units, those in service and those out are those in place, and those not out and those out are all
+  -- of n units, those in service and those out are those in place
   pub serving-count : (n : ℕ) (w : ℕ → ℕ) → count n (λ j. eqb (state l (w j)) 1) + count n (λ j. isOut l (w j)) ≡ count n (λ j. placed l (w j))
   unfolding state isOut pick
   serving-count n w = count-both n (λ j. eqb (state l (w j)) 1) (λ j. isOut l (w j)) (λ j. placed l (w j)) (λ j. go (placed l (w j)) (l .out (w j)))
@@ -71,16 +80,6 @@ module _ (l : Ledger) where
       go true true = refl
       go true false = refl
       go false o = refl
-
-  pub kept-count : (n : ℕ) (w : ℕ → ℕ) → count n (λ j. not (isOut l (w j))) + count n (λ j. isOut l (w j)) ≡ n
-  unfolding pick
-  kept-count n w =
-      count-both n (λ j. not (isOut l (w j))) (λ j. isOut l (w j)) (λ j. true) (λ j. go (isOut l (w j)))
-      ∙ count-holds n (λ j. true) (λ k a. refl)
-    where
-      go : (o : Bool) → _≡_ {A = ℕ} (pick (not o) 1 0 + pick o 1 0) 1
-      go true = refl
-      go false = refl
 
   -- a group with no unit out
   none-out : (g : ℕ) → ltb 0 (outsOf l g) ≡ false → count 4 (λ p. isOut l (4 * g + p)) ≡ 0

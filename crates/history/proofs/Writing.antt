@@ -71,7 +71,7 @@ module _ (l : Ledger) (u r : ℕ) (x : Rec) (rs : List Rec)
     follows c q e1 e2 =
         let p : ℕ = u % 4 in
         let k : recordAt l u r ≡ group l c q p = ap (λ (n : ℕ). recordAt l n r) (omega arith) ∙ ap (λ (n : ℕ). recordAt l (4 * (c / 3) + p) n) (sym e2) in
-        rw k (patched-over laws (c % 3) p (group l c q) x (omega arith) (λ i. h (4 * (c / 3) + i) q) g
+        rw k (patched-over laws (c % 3) p (group l c q) x (omega arith) (omega arith) (λ i. h (4 * (c / 3) + i) q) g
         ∙ over-ext (c % 3) (upd (group l c q) p x) (group m c q) (λ i a. place i a))
       where
         place : (i : ℕ) → i < 4 → upd (group l c q) (u % 4) x i ≡ group m c q i
