@@ -37,7 +37,7 @@ use Rattle.history.proofs.Dealt.{keep-ext, keep-map}
 use Rattle.history.proofs.Touched.{by-either, data-state, check-state, is-touched, not-touched, quiet-data, quiet-check}
 use Rattle.history.proofs.OneList.{sound-row}
 use Rattle.history.proofs.Simulation.{Simulated}
-use Rattle.history.proofs.Grown.{dealtTo, by-dealt, fewer, more-checks, valid-grown}
+use Rattle.history.proofs.Grown.{goesTo, dealtTo, by-dealt, fewer, more-checks, valid-grown}
 
 -- a check unit that is not out is in service where it is in place
 serves : (k : Ledger) (c : ℕ) → k .out (16 + c) ≡ false → eqb (state k (16 + c)) 1 ≡ ltb (c % 3) (k .checks (c / 3))
@@ -94,7 +94,7 @@ module _ (laws : Laws) (l : Ledger) (rest : List ℕ) (h : Valid l) (top : l .un
   to-split r =
       dealt-list (λ k. not (moves m k)) r
       ∙ ap (λ (xs : List Rec). recordBytes (getD xs r empty))
-      (keep-ext (λ (x : Rec). not (moves m (x .key))) (λ (x : Rec). eqb (unitOf (suc m) (x .key)) n) empty rs (λ q a. not-moves m (getD rs q empty .key) (h .some) top (h .own n q a)))
+      (keep-ext (λ (x : Rec). not (moves m (x .key))) (goesTo l n) empty rs (λ q a. not-moves m (getD rs q empty .key) (h .some) top (h .own n q a)))
 
   record-dealt : (u r : ℕ) → (u ≡ m) ⊎ (u ≡ n) → recordAt (grownLedger l) u r ≡ getD (dealtTo l u) r empty
   unfolding recordAt
@@ -220,10 +220,21 @@ module _ (laws : Laws) (l : Ledger) (rest : List ℕ) (h : Valid l) (top : l .un
 pub grow-simulated : (laws : Laws) (l : Ledger) (rest : List ℕ) → Valid l → Simulated l rest grow
 unfolding reply refusalsIn refusals granted grantedIn given givenIn
 grow-simulated laws l rest h = record {
-  tests = rw (units-seen laws l rest h) (refl, sound-row laws l rest h, λ _. (refl, refl, λ e.
-      let top : l .units < 16 = leb-false 16 (l .units) e in
-      (refl, rw (outs-seen laws l rest h (l .units / 4) (omega arith)), λ _.
-      (refl, rw (outs-seen laws l rest h (splitPointer (l .units) / 4) (omega (arith, split-lt (l .units) (h .some) (h .few)))), λ _. tt))));
+  tests = rw (units-seen laws l rest h) (
+    refl,
+    sound-row laws l rest h,
+    λ _. (
+      refl,
+      refl,
+      λ e.
+          let top : l .units < 16 = leb-false 16 (l .units) e in (
+            refl,
+            rw (outs-seen laws l rest h (l .units / 4) (omega arith)),
+            λ _.
+                (refl, rw (outs-seen laws l rest h (splitPointer (l .units) / 4) (omega (arith, split-lt (l .units) (h .some) (h .few)))), λ _. tt),
+          ),
+    ),
+  );
   hands = λ f. refl;
   counts = λ f n y. refl;
   bytes = λ f. rw (units-seen laws l rest h) (grow-picture laws l rest h (omega (arith, leb-false 16 (l .units) (f .1 .0))) (f .1 .1 .0) (f .1 .1 .1 .0));

@@ -21,9 +21,12 @@ use Rattle.history.proofs.Split.{split-lt, other-key}
 use Rattle.history.proofs.Dealt.{keep-all, keep-length, keep-differ}
 use Rattle.history.proofs.Touched.{by-either}
 
--- the records of the split unit that are dealt to unit u
+-- by the new number of units a record goes to unit u; the records of the split unit that do
+abbrev pub goesTo : Ledger → ℕ → Rec → Bool
+goesTo l u x = eqb (unitOf (suc (l .units)) (x .key)) u
+
 abbrev pub dealtTo : Ledger → ℕ → List Rec
-dealtTo l u = keep (λ (x : Rec). eqb (unitOf (suc (l .units)) (x .key)) u) (l .records (splitPointer (l .units)))
+dealtTo l u = keep (goesTo l u) (l .records (splitPointer (l .units)))
 
 -- a unit's records are dealt to it, where it is the new unit or the split one, or are as they were
 pub by-dealt {ℓ} : (l : Ledger) (P : List Rec → Type ℓ) (u : ℕ) → ((u ≡ l .units) ⊎ (u ≡ splitPointer (l .units)) → P (dealtTo l u))
@@ -52,28 +55,28 @@ module _ (laws : Laws) (l : Ledger) (h : Valid l) (top : l .units ≤ 15) where
       by-test
       (λ (t : Bool). P (getD (dealtTo l u) r empty))
       (ltb r (length (dealtTo l u)))
-      (λ e. keep-all P (λ (x : Rec). eqb (unitOf (suc (l .units)) (x .key)) u) empty (l .records (splitPointer (l .units))) (λ q b. a q) r (ltb-true r (length (dealtTo l u)) e) .0)
+      (λ e. keep-all P (goesTo l u) empty (l .records (splitPointer (l .units))) (λ q b. a q) r (ltb-true r (length (dealtTo l u)) e) .0)
       (λ e. subst P (sym (List·getD-eq-default (dealtTo l u) empty (ltb-false r (length (dealtTo l u)) e))) z)
 
   own-grown : (u r : ℕ) → r < length (grownLedger l .records u) → unitOf (suc (l .units)) (getD (grownLedger l .records u) r empty .key) ≡ u
   unfolding recordAt
   own-grown u r =
       by-dealt l (λ (xs : List Rec). r < length xs → unitOf (suc (l .units)) (getD xs r empty .key) ≡ u) u
-      (λ one a. eqb-true (unitOf (suc (l .units)) (getD (dealtTo l u) r empty .key)) u (keep-all (λ (x : Rec). Unit {0}) (λ (x : Rec). eqb (unitOf (suc (l .units)) (x .key)) u) empty (l .records (splitPointer (l .units))) (λ q b. tt) r a .1))
+      (λ one a. eqb-true (unitOf (suc (l .units)) (getD (dealtTo l u) r empty .key)) u (keep-all (λ (x : Rec). Unit {0}) (goesTo l u) empty (l .records (splitPointer (l .units))) (λ q b. tt) r a .1))
       (λ d e a. other-key (l .units) (getD (l .records u) r empty .key) (h .some) top (λ f. e (sym (h .own u r a) ∙ f)) ∙ h .own u r a)
 
   keyed-grown : (u r : ℕ) → r < length (grownLedger l .records u) → getD (grownLedger l .records u) r empty .key ≢ 0
   unfolding recordAt
   keyed-grown u r =
       by-dealt l (λ (xs : List Rec). r < length xs → getD xs r empty .key ≢ 0) u
-      (λ one a. keep-all (λ (x : Rec). x .key ≢ 0) (λ (x : Rec). eqb (unitOf (suc (l .units)) (x .key)) u) empty (l .records (splitPointer (l .units))) (h .keyed (splitPointer (l .units))) r a .0)
+      (λ one a. keep-all (λ (x : Rec). x .key ≢ 0) (goesTo l u) empty (l .records (splitPointer (l .units))) (h .keyed (splitPointer (l .units))) r a .0)
       (λ d e. h .keyed u r)
 
   differ-grown : (u r q : ℕ) → r < q → q < length (grownLedger l .records u) → getD (grownLedger l .records u) r empty .key ≢ getD (grownLedger l .records u) q empty .key
   unfolding recordAt
   differ-grown u r q a =
       by-dealt l (λ (xs : List Rec). q < length xs → getD xs r empty .key ≢ getD xs q empty .key) u
-      (λ one. keep-differ (λ (x : Rec). x .key) empty (λ (x : Rec). eqb (unitOf (suc (l .units)) (x .key)) u) (l .records (splitPointer (l .units))) (h .differ (splitPointer (l .units))) r q a)
+      (λ one. keep-differ (λ (x : Rec). x .key) empty (goesTo l u) (l .records (splitPointer (l .units))) (h .differ (splitPointer (l .units))) r q a)
       (λ d e. h .differ u r q a)
 
   good-grown : (u r : ℕ) → Good (getD (grownLedger l .records u) r empty)
@@ -84,7 +87,7 @@ module _ (laws : Laws) (l : Ledger) (h : Valid l) (top : l .units ≤ 15) where
   fits-grown : (u : ℕ) → length (grownLedger l .records u) ≤ l .size
   fits-grown u =
       by-dealt l (λ (xs : List Rec). length xs ≤ l .size) u
-      (λ one. omega (arith, keep-length (λ (x : Rec). eqb (unitOf (suc (l .units)) (x .key)) u) (l .records (splitPointer (l .units))), h .fits (splitPointer (l .units))))
+      (λ one. omega (arith, keep-length (goesTo l u) (l .records (splitPointer (l .units))), h .fits (splitPointer (l .units))))
       (λ d e. h .fits u)
 
   none-grown : (u : ℕ) → suc (l .units) ≤ u → grownLedger l .records u ≡ []

@@ -218,10 +218,24 @@ module _ (laws : Laws) (l : Ledger) (rest : List ℕ) (h : Valid l) (m : ℕ) (i
 pub shrink-simulated : (laws : Laws) (l : Ledger) (rest : List ℕ) → Valid l → Simulated l rest shrink
 unfolding reply refusalsIn refusals granted grantedIn given givenIn
 shrink-simulated laws l rest h = record {
-  tests = rw (units-seen laws l rest h) (refl, sound-row laws l rest h, λ _. (refl, refl, λ e.
-      (refl, out-rows laws l rest h m (is e) (pos e) .0, λ new.
-      (refl, out-rows laws l rest h m (is e) (pos e) .1, λ old.
-      (refl, fit-row laws l rest h m (is e) (pos e) new old, λ _. tt)))));
+  tests = rw (units-seen laws l rest h) (
+    refl,
+    sound-row laws l rest h,
+    λ _. (
+      refl,
+      refl,
+      λ e. (
+        refl,
+        out-rows laws l rest h m (is e) (pos e) .0,
+        λ new. (
+          refl,
+          out-rows laws l rest h m (is e) (pos e) .1,
+          λ old.
+              (refl, fit-row laws l rest h m (is e) (pos e) new old, λ _. tt),
+        ),
+      ),
+    ),
+  );
   hands = λ f. refl;
   counts = λ f n y. refl;
   bytes = λ f. rw (units-seen laws l rest h) (shrink-picture laws l rest h m (is (f .1 .0)) (pos (f .1 .0)) (f .1 .1 .0) (f .1 .1 .1 .0) (fits (f .1 .1 .1 .1 .0)));
