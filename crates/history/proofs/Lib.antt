@@ -29,6 +29,11 @@ pub mod Read
 pub mod ReadInPlace
 pub mod List
 pub mod Raise
+pub mod RecordsSeen
+pub mod Grown
+pub mod Grow
+pub mod Shrunk
+pub mod Shrink
 pub mod Opened
 pub mod History
 pub mod Unlost

@@ -1,11 +1,13 @@
 -- The two groups that grow and shrink touch: none of their units is out. Assumes that a unit which is not in place is not marked out.
 use Prim.Native.Nat.{ℕ, _+_, _*_, _-_, _/_, _%_, _<_}
 use mathlib.Core.Path.{_≡_, refl, ap, _∙_}
+use mathlib.Core.Logic.{_⊎_, inl, inr, ⊎-elim}
 use mathlib.Core.Bool.{Bool, true, false, _&&_, _||_}
 use native.Mathlib.Omega.{arith}
 use lib.Dec.{eqb, ltb}
-use borrow.Author.Tests.{eq-eqb, eqb-true, eqb-false, ltb-false, lt-ltb, le-ltb}
+use borrow.Author.Tests.{eqb-true, eqb-false, ltb-false, lt-ltb, le-ltb}
 use Rattle.buffer.specs.Choice.{pick}
+use Rattle.buffer.specs.ChoiceLaws.{by-test}
 use Rattle.buffer.specs.Range.{count}
 use Rattle.buffer.specs.RangeLaws.{count-zero}
 use Rattle.buffer.specs.TestLaws.{not-both}
@@ -26,18 +28,21 @@ check-state l c =
 
 -- ---- which units a group has
 
-pub touched-last : (m : ℕ) → touched m (m / 4) ≡ true
+-- one number is the first or the second of two, or neither
+pub by-either {ℓ} : (P : Bool → Type ℓ) (u m n : ℕ) → ((u ≡ m) ⊎ (u ≡ n) → P true) → ((u ≡ m → ⊥) → (u ≡ n → ⊥) → P false) → P (eqb u m || eqb u n)
+by-either P u m n one none =
+    by-test
+    (λ (t : Bool). P (t || eqb u n))
+    (eqb u m)
+    (λ e. one (inl (eqb-true u m e)))
+    (λ e. by-test P (eqb u n) (λ f. one (inr (eqb-true u n f))) (λ f. none (eqb-false u m e) (eqb-false u n f)))
+
+pub is-touched : (m g : ℕ) → (g ≡ m / 4) ⊎ (g ≡ splitPointer m / 4) → touched m g ≡ true
 unfolding touched
-touched-last m = rw (eq-eqb (m / 4) (m / 4) refl)
+is-touched m g e = by-either (λ (t : Bool). t ≡ true) g (m / 4) (splitPointer m / 4) (λ _. refl) (λ a b. absurd (⊎-elim a b e))
 
 pub not-touched : (m g p : ℕ) → p < 4 → touched m g ≡ false → ((4 * g + p ≡ m → ⊥) × (4 * g + p ≡ splitPointer m → ⊥))
-unfolding touched
-not-touched m g p a e = go (eqb g (m / 4)) (eqb g (splitPointer m / 4)) refl refl e
-  where
-    go : (x y : Bool) → eqb g (m / 4) ≡ x → eqb g (splitPointer m / 4) ≡ y → (x || y) ≡ false → ((4 * g + p ≡ m → ⊥) × (4 * g + p ≡ splitPointer m → ⊥))
-    go true y q w e = not-both refl e
-    go false true q w e = not-both refl e
-    go false false q w e = (λ d. eqb-false g (m / 4) q (omega arith), λ d. eqb-false g (splitPointer m / 4) w (omega arith))
+not-touched m g p a e = (λ d. not-both (is-touched m g (inl (omega arith))) e, λ d. not-both (is-touched m g (inr (omega arith))) e)
 
 -- ---- none of their units is out
 
@@ -45,12 +50,10 @@ module _ (l : Ledger) (calm : (w : ℕ) → placed l w ≡ false → l .out w �
     (new : ltb 0 (outsOf l (m / 4)) ≡ false) (old : ltb 0 (outsOf l (splitPointer m / 4)) ≡ false) where
   touched-quiet : (g : ℕ) → touched m g ≡ true → ltb 0 (outsOf l g) ≡ false
   unfolding touched
-  touched-quiet g e = go (eqb g (m / 4)) (eqb g (splitPointer m / 4)) refl refl e
-    where
-      go : (a b : Bool) → eqb g (m / 4) ≡ a → eqb g (splitPointer m / 4) ≡ b → (a || b) ≡ true → ltb 0 (outsOf l g) ≡ false
-      go true b p q r = ap (λ (k : ℕ). ltb 0 (outsOf l k)) (eqb-true g (m / 4) p) ∙ new
-      go false true p q r = ap (λ (k : ℕ). ltb 0 (outsOf l k)) (eqb-true g (splitPointer m / 4) q) ∙ old
-      go false false p q r = not-both r refl
+  touched-quiet g =
+      by-either (λ (t : Bool). t ≡ true → ltb 0 (outsOf l g) ≡ false) g (m / 4) (splitPointer m / 4)
+      (λ one e. ⊎-elim (λ d. ap (λ (k : ℕ). ltb 0 (outsOf l k)) d ∙ new) (λ d. ap (λ (k : ℕ). ltb 0 (outsOf l k)) d ∙ old) one)
+      (λ a b e. not-both e refl)
 
   quiet : (w : ℕ) → isOut l w ≡ false → l .out w ≡ false
   unfolding isOut
