@@ -1,9 +1,9 @@
--- Correct: another body for a record of the key's unit. Assumes the laws of the group layer, as a parameter.
-use Prim.Native.Nat.{ℕ, _/_, _≤_, _<_}
+-- Correct: another body for a record of the key's unit. Assumes nothing.
+use Prim.Native.Nat.{ℕ, _/_, _<_}
 use mathlib.Core.Path.{_≡_, refl, sym, ap, _∙_}
 use mathlib.Core.Logic.{_≢_}
 use mathlib.Core.List.{List}
-use mathlib.Core.Bool.{Bool, false}
+use mathlib.Core.Bool.{false}
 use native.Mathlib.Omega.{arith}
 use lib.Dec.{eqb, ltb}
 use lib.ListN.{length, getD, set, length-set}
@@ -17,7 +17,6 @@ use Rattle.history.specs.Ledger.{Rec, Ledger, empty, home, recordAt, ran
 use Rattle.history.specs.Table.{refusals}
 use Rattle.history.specs.Answers.{given}
 use Rattle.history.specs.Claims.{Typed}
-use Rattle.history.proofs.GroupLaws.{Laws}
 use Rattle.history.proofs.Rows.{Free}
 use Rattle.history.proofs.Records.{Good}
 use Rattle.history.proofs.Picture.{Valid}
@@ -25,17 +24,32 @@ use Rattle.history.proofs.Seen.{home-seen, home-lt}
 use Rattle.history.proofs.OneList.{by-rank, good-args, valid-with, sound-row, out-row, fill-home, rank-home, write-home}
 use Rattle.history.proofs.Simulation.{Simulated}
 
-module _ (laws : Laws) (l : Ledger) (rest : List ℕ) (h : Valid l) where
+module _ (l : Ledger) (rest : List ℕ) (h : Valid l) where
   pub correct-simulated : (k : ℕ) (x : List ℕ) → Typed (correct k x) → Simulated l rest (correct k x)
   unfolding reply refusalsIn refusals granted grantedIn given givenIn recordAt rankOf
   correct-simulated k x t = record {
-    tests = (refl, refl, λ _. (refl, refl, λ _. (refl, sound-row laws l rest h, λ _. (refl, out-row laws l rest h k,
-        λ e. (refl, rw (rank-home laws l rest h k e, fill-home laws l rest h k e), λ _. tt)))));
+    tests = (
+      refl,
+      refl,
+      λ _. (
+        refl,
+        refl,
+        λ _. (
+          refl,
+          sound-row l rest h,
+          λ _. (
+            refl,
+            out-row l rest h k,
+            λ e. (refl, rw (rank-home l rest h k e, fill-home l rest h k e), λ _. tt),
+          ),
+        ),
+      ),
+    );
     hands = λ f. refl;
     counts = λ f m z. refl;
-    bytes = λ f. rw (rank-home laws l rest h k (quiet f), home-seen laws l rest h k)
-        (write-home laws l rest h k (quiet f) n y (set rs n y) (omega (arith, inside f, h .fits u)) (good f) (same f) other);
-    valid = λ f. valid-with l u (set rs n y) h (home-lt laws l rest h k) (omega (arith, length-set rs n y, h .fits u)) (goods f) (keys f) (owns f) (differs f);
+    bytes = λ f. rw (rank-home l rest h k (quiet f), home-seen l rest h k)
+        (write-home l rest h k (quiet f) n y (set rs n y) (omega (arith, inside f, h .fits u)) (good f) (same f) other);
+    valid = λ f. valid-with l u (set rs n y) h (home-lt l rest h k) (omega (arith, length-set rs n y, h .fits u)) (goods f) (keys f) (owns f) (differs f);
   }
     where
       u : ℕ

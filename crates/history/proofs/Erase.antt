@@ -1,7 +1,6 @@
--- Erase: the unit's highest-ranked record moves into the freed rank. Between the two writes a key stands twice. Assumes the laws of the group
--- layer, as a parameter.
+-- Erase: the unit's highest-ranked record moves into the freed rank. Between the two writes a key stands twice. Assumes nothing.
 use Prim.Native.Nat.{ℕ, suc, pred, _/_, _≤_, _<_}
-use mathlib.Core.Path.{_≡_, refl, sym, ap, _∙_, subst, fun-ext}
+use mathlib.Core.Path.{_≡_, refl, sym, ap, _∙_, fun-ext}
 use mathlib.Core.Logic.{_≢_}
 use mathlib.Core.List.{List}
 use mathlib.Core.Bool.{Bool, true, false}
@@ -9,13 +8,11 @@ use native.Mathlib.Omega.{arith}
 use lib.Dec.{eqb, ltb}
 use lib.ListN.{length, take, getD, set, length-set, length-take, List·getD-eq-default}
 use lib.Seq.{getD-set-same, getD-set-other, getD-take}
-use borrow.Author.Tests.{eq-eqb, leb-false, ltb-true, ltb-false}
+use borrow.Author.Tests.{leb-false, ltb-true, ltb-false}
 use Rattle.buffer.specs.Choice.{pick}
-use Rattle.buffer.specs.ChoiceLaws.{by-test, by-pick, pick-true}
-use Rattle.buffer.specs.Bytes.{zeros}
+use Rattle.buffer.specs.ChoiceLaws.{by-test, by-pick}
 use Rattle.buffer.specs.Table.{upd}
 use Rattle.buffer.specs.TableLaws.{upd-same}
-use Rattle.group.specs.Widths.{slotBytes}
 use Rattle.model.specs.Units.{unitOf}
 use Rattle.model.specs.Layout.{Store, view, bytes}
 use Rattle.model.specs.LayoutLaws.{Same, bytes-ext}
@@ -26,7 +23,6 @@ use Rattle.history.specs.Ledger.{Rec, Ledger, empty, home, recordAt, ran
 use Rattle.history.specs.Picture.{recordBytes, image, picture}
 use Rattle.history.specs.Table.{refusals}
 use Rattle.history.specs.Answers.{given}
-use Rattle.history.proofs.GroupLaws.{Laws}
 use Rattle.history.proofs.Rows.{Free}
 use Rattle.history.proofs.Records.{Good, empty-bytes, empty-good}
 use Rattle.history.proofs.Picture.{Goods, Valid, seen}
@@ -71,7 +67,7 @@ with-at l u rs q = ap (λ (x : List Rec). getD x q empty) (upd-same (l .records)
 pred-end : (n m : ℕ) → m < n → (pred n < n) × (n ≡ suc (pred n))
 pred-end n m h = omega arith
 
-module _ (laws : Laws) (l : Ledger) (rest : List ℕ) (h : Valid l) (k : ℕ) where
+module _ (l : Ledger) (rest : List ℕ) (h : Valid l) (k : ℕ) where
   abbrev v : Store
   v = view (picture l rest)
 
@@ -149,18 +145,18 @@ module _ (laws : Laws) (l : Ledger) (rest : List ℕ) (h : Valid l) (k : ℕ) wh
 
     last-slot : v .slot u e ≡ recordBytes y
     unfolding recordAt
-    last-slot = slot-seen laws l rest h u (home-low laws l rest h k) (here laws l rest h k quiet) e room
+    last-slot = slot-seen l rest h u (home-low l rest h k) (here l rest h k quiet) e room
 
     first-write : Same (written v u n (recordBytes y)) (image m rest)
     unfolding recordAt
-    first-write = write-same l u n y twice same other laws (h .good) (h .good u e) v rest (seen laws l rest (h .good))
-        (home-low laws l rest h k) (omega (arith, inside, h .fits u)) (here laws l rest h k quiet)
+    first-write = write-same l u n y twice same other (h .good) (h .good u e) v rest (seen l rest (h .good))
+        (home-low l rest h k) (omega (arith, inside, h .fits u)) (here l rest h k quiet)
 
     second-write : Same (written (written v u n (recordBytes y)) u e (recordBytes empty)) (image (withRecords m u (take e twice)) rest)
     unfolding withRecords
     second-write = write-same m u e empty (take e twice) (cut-at twice e) (λ q p. cut-other twice e q last p ∙ sym (with-at l u twice q))
-        laws goods-twice (empty-good laws) (written v u n (recordBytes y)) rest first-write
-        (home-low laws l rest h k) room (with-state l u twice u ∙ here laws l rest h k quiet)
+        goods-twice (empty-good) (written v u n (recordBytes y)) rest first-write
+        (home-low l rest h k) room (with-state l u twice u ∙ here l rest h k quiet)
 
     erase-picture : bytes (erased v u n e) ≡ picture (withRecords l u (take e twice)) rest
     unfolding erased
@@ -171,8 +167,8 @@ module _ (laws : Laws) (l : Ledger) (rest : List ℕ) (h : Valid l) (k : ℕ) wh
     cut r a = getD-take e twice r empty (omega (arith, length-take e twice))
 
     erase-valid : Valid (withRecords l u (take e twice))
-    erase-valid = valid-with l u (take e twice) h (home-lt laws l rest h k) (omega (arith, length-take e twice, length-set rs n y, h .fits u))
-        (λ r. by-rank Good (cut-at twice e r) (cut-other twice e r last) (λ p. empty-good laws) (λ p. goods r))
+    erase-valid = valid-with l u (take e twice) h (home-lt l rest h k) (omega (arith, length-take e twice, length-set rs n y, h .fits u))
+        (λ r. by-rank Good (cut-at twice e r) (cut-other twice e r last) (λ p. empty-good) (λ p. goods r))
         (λ r a. rw (cut r a) (keys r (omega (arith, length-take e twice))))
         (λ r a. rw (cut r a) (owns r (omega (arith, length-take e twice))))
         (λ r q a b. rw (cut r (omega arith), cut q b) (differs r q a (omega (arith, length-take e twice))))
@@ -180,10 +176,21 @@ module _ (laws : Laws) (l : Ledger) (rest : List ℕ) (h : Valid l) (k : ℕ) wh
   pub erase-simulated : Simulated l rest (erase k)
   unfolding reply refusalsIn refusals granted grantedIn given givenIn
   erase-simulated = record {
-    tests = (refl, refl, λ _. (refl, sound-row laws l rest h, λ _. (refl, out-row laws l rest h k,
-        λ q. (refl, rw (rank-home laws l rest h k q, fill-home laws l rest h k q), λ _. tt))));
+    tests = (
+      refl,
+      refl,
+      λ _. (
+        refl,
+        sound-row l rest h,
+        λ _. (
+          refl,
+          out-row l rest h k,
+          λ q. (refl, rw (rank-home l rest h k q, fill-home l rest h k q), λ _. tt),
+        ),
+      ),
+    );
     hands = λ f. refl;
     counts = λ f i z. refl;
-    bytes = λ f. rw (rank-home laws l rest h k (quiet f), fill-home laws l rest h k (quiet f), home-seen laws l rest h k) (erase-picture f);
+    bytes = λ f. rw (rank-home l rest h k (quiet f), fill-home l rest h k (quiet f), home-seen l rest h k) (erase-picture f);
     valid = λ f. erase-valid f;
   }

@@ -1,4 +1,4 @@
--- Grow on a picture: the store that it leaves is the picture of the grown ledger. Assumes the laws of the group layer, as a parameter.
+-- Grow on a picture: the store that it leaves is the picture of the grown ledger. Assumes nothing.
 use Prim.Native.Nat.{ℕ, suc, _+_, _*_, _/_, _%_, _≤_, _<_}
 use mathlib.Core.Path.{_≡_, refl, sym, ap, _∙_}
 use mathlib.Core.Logic.{_⊎_, inl, inr, ⊎-elim}
@@ -26,7 +26,6 @@ use Rattle.history.specs.Ledger.{Rec, empty, Ledger, recordAt, placed, i
 use Rattle.history.specs.Picture.{recordBytes, pictureSlot, checkOver, pictureCheck, image, picture}
 use Rattle.history.specs.Table.{refusals}
 use Rattle.history.specs.Answers.{given}
-use Rattle.history.proofs.GroupLaws.{Laws}
 use Rattle.history.proofs.Records.{key-record, empty-bytes, over-ext, anew-over}
 use Rattle.history.proofs.Picture.{Valid, seen}
 use Rattle.history.proofs.Seen.{slot-kept, units-seen, level-seen, outs-seen, serving}
@@ -48,7 +47,7 @@ serves k c e = rw (check-state k c, e) (go (ltb (c % 3) (k .checks (c / 3))))
     go true = refl
     go false = refl
 
-module _ (laws : Laws) (l : Ledger) (rest : List ℕ) (h : Valid l) (top : l .units ≤ 15)
+module _ (l : Ledger) (rest : List ℕ) (h : Valid l) (top : l .units ≤ 15)
     (new : ltb 0 (outsOf l (l .units / 4)) ≡ false) (old : ltb 0 (outsOf l (splitPointer (l .units) / 4)) ≡ false) where
   abbrev m : ℕ
   m = l .units
@@ -63,16 +62,16 @@ module _ (laws : Laws) (l : Ledger) (rest : List ℕ) (h : Valid l) (top : l .un
   v = view (picture l rest)
 
   s : Same (view (picture l rest)) (image l rest)
-  s = seen laws l rest (h .good)
+  s = seen l rest (h .good)
 
   before : n < m
   before = split-lt m (h .some) (h .few)
 
   here : state l n ≡ 1
-  here = serving laws l rest h n before old
+  here = serving l rest h n before old
 
   valid : Valid (grownLedger l)
-  valid = valid-grown laws l h top
+  valid = valid-grown l h top
 
   -- ---- slots
 
@@ -83,7 +82,7 @@ module _ (laws : Laws) (l : Ledger) (rest : List ℕ) (h : Valid l) (top : l .un
       let e : keep (λ x. p (keyOf x)) (map recordBytes rs) ≡ map recordBytes (keep (λ (x : Rec). p (x .key)) rs) =
       keep-map recordBytes (λ x. p (keyOf x)) rs
       ∙ ap (map recordBytes) (keep-ext (λ (x : Rec). p (keyOf (recordBytes x))) (λ (x : Rec). p (x .key)) empty rs (λ q a. ap p (key-record (getD rs q empty) (h .good n q .key)))) in
-      rw (records-seen laws l rest h n (omega (arith, before)) here, e, ← empty-bytes) (List·getD-map recordBytes (keep (λ (x : Rec). p (x .key)) rs) r empty)
+      rw (records-seen l rest h n (omega (arith, before)) here, e, ← empty-bytes) (List·getD-map recordBytes (keep (λ (x : Rec). p (x .key)) rs) r empty)
 
   to-new : (r : ℕ) → getD (keep (λ x. moves m (keyOf x)) (recordsIn v n)) r (zeros slotBytes) ≡ recordBytes (getD (dealtTo l m) r empty)
   unfolding moves
@@ -150,7 +149,7 @@ module _ (laws : Laws) (l : Ledger) (rest : List ℕ) (h : Valid l) (top : l .un
   cstate-grown : (c : ℕ) → c < 12 → grownState v m c ≡ state (grownLedger l) (16 + c)
   unfolding grownState grownLedger image pick
   cstate-grown c a =
-      rw (level-seen laws l rest h, s .cstate c a, wording m (c / 3) (h .some) (h .few) (omega arith) .brought, check-state (grownLedger l) c)
+      rw (level-seen l rest h, s .cstate c a, wording m (c / 3) (h .some) (h .few) (omega arith) .brought, check-state (grownLedger l) c)
       (by-either
       (λ (t : Bool). pick t (pick (ltb (c % 3) (l .level)) 1 0) (state l (16 + c)) ≡ pick (ltb (c % 3) (pick t (l .level) (l .checks (c / 3)))) (pick (l .out (16 + c)) 2 1) 0)
       (4 * (c / 3))
@@ -168,7 +167,7 @@ module _ (laws : Laws) (l : Ledger) (rest : List ℕ) (h : Valid l) (top : l .un
   was-off : (c : ℕ) → touched m (c / 3) ≡ true → eqb (state (grownLedger l) (16 + c)) 1 ≡ false → eqb (state l (16 + c)) 1 ≡ false
   was-off c e f =
       serves l c (quiet-check l (h .calm) m new old c e)
-      ∙ fewer (c % 3) (l .checks (c / 3)) (grownLedger l .checks (c / 3)) (more-checks laws l h top (c / 3)) (sym (serves (grownLedger l) c (quiet-grown c e)) ∙ f)
+      ∙ fewer (c % 3) (l .checks (c / 3)) (grownLedger l .checks (c / 3)) (more-checks l h top (c / 3)) (sym (serves (grownLedger l) c (quiet-grown c e)) ∙ f)
 
   state-same : (c : ℕ) → touched m (c / 3) ≡ false → state l (16 + c) ≡ state (grownLedger l) (16 + c)
   unfolding grownLedger pick
@@ -217,26 +216,26 @@ module _ (laws : Laws) (l : Ledger) (rest : List ℕ) (h : Valid l) (top : l .un
 
 -- ---- the call
 
-pub grow-simulated : (laws : Laws) (l : Ledger) (rest : List ℕ) → Valid l → Simulated l rest grow
+pub grow-simulated : (l : Ledger) (rest : List ℕ) → Valid l → Simulated l rest grow
 unfolding reply refusalsIn refusals granted grantedIn given givenIn
-grow-simulated laws l rest h = record {
-  tests = rw (units-seen laws l rest h) (
+grow-simulated l rest h = record {
+  tests = rw (units-seen l rest h) (
     refl,
-    sound-row laws l rest h,
+    sound-row l rest h,
     λ _. (
       refl,
       refl,
       λ e.
           let top : l .units < 16 = leb-false 16 (l .units) e in (
             refl,
-            rw (outs-seen laws l rest h (l .units / 4) (omega arith)),
+            rw (outs-seen l rest h (l .units / 4) (omega arith)),
             λ _.
-                (refl, rw (outs-seen laws l rest h (splitPointer (l .units) / 4) (omega (arith, split-lt (l .units) (h .some) (h .few)))), λ _. tt),
+                (refl, rw (outs-seen l rest h (splitPointer (l .units) / 4) (omega (arith, split-lt (l .units) (h .some) (h .few)))), λ _. tt),
           ),
     ),
   );
   hands = λ f. refl;
   counts = λ f n y. refl;
-  bytes = λ f. rw (units-seen laws l rest h) (grow-picture laws l rest h (omega (arith, leb-false 16 (l .units) (f .1 .0))) (f .1 .1 .0) (f .1 .1 .1 .0));
-  valid = λ f. valid-grown laws l h (omega (arith, leb-false 16 (l .units) (f .1 .0)));
+  bytes = λ f. rw (units-seen l rest h) (grow-picture l rest h (omega (arith, leb-false 16 (l .units) (f .1 .0))) (f .1 .1 .0) (f .1 .1 .1 .0));
+  valid = λ f. valid-grown l h (omega (arith, leb-false 16 (l .units) (f .1 .0)));
 }

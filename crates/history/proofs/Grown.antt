@@ -1,4 +1,4 @@
--- The ledger after a grow: it is valid where it was before. Assumes the laws of the group layer, as a parameter.
+-- The ledger after a grow: it is valid where it was before. Assumes nothing.
 use Prim.Native.Nat.{ℕ, suc, _*_, _-_, _/_, _%_, _≤_, _<_}
 use mathlib.Core.Path.{_≡_, sym, _∙_, subst}
 use mathlib.Core.Logic.{_≢_, _⊎_, ⊎-elim}
@@ -14,7 +14,6 @@ use Rattle.buffer.specs.ChoiceLaws.{by-test}
 use Rattle.model.specs.Units.{splitPointer, unitOf}
 use Rattle.model.specs.Changes.{keep}
 use Rattle.history.specs.Ledger.{Rec, empty, Ledger, recordAt, placed, grownLedger}
-use Rattle.history.proofs.GroupLaws.{Laws}
 use Rattle.history.proofs.Records.{Good, empty-good}
 use Rattle.history.proofs.Picture.{Valid}
 use Rattle.history.proofs.Split.{split-lt, other-key}
@@ -44,7 +43,7 @@ by-raised l P g one none = by-either (λ (t : Bool). P (pick t (l .level) (l .ch
 pub fewer : (a m n : ℕ) → m ≤ n → ltb a n ≡ false → ltb a m ≡ false
 fewer a m n i e = le-ltb a m (omega (arith, ltb-false a n e))
 
-module _ (laws : Laws) (l : Ledger) (h : Valid l) (top : l .units ≤ 15) where
+module _ (l : Ledger) (h : Valid l) (top : l .units ≤ 15) where
   before : splitPointer (l .units) < l .units
   before = split-lt (l .units) (h .some) (h .few)
 
@@ -82,7 +81,7 @@ module _ (laws : Laws) (l : Ledger) (h : Valid l) (top : l .units ≤ 15) where
   good-grown : (u r : ℕ) → Good (getD (grownLedger l .records u) r empty)
   unfolding recordAt
   good-grown u r =
-      by-dealt l (λ (xs : List Rec). Good (getD xs r empty)) u (λ one. dealt-all Good (h .good (splitPointer (l .units))) (empty-good laws) u r) (λ d e. h .good u r)
+      by-dealt l (λ (xs : List Rec). Good (getD xs r empty)) u (λ one. dealt-all Good (h .good (splitPointer (l .units))) (empty-good) u r) (λ d e. h .good u r)
 
   fits-grown : (u : ℕ) → length (grownLedger l .records u) ≤ l .size
   fits-grown u =

@@ -1,17 +1,13 @@
--- Every call, and every list of calls: run on a picture it answers as the ledger does, and leaves the ledger's picture. Assumes the laws of the
--- group layer, as a parameter.
+-- Every call, and every list of calls: run on a picture it answers as the ledger does, and leaves the ledger's picture. Assumes nothing.
 use Prim.Native.Nat.{ℕ}
 use mathlib.Core.Path.{_≡_, refl}
 use mathlib.Core.List.{List, [], _∷_}
-use mathlib.Core.Bool.{Bool, _&&_}
-use lib.Dec.{eqb}
 use Rattle.model.specs.Numbers.{Call, teach, correct, erase, read, readInPlace, list, unitOut, repair, grow, shrink, raise}
 use Rattle.history.specs.Ledger.{Ledger}
 use Rattle.history.specs.Picture.{picture}
 use Rattle.history.specs.Answers.{after, answers, final}
 use Rattle.history.specs.Runs.{answersIn, finalIn, aloneIn, allGranted, Taught, lastTaught}
 use Rattle.history.specs.Claims.{Typed, AllTyped}
-use Rattle.history.proofs.GroupLaws.{Laws}
 use Rattle.history.proofs.Alone.{alone, allGrantedBy}
 use Rattle.history.proofs.Stand.{Ordered}
 use Rattle.history.proofs.Taught.{lastTaughtBy, Throughout}
@@ -25,6 +21,8 @@ use Rattle.history.proofs.ReadInPlace.{readInPlace-simulated}
 use Rattle.history.proofs.List.{list-simulated}
 use Rattle.history.proofs.UnitOut.{unitOut-simulated}
 use Rattle.history.proofs.Repair.{repair-simulated}
+use Rattle.history.proofs.Grow.{grow-simulated}
+use Rattle.history.proofs.Shrink.{shrink-simulated}
 use Rattle.history.proofs.Raise.{raise-simulated}
 
 -- what a run of the store on the picture of l has in common with the ledger's
@@ -40,35 +38,34 @@ pub record Run (l : Ledger) (rest : List ℕ) (cs : List Call) : Type 0 where
 pub ordered-of : (l : Ledger) → Valid l → Ordered l
 ordered-of l h = record { some = h .some; few = h .few; own = h .own; differ = h .differ }
 
-module _ (laws : Laws) (grow-simulated : (l : Ledger) (rest : List ℕ) → Valid l → Simulated l rest grow) (shrink-simulated : (l : Ledger) (rest : List ℕ) → Valid l → Simulated l rest shrink) where
-  pub simulated : (l : Ledger) (rest : List ℕ) → Valid l → (c : Call) → Typed c → Simulated l rest c
-  simulated l rest h (teach k x) t = teach-simulated laws l rest h k x t
-  simulated l rest h (correct k x) t = correct-simulated laws l rest h k x t
-  simulated l rest h (erase k) t = erase-simulated laws l rest h k
-  simulated l rest h (read k out) t = read-simulated laws l rest h k out
-  simulated l rest h (readInPlace k) t = readInPlace-simulated laws l rest h k
-  simulated l rest h (list out) t = list-simulated laws l rest h out
-  simulated l rest h (unitOut w) t = unitOut-simulated laws l rest h w
-  simulated l rest h (repair g) t = repair-simulated laws l rest h g
-  simulated l rest h grow t = grow-simulated l rest h
-  simulated l rest h shrink t = shrink-simulated l rest h
-  simulated l rest h raise t = raise-simulated laws l rest h
+pub simulated : (l : Ledger) (rest : List ℕ) → Valid l → (c : Call) → Typed c → Simulated l rest c
+simulated l rest h (teach k x) t = teach-simulated l rest h k x t
+simulated l rest h (correct k x) t = correct-simulated l rest h k x t
+simulated l rest h (erase k) t = erase-simulated l rest h k
+simulated l rest h (read k out) t = read-simulated l rest h k out
+simulated l rest h (readInPlace k) t = readInPlace-simulated l rest h k
+simulated l rest h (list out) t = list-simulated l rest h out
+simulated l rest h (unitOut w) t = unitOut-simulated l rest h w
+simulated l rest h (repair g) t = repair-simulated l rest h g
+simulated l rest h grow t = grow-simulated l rest h
+simulated l rest h shrink t = shrink-simulated l rest h
+simulated l rest h raise t = raise-simulated l rest h
 
-  -- WHATEVER THE CALLS
-  pub run : (cs : List Call) (l : Ledger) (rest : List ℕ) → Valid l → AllTyped cs → Run l rest cs
-  unfolding answersIn finalIn answers final aloneIn alone allGranted allGrantedBy lastTaught lastTaughtBy
-  run [] l rest h t = record { answered = refl; left = refl; valid = h; ordered = tt; alone = refl; granted = refl; taught = λ k x. refl }
-  run (c ∷ cs) l rest h t =
-      let s : Simulated l rest c = simulated l rest h c (t .0) in
-      let n = number-agrees l rest c s in
-      let a = after-agrees l rest c s in
-      let r : Run (after l c) rest cs = run cs (after l c) rest (after-valid l rest c s h) (t .1) in
-      record {
-        answered = rw (answer-agrees l rest c s, a, r .answered);
-        left = rw a (r .left);
-        valid = r .valid;
-        ordered = (ordered-of l h, r .ordered);
-        alone = rw (n, a, r .alone);
-        granted = rw (n, a, r .granted);
-        taught = λ k x. rw (n, a) (r .taught k _);
-      }
+-- WHATEVER THE CALLS
+pub run : (cs : List Call) (l : Ledger) (rest : List ℕ) → Valid l → AllTyped cs → Run l rest cs
+unfolding answersIn finalIn answers final aloneIn alone allGranted allGrantedBy lastTaught lastTaughtBy
+run [] l rest h t = record { answered = refl; left = refl; valid = h; ordered = tt; alone = refl; granted = refl; taught = λ k x. refl }
+run (c ∷ cs) l rest h t =
+    let s : Simulated l rest c = simulated l rest h c (t .0) in
+    let n = number-agrees l rest c s in
+    let a = after-agrees l rest c s in
+    let r : Run (after l c) rest cs = run cs (after l c) rest (after-valid l rest c s h) (t .1) in
+    record {
+      answered = rw (answer-agrees l rest c s, a, r .answered);
+      left = rw a (r .left);
+      valid = r .valid;
+      ordered = (ordered-of l h, r .ordered);
+      alone = rw (n, a, r .alone);
+      granted = rw (n, a, r .granted);
+      taught = λ k x. rw (n, a) (r .taught k _);
+    }

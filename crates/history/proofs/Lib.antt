@@ -9,7 +9,6 @@ pub mod Seek
 pub mod Changed
 pub mod Stand
 pub mod Taught
-pub mod GroupLaws
 pub mod Records
 pub mod Picture
 pub mod States

@@ -1,15 +1,13 @@
--- The keys of a unit on a picture: its own, or for a unit out those that a check unit in service lists. Assumes the laws of the group layer, as a
--- parameter.
+-- The keys of a unit on a picture: its own, or for a unit out those that a check unit in service lists. Assumes nothing.
 use Prim.Native.Nat.{ℕ, _+_, _*_, _/_, _%_, _≤_, _<_}
 use mathlib.Core.Path.{_≡_, refl, sym, ap, _∙_}
 use mathlib.Core.List.{List}
-use mathlib.Core.Bool.{Bool, true, false}
+use mathlib.Core.Bool.{Bool, true}
 use native.Mathlib.Omega.{arith}
 use native.Mathlib.Nat.{le-refl}
 use lib.Dec.{eqb}
 use lib.ListN.{length, take, getD}
 use borrow.Author.Tests.{eq-eqb, ne-eqb}
-use Rattle.buffer.specs.Choice.{pick}
 use Rattle.buffer.specs.ChoiceLaws.{by-pick, pick-true}
 use Rattle.buffer.specs.Range.{first, count}
 use Rattle.buffer.specs.RangeLaws.{first-ext, first-found, first-holds}
@@ -19,18 +17,17 @@ use Rattle.model.specs.Layout.{Store, view, keyOf}
 use Rattle.model.specs.LayoutLaws.{Same}
 use Rattle.model.specs.Reads.{keeper, listedKey, listedFill, listedRank}
 use Rattle.history.specs.Ledger.{Rec, Ledger, empty, recordAt, rankOf, isOut, state}
-use Rattle.history.specs.Picture.{recordBytes, checkOver, pictureCheck, image, picture}
-use Rattle.history.proofs.GroupLaws.{Laws}
+use Rattle.history.specs.Picture.{checkOver, pictureCheck, image, picture}
 use Rattle.history.proofs.Records.{key-bytes, take-record, listed-over}
 use Rattle.history.proofs.Picture.{Valid, seen}
 use Rattle.history.proofs.Seen.{past, slot-kept, fill-is, size-seen, cstate-is, dstate-out}
 
-module _ (laws : Laws) (l : Ledger) (rest : List ℕ) (h : Valid l) where
+module _ (l : Ledger) (rest : List ℕ) (h : Valid l) where
   abbrev v : Store
   v = view (picture l rest)
 
   s : Same (view (picture l rest)) (image l rest)
-  s = seen laws l rest (h .good)
+  s = seen l rest (h .good)
 
   -- a check unit of the group g is in service
   abbrev pub Kept : ℕ → Type 0
@@ -56,7 +53,7 @@ module _ (laws : Laws) (l : Ledger) (rest : List ℕ) (h : Valid l) where
         let j : ℕ = first 3 on in
         let lt : j < 3 = first-found 3 on (known e) in
         let serves : eqb (state l (16 + (3 * g + j))) 1 ≡ true =
-        sym (ap (λ (n : ℕ). eqb n 1) (cstate-is laws l rest h (3 * g + j) (omega arith))) ∙ first-holds 3 on lt in
+        sym (ap (λ (n : ℕ). eqb n 1) (cstate-is l rest h (3 * g + j) (omega arith))) ∙ first-holds 3 on lt in
         let d : 4 * g + u % 4 ≡ u = omega arith in
         ap (part (keyBytes * (u % 4)) keyBytes) (check-kept g (omega arith) r hr j lt serves)
         ∙ listed-over j (λ p. recordAt l (4 * g + p) r) (u % 4) (omega arith)
@@ -64,7 +61,7 @@ module _ (laws : Laws) (l : Ledger) (rest : List ℕ) (h : Valid l) where
 
     pub key-kept : (r : ℕ) → r < l .size → listedKey v u r ≡ bytes32 (recordAt l u r .key)
     unfolding listedKey image
-    key-kept r hr = rw (dstate-out laws l rest h u hu)
+    key-kept r hr = rw (dstate-out l rest h u hu)
         (by-pick (λ (x : List ℕ). x ≡ bytes32 (recordAt l u r .key)) (isOut l u) _ _
         (λ e. kept-key r hr e)
         (λ e. ap (take keyBytes) (s .slot u r hu hr ∙ slot-kept l h u r hu e) ∙ take-record (recordAt l u r)))
@@ -79,7 +76,7 @@ module _ (laws : Laws) (l : Ledger) (rest : List ℕ) (h : Valid l) where
     pub fill-known : listedFill v u ≡ length (l .records u)
     unfolding listedFill
     fill-known =
-        ap (λ (n : ℕ). first n (λ r. eqb (keyOf (listedKey v u r)) 0)) (size-seen laws l rest h)
+        ap (λ (n : ℕ). first n (λ r. eqb (keyOf (listedKey v u r)) 0)) (size-seen l rest h)
         ∙ fill-is (l .size) (length (l .records u)) (λ r. eqb (keyOf (listedKey v u r)) 0) (h .fits u)
         (λ r a. ne-eqb _ 0 (λ e. h .keyed u r a (sym (key-known r (omega (arith, h .fits u))) ∙ e)))
         (λ a. eq-eqb _ 0 (key-known (length (l .records u)) a ∙ no-key (length (l .records u)) (le-refl (length (l .records u)))))

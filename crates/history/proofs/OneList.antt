@@ -1,10 +1,10 @@
 -- For the calls that change the list of one unit: its key's unit on a picture, one record written there, and the ledger with the new list is valid
--- again. Assumes the laws of the group layer, as a parameter.
+-- again. Assumes nothing.
 use Prim.Native.Nat.{ℕ, _/_, _≤_, _<_}
-use mathlib.Core.Path.{_≡_, refl, sym, ap, _∙_, subst}
+use mathlib.Core.Path.{_≡_, sym, ap, _∙_, subst}
 use mathlib.Core.Logic.{_≢_}
 use mathlib.Core.List.{List}
-use mathlib.Core.Bool.{Bool, true, false, not}
+use mathlib.Core.Bool.{Bool, false, not}
 use native.Mathlib.Omega.{arith}
 use lib.Dec.{eqb, ltb}
 use lib.ListN.{length, getD}
@@ -21,7 +21,6 @@ use Rattle.model.specs.Changes.{written}
 use Rattle.history.specs.Ledger.{Rec, Ledger, empty, home, recordAt, rankOf, placed, state, outsOf, withRecords}
 use Rattle.history.specs.Picture.{recordBytes, picture, image}
 use Rattle.history.specs.Claims.{Bytes}
-use Rattle.history.proofs.GroupLaws.{Laws}
 use Rattle.history.proofs.Records.{Good}
 use Rattle.history.proofs.Picture.{Valid, seen}
 use Rattle.history.proofs.Seen.{home-seen, home-lt, home-low, outs-seen, serving, fill-seen, rank-seen}
@@ -64,28 +63,28 @@ valid-with l u rs h a fits good keyed own differ = record {
   calm = h .calm;
 }
 
-module _ (laws : Laws) (l : Ledger) (rest : List ℕ) (h : Valid l) where
+module _ (l : Ledger) (rest : List ℕ) (h : Valid l) where
   abbrev v : Store
   v = view (picture l rest)
 
   -- the row "store not sound"
   pub sound-row : not (sound (picture l rest)) ≡ false
-  sound-row = ap not (picture-sound laws l rest h)
+  sound-row = ap not (picture-sound l rest h)
 
   -- the row "a unit out in the group of the key's unit"
   pub out-row : (k : ℕ) → ltb 0 (outsIn v (homeIn v k / 4)) ≡ ltb 0 (outsOf l (home l k / 4))
-  out-row k = rw (home-seen laws l rest h k, outs-seen laws l rest h (home l k / 4) (omega (arith, home-low laws l rest h k)))
+  out-row k = rw (home-seen l rest h k, outs-seen l rest h (home l k / 4) (omega (arith, home-low l rest h k)))
 
   -- where it does not hold
   module _ (k : ℕ) (e : ltb 0 (outsOf l (home l k / 4)) ≡ false) where
     pub here : state l (home l k) ≡ 1
-    here = serving laws l rest h (home l k) (home-lt laws l rest h k) e
+    here = serving l rest h (home l k) (home-lt l rest h k) e
 
     pub fill-home : fillIn v (homeIn v k) ≡ length (l .records (home l k))
-    fill-home = rw (home-seen laws l rest h k) (fill-seen laws l rest h (home l k) (home-low laws l rest h k) here)
+    fill-home = rw (home-seen l rest h k) (fill-seen l rest h (home l k) (home-low l rest h k) here)
 
     pub rank-home : rankIn v (homeIn v k) k ≡ rankOf (l .records (home l k)) k
-    rank-home = rw (home-seen laws l rest h k) (rank-seen laws l rest h (home l k) (home-low laws l rest h k) here k)
+    rank-home = rw (home-seen l rest h k) (rank-seen l rest h (home l k) (home-low l rest h k) here k)
 
     -- one record written, at a rank of the key's unit
     pub write-home : (r : ℕ) (x : Rec) (rs : List Rec) → r < l .size → Good x
@@ -94,4 +93,4 @@ module _ (laws : Laws) (l : Ledger) (rest : List ℕ) (h : Valid l) where
     unfolding recordAt slotOf recordBytes
     write-home r x rs a g p q =
         bytes-ext (written v (home l k) r (recordBytes x)) (image (withRecords l (home l k) rs) rest)
-        (write-same l (home l k) r x rs p q laws (h .good) g v rest (seen laws l rest (h .good)) (home-low laws l rest h k) a here)
+        (write-same l (home l k) r x rs p q (h .good) g v rest (seen l rest (h .good)) (home-low l rest h k) a here)

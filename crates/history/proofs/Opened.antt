@@ -1,9 +1,7 @@
--- A granted layout: what it leaves is the picture of the ledger that it opens, and that ledger is valid. Assumes the laws of the group layer, as a
--- parameter.
-use Prim.Native.Nat.{ℕ, _+_, _*_, _/_, _%_, _≤_, _<_}
+-- A granted layout: what it leaves is the picture of the ledger that it opens, and that ledger is valid. Assumes nothing.
+use Prim.Native.Nat.{ℕ, _+_, _*_, _%_, _≤_}
 use mathlib.Core.Path.{_≡_, refl, sym, ap, _∙_}
 use mathlib.Core.List.{List, [], _∷_, _++_, append-assoc}
-use mathlib.Core.Bool.{Bool}
 use native.Mathlib.Omega.{arith}
 use native.Mathlib.Nat.{not-suc-le-zero, le-refl}
 use lib.Dec.{eqb, ltb}
@@ -19,8 +17,7 @@ use Rattle.group.specs.Widths.{slotBytes, checkBytes}
 use Rattle.model.specs.Layout.{bytes, storeBytes, frontOf}
 use Rattle.model.specs.Perform.{laidOut, layOutNumber, layOut}
 use Rattle.history.specs.Ledger.{opened, recordAt, placed, state}
-use Rattle.history.specs.Picture.{recordBytes, pictureSlot, pictureCheck, image, picture}
-use Rattle.history.proofs.GroupLaws.{Laws}
+use Rattle.history.specs.Picture.{pictureSlot, pictureCheck, image, picture}
 use Rattle.history.proofs.Rows.{Free, first-free}
 use Rattle.history.proofs.Records.{empty-bytes, empty-good, over-empty}
 use Rattle.history.proofs.Picture.{Valid}
@@ -45,14 +42,14 @@ layout-is s b e = pick-true (eq-eqb (layOutNumber s b) 0 e) (laidOut b s) s
 
 -- ---- the picture
 
-module _ (laws : Laws) (b : ℕ) where
+module _ (b : ℕ) where
   slot-zero : (u r : ℕ) → pictureSlot (opened b) u r ≡ zeros slotBytes
   unfolding pictureSlot recordAt opened
   slot-zero u r = rw empty-bytes (pick-same (eqb (state (opened b) u) 1) (zeros slotBytes))
 
   check-zero : (c r : ℕ) → pictureCheck (opened b) c r ≡ zeros checkBytes
   unfolding pictureCheck recordAt opened
-  check-zero c r = rw (over-empty laws (c % 3) (omega arith)) (pick-same (eqb (state (opened b) (16 + c)) 1) (zeros checkBytes))
+  check-zero c r = rw (over-empty (c % 3) (omega arith)) (pick-same (eqb (state (opened b) (16 + c)) 1) (zeros checkBytes))
 
   region-zero : (n w : ℕ) (f : ℕ → ℕ → List ℕ) → ((u r : ℕ) → f u r ≡ zeros w) → tab n (λ u. tab b (f u)) ≡ zeros (w * b * n)
   region-zero n w f h =
@@ -87,7 +84,7 @@ module _ (laws : Laws) (b : ℕ) where
     most = q;
     topped = omega arith;
     fits = λ u. omega arith;
-    good = λ u r. empty-good laws;
+    good = λ u r. empty-good;
     keyed = λ u r l. absurd (not-suc-le-zero l);
     own = λ u r l. absurd (not-suc-le-zero l);
     differ = λ u r q m l. absurd (not-suc-le-zero l);

@@ -1,7 +1,6 @@
--- The picture of a ledger: what the bytes need of it, the sizes of its parts, and that they are read back from the bytes. Assumes the laws of the
--- group layer, as a parameter.
+-- The picture of a ledger: what the bytes need of it, the sizes of its parts, and that they are read back from the bytes. Assumes nothing.
 use Prim.Native.Nat.{ℕ, _+_, _*_, _/_, _%_, _≤_, _<_}
-use mathlib.Core.Path.{_≡_, refl, _∙_}
+use mathlib.Core.Path.{_≡_, refl}
 use mathlib.Core.Logic.{_≢_}
 use mathlib.Core.List.{List, []}
 use mathlib.Core.Bool.{false}
@@ -17,7 +16,6 @@ use Rattle.model.specs.Layout.{view, frontOf}
 use Rattle.model.specs.LayoutLaws.{Shaped, Same, view-bytes}
 use Rattle.history.specs.Ledger.{Rec, Ledger, recordAt, placed, state}
 use Rattle.history.specs.Picture.{recordBytes, pictureSlot, checkOver, pictureCheck, image, picture}
-use Rattle.history.proofs.GroupLaws.{Laws}
 use Rattle.history.proofs.Records.{Good, length-record, length-over}
 
 -- what the bytes need of a ledger's records
@@ -42,29 +40,28 @@ pub record Valid (l : Ledger) : Type 0 where
   pub unmanned : (g : ℕ) → l .units ≤ 4 * g → l .checks g ≡ 0
   pub calm : (w : ℕ) → placed l w ≡ false → l .out w ≡ false
 
-module _ (laws : Laws) where
-  length-slot : (l : Ledger) (u r : ℕ) → Good (recordAt l u r) → length (pictureSlot l u r) ≡ slotBytes
-  unfolding pictureSlot
-  length-slot l u r h =
-      by-pick (λ (x : List ℕ). length x ≡ slotBytes) (eqb (state l u) 1) (recordBytes (recordAt l u r)) (zeros slotBytes)
-      (λ e. length-record (recordAt l u r) h) (λ e. length-zeros slotBytes)
+length-slot : (l : Ledger) (u r : ℕ) → Good (recordAt l u r) → length (pictureSlot l u r) ≡ slotBytes
+unfolding pictureSlot
+length-slot l u r h =
+    by-pick (λ (x : List ℕ). length x ≡ slotBytes) (eqb (state l u) 1) (recordBytes (recordAt l u r)) (zeros slotBytes)
+    (λ e. length-record (recordAt l u r) h) (λ e. length-zeros slotBytes)
 
-  length-check : (l : Ledger) (c r : ℕ) → ((u : ℕ) → Good (recordAt l u r)) → length (pictureCheck l c r) ≡ checkBytes
-  unfolding pictureCheck
-  length-check l c r h =
-      let f : ℕ → Rec = λ p. recordAt l (4 * (c / 3) + p) r in
-      by-pick (λ (x : List ℕ). length x ≡ checkBytes) (eqb (state l (16 + c)) 1) (checkOver (c % 3) f) (zeros checkBytes)
-      (λ e. length-over laws (c % 3) (omega arith) f (λ p. h (4 * (c / 3) + p))) (λ e. length-zeros checkBytes)
+length-check : (l : Ledger) (c r : ℕ) → ((u : ℕ) → Good (recordAt l u r)) → length (pictureCheck l c r) ≡ checkBytes
+unfolding pictureCheck
+length-check l c r h =
+    let f : ℕ → Rec = λ p. recordAt l (4 * (c / 3) + p) r in
+    by-pick (λ (x : List ℕ). length x ≡ checkBytes) (eqb (state l (16 + c)) 1) (checkOver (c % 3) f) (zeros checkBytes)
+    (λ e. length-over (c % 3) (omega arith) f (λ p. h (4 * (c / 3) + p))) (λ e. length-zeros checkBytes)
 
-  pub image-shaped : (l : Ledger) (rest : List ℕ) → Goods l → Shaped (image l rest)
-  unfolding image frontOf bytes32
-  image-shaped l rest h = record {
-    front = refl;
-    size = refl;
-    slot = λ u r a b. length-slot l u r (h u r);
-    check = λ c r a b. length-check l c r (λ u. h u r);
-  }
+pub image-shaped : (l : Ledger) (rest : List ℕ) → Goods l → Shaped (image l rest)
+unfolding image frontOf bytes32
+image-shaped l rest h = record {
+  front = refl;
+  size = refl;
+  slot = λ u r a b. length-slot l u r (h u r);
+  check = λ c r a b. length-check l c r (λ u. h u r);
+}
 
-  -- what is read back from the picture
-  pub seen : (l : Ledger) (rest : List ℕ) → Goods l → Same (view (picture l rest)) (image l rest)
-  seen l rest h = view-bytes (image l rest) (image-shaped l rest h)
+-- what is read back from the picture
+pub seen : (l : Ledger) (rest : List ℕ) → Goods l → Same (view (picture l rest)) (image l rest)
+seen l rest h = view-bytes (image l rest) (image-shaped l rest h)

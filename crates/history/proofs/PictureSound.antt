@@ -1,11 +1,11 @@
--- The picture of a valid ledger is sound, clause by clause. Assumes the laws of the group layer, as a parameter.
+-- The picture of a valid ledger is sound, clause by clause. Assumes nothing.
 use Prim.Native.Nat.{ℕ, zero, suc, _+_, _*_, _/_, _%_, _≤_, _<_}
 use mathlib.Core.Path.{_≡_, refl, sym, ap, _∙_, subst}
 use mathlib.Core.List.{List, [], _∷_}
 use mathlib.Core.Bool.{Bool, true, false, _&&_, _||_, not}
 use native.Mathlib.Omega.{arith}
 use native.Mathlib.Nat.{le-refl, zero-lt-suc}
-use lib.Dec.{eqb, ltb, leb}
+use lib.Dec.{eqb, ltb}
 use lib.ListN.{length}
 use borrow.Author.Tests.{eq-eqb, ne-eqb, eqb-true, ltb-true, ltb-false, lt-ltb, le-ltb, le-leb}
 use Rattle.buffer.specs.Choice.{pick}
@@ -17,13 +17,12 @@ use Rattle.buffer.specs.Bytes.{byte, be32, bytes32, zeros, part}
 use Rattle.buffer.specs.ByteLaws.{be32-part, be32-bytes32}
 use Rattle.group.specs.Widths.{keyBytes, slotBytes, checkBytes}
 use Rattle.model.specs.Units.{unitOf}
-use Rattle.model.specs.Layout.{Store, view, storeBytes, unitsIn, levelIn, keyOf, frontOf}
+use Rattle.model.specs.Layout.{Store, view, storeBytes, keyOf, frontOf}
 use Rattle.model.specs.LayoutLaws.{Same, Shaped, byte-front, part-front, length-bytes}
 use Rattle.model.specs.Reads.{fillIn, listedKey, listedFill}
 use Rattle.model.specs.Sound.{same, ranges, unitsPlaced, checksIn, checksAllowed, groupsPlaced, zeroed, keysKnown, keysPlaced, listsAgree, sound}
-use Rattle.history.specs.Ledger.{Ledger, recordAt, placed, isOut, state}
-use Rattle.history.specs.Picture.{recordBytes, pictureSlot, checkOver, pictureCheck, image, picture}
-use Rattle.history.proofs.GroupLaws.{Laws}
+use Rattle.history.specs.Ledger.{Ledger, recordAt, isOut, state}
+use Rattle.history.specs.Picture.{recordBytes, pictureSlot, pictureCheck, image, picture}
 use Rattle.history.proofs.Records.{empty-bytes, listed-over}
 use Rattle.history.proofs.Picture.{Valid, seen, image-shaped}
 use Rattle.history.proofs.States.{placed-unit, state-check}
@@ -72,20 +71,20 @@ state-none : (o : Bool) → eqb (pick false (pick o 2 1) 0) 0 ≡ true
 unfolding pick
 state-none o = refl
 
-module _ (laws : Laws) (l : Ledger) (rest : List ℕ) (h : Valid l) where
+module _ (l : Ledger) (rest : List ℕ) (h : Valid l) where
   abbrev v : Store
   v = view (picture l rest)
 
   s : Same (view (picture l rest)) (image l rest)
-  s = seen laws l rest (h .good)
+  s = seen l rest (h .good)
 
   rank : (r : ℕ) → r < v .size → r < l .size
-  rank r a = omega (arith, size-seen laws l rest h)
+  rank r a = omega (arith, size-seen l rest h)
 
   -- ---- ranges
 
   shaped : Shaped (image l rest)
-  shaped = image-shaped laws l rest (h .good)
+  shaped = image-shaped l rest (h .good)
 
   front-0 : byte (picture l rest) 0 ≡ 1
   unfolding image frontOf
@@ -136,10 +135,10 @@ module _ (laws : Laws) (l : Ledger) (rest : List ℕ) (h : Valid l) where
 
   units-true : unitsPlaced v ≡ true
   unfolding unitsPlaced state
-  units-true = rw (units-seen laws l rest h) (all-holds 16 _ (λ u a. rw (dstate-is laws l rest h u a, placed-unit l u a) (state-fits (ltb u (l .units)) (l .out u))))
+  units-true = rw (units-seen l rest h) (all-holds 16 _ (λ u a. rw (dstate-is l rest h u a, placed-unit l u a) (state-fits (ltb u (l .units)) (l .out u))))
 
   check-state : (g j : ℕ) → g < 4 → j < 3 → v .cstate (3 * g + j) ≡ pick (ltb j (l .checks g)) (pick (l .out (16 + (3 * g + j))) 2 1) 0
-  check-state g j a b = cstate-is laws l rest h (3 * g + j) (omega arith) ∙ state-check l g j b
+  check-state g j a b = cstate-is l rest h (3 * g + j) (omega arith) ∙ state-check l g j b
 
   checks-seen : (g : ℕ) → g < 4 → checksIn v g ≡ l .checks g
   unfolding checksIn
@@ -149,7 +148,7 @@ module _ (laws : Laws) (l : Ledger) (rest : List ℕ) (h : Valid l) where
 
   groups-true : groupsPlaced v ≡ true
   unfolding groupsPlaced checksAllowed
-  groups-true = rw (units-seen laws l rest h, level-seen laws l rest h)
+  groups-true = rw (units-seen l rest h, level-seen l rest h)
       (all-holds 4 _ (λ g a. rw (checks-seen g a)
       (and-true
       (by-pick (λ (t : Bool). t ≡ true) (ltb (4 * g) (l .units)) _ _
@@ -164,7 +163,7 @@ module _ (laws : Laws) (l : Ledger) (rest : List ℕ) (h : Valid l) where
   zero-slot u r a b e = s .slot u r a b ∙ by-pick (λ (x : List ℕ). x ≡ zeros slotBytes) (eqb (state l u) 1) (recordBytes (recordAt l u r)) (zeros slotBytes)
       (λ q.
       let e2 : ltb r (fillIn v u) ≡ false = sym (ap (λ (t : Bool). t && ltb r (fillIn v u)) (ap (λ (n : ℕ). eqb n 1) (s .dstate u a) ∙ q)) ∙ e in
-      let n : fillIn v u ≡ length (l .records u) = fill-seen laws l rest h u a (eqb-true (state l u) 1 q) in
+      let n : fillIn v u ≡ length (l .records u) = fill-seen l rest h u a (eqb-true (state l u) 1 q) in
       ap recordBytes (past l u r (omega (arith, ltb-false r (fillIn v u) e2))) ∙ empty-bytes)
       (λ q. refl)
 
@@ -182,29 +181,29 @@ module _ (laws : Laws) (l : Ledger) (rest : List ℕ) (h : Valid l) where
 
   -- ---- keys
 
-  key-test : (u : ℕ) (a : u < 16) (k : isOut l u ≡ true → Kept laws l rest h (u / 4)) (r : ℕ) → r < l .size
+  key-test : (u : ℕ) (a : u < 16) (k : isOut l u ≡ true → Kept l rest h (u / 4)) (r : ℕ) → r < l .size
       → pick (ltb r (listedFill v u))
       (eqb (unitOf (l .units) (keyOf (listedKey v u r))) u && all r (λ q. not (eqb (keyOf (listedKey v u q)) (keyOf (listedKey v u r)))))
       (eqb (keyOf (listedKey v u r)) 0) ≡ true
-  key-test u a k r b = rw (fill-known laws l rest h u a k, key-known laws l rest h u a k r b)
+  key-test u a k r b = rw (fill-known l rest h u a k, key-known l rest h u a k r b)
       (by-pick (λ (t : Bool). t ≡ true) (ltb r (length (l .records u))) _ _
       (λ e.
       let i : r < length (l .records u) = ltb-true r (length (l .records u)) e in
       and-true (eq-eqb (unitOf (l .units) (recordAt l u r .key)) u (h .own u r i))
       (all-holds r _ (λ q c. ap not (ne-eqb (keyOf (listedKey v u q)) (recordAt l u r .key)
-      (λ d. h .differ u q r c i (sym (key-known laws l rest h u a k q (omega arith)) ∙ d))))))
-      (λ e. eq-eqb (recordAt l u r .key) 0 (no-key laws l rest h u a k r (ltb-false r (length (l .records u)) e))))
+      (λ d. h .differ u q r c i (sym (key-known l rest h u a k q (omega arith)) ∙ d))))))
+      (λ e. eq-eqb (recordAt l u r .key) 0 (no-key l rest h u a k r (ltb-false r (length (l .records u)) e))))
 
-  known-kept : (u : ℕ) → u < 16 → keysKnown v u ≡ true → isOut l u ≡ true → Kept laws l rest h (u / 4)
+  known-kept : (u : ℕ) → u < 16 → keysKnown v u ≡ true → isOut l u ≡ true → Kept l rest h (u / 4)
   unfolding keysKnown
   known-kept u a e o =
-      let d : v .dstate u ≡ 2 = eqb-true (v .dstate u) 2 (dstate-out laws l rest h u a ∙ o) in
+      let d : v .dstate u ≡ 2 = eqb-true (v .dstate u) 2 (dstate-out l rest h u a ∙ o) in
       let f : ℕ → Bool = λ j. eqb (v .cstate (3 * (u / 4) + j)) 1 in
       not-all 3 f (subst (λ (n : ℕ). (eqb n 1 || eqb n 2 && not (all 3 (λ j. not (f j)))) ≡ true) d e)
 
   keys-true : keysPlaced v ≡ true
   unfolding keysPlaced
-  keys-true = rw (units-seen laws l rest h)
+  keys-true = rw (units-seen l rest h)
       (all-holds 16 _ (λ u a. not-or (keysKnown v u) _ (λ e. all-holds (v .size) _ (λ r b. key-test u a (known-kept u a e) r (rank r b)))))
 
   -- ---- the lists of the check units
@@ -216,15 +215,15 @@ module _ (laws : Laws) (l : Ledger) (rest : List ℕ) (h : Valid l) where
       let j : ℕ = c % 3 in
       let k : 3 * g + j ≡ c = omega arith in
       let on : eqb (v .cstate (3 * g + j)) 1 ≡ true = ap (λ (n : ℕ). eqb (v .cstate n) 1) k ∙ e in
-      let on′ : eqb (state l (16 + (3 * g + j))) 1 ≡ true = sym (ap (λ (n : ℕ). eqb n 1) (cstate-is laws l rest h (3 * g + j) (omega arith))) ∙ on in
+      let on′ : eqb (state l (16 + (3 * g + j))) 1 ≡ true = sym (ap (λ (n : ℕ). eqb n 1) (cstate-is l rest h (3 * g + j) (omega arith))) ∙ on in
       let u : ℕ = 4 * g + p in
       let m : g ≡ u / 4 = omega arith in
-      let kept : Kept laws l rest h (u / 4) = subst (Kept laws l rest h) m (count-pos 3 (λ i. eqb (v .cstate (3 * g + i)) 1) j (omega arith) on) in
+      let kept : Kept l rest h (u / 4) = subst (Kept l rest h) m (count-pos 3 (λ i. eqb (v .cstate (3 * g + i)) 1) j (omega arith) on) in
       eq-eqb _ _ (ap keyOf (
       ap (λ (n : ℕ). part (keyBytes * p) keyBytes (v .check n r)) (sym k)
-      ∙ ap (part (keyBytes * p) keyBytes) (check-kept laws l rest h g (omega arith) r b j (omega arith) on′)
+      ∙ ap (part (keyBytes * p) keyBytes) (check-kept l rest h g (omega arith) r b j (omega arith) on′)
       ∙ listed-over j (λ q. recordAt l (4 * g + q) r) p d
-      ∙ sym (key-kept laws l rest h u (omega arith) (λ o. kept) r b)))
+      ∙ sym (key-kept l rest h u (omega arith) (λ o. kept) r b)))
 
   lists-true : listsAgree v ≡ true
   unfolding listsAgree

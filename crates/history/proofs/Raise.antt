@@ -1,5 +1,5 @@
--- Raise: one is added to the level. Assumes the laws of the group layer, as a parameter.
-use Prim.Native.Nat.{ℕ, suc, _≤_, _<_}
+-- Raise: one is added to the level. Assumes nothing.
+use Prim.Native.Nat.{ℕ, suc, _<_}
 use mathlib.Core.Path.{_≡_, refl, ap}
 use mathlib.Core.List.{List}
 use native.Mathlib.Omega.{arith}
@@ -15,17 +15,16 @@ use Rattle.history.specs.Ledger.{Ledger, recordAt, placed, state, raised
 use Rattle.history.specs.Picture.{pictureSlot, pictureCheck, image, picture}
 use Rattle.history.specs.Table.{refusals}
 use Rattle.history.specs.Answers.{given}
-use Rattle.history.proofs.GroupLaws.{Laws}
 use Rattle.history.proofs.Picture.{Valid, seen}
 use Rattle.history.proofs.Seen.{units-seen, level-seen}
 use Rattle.history.proofs.OneList.{sound-row}
 use Rattle.history.proofs.Simulation.{Simulated}
 
-module _ (laws : Laws) (l : Ledger) (rest : List ℕ) (h : Valid l) where
+module _ (l : Ledger) (rest : List ℕ) (h : Valid l) where
   raise-picture : bytes (raised (view (picture l rest))) ≡ picture (raisedLedger l) rest
   unfolding raised raisedLedger levelIn image frontOf bytes32 pictureSlot pictureCheck recordAt state placed
   raise-picture =
-      let s : Same (view (picture l rest)) (image l rest) = seen laws l rest (h .good) in
+      let s : Same (view (picture l rest)) (image l rest) = seen l rest (h .good) in
       bytes-ext (raised (view (picture l rest))) (image (raisedLedger l) rest) (record {
         front = ap (λ (x : List ℕ). set x 7 (suc (byte x 7))) (s .front);
         size = s .size;
@@ -59,7 +58,7 @@ module _ (laws : Laws) (l : Ledger) (rest : List ℕ) (h : Valid l) where
   pub raise-simulated : Simulated l rest raise
   unfolding reply refusalsIn refusals granted grantedIn given givenIn
   raise-simulated = record {
-    tests = (refl, sound-row laws l rest h, λ _. (refl, rw (units-seen laws l rest h), λ _. (refl, rw (units-seen laws l rest h), λ _. (refl, rw (level-seen laws l rest h), λ _. tt))));
+    tests = (refl, sound-row l rest h, λ _. (refl, rw (units-seen l rest h), λ _. (refl, rw (units-seen l rest h), λ _. (refl, rw (level-seen l rest h), λ _. tt))));
     hands = λ f. refl;
     counts = λ f n y. refl;
     bytes = λ f. raise-picture;

@@ -1,8 +1,8 @@
--- Read: the body of a key, rebuilt where its unit is out. Assumes the laws of the group layer, as a parameter.
+-- Read: the body of a key, rebuilt where its unit is out. Assumes nothing.
 use Prim.Native.Nat.{ℕ, _/_, _<_}
-use mathlib.Core.Path.{_≡_, refl, sym, ap, ap₂, _∙_}
+use mathlib.Core.Path.{_≡_, refl, ap₂}
 use mathlib.Core.List.{List}
-use mathlib.Core.Bool.{Bool, true, false, _&&_}
+use mathlib.Core.Bool.{Bool, true, _&&_}
 use native.Mathlib.Omega.{arith}
 use lib.Dec.{eqb}
 use lib.ListN.{length}
@@ -15,8 +15,6 @@ use Rattle.history.specs.Ledger.{Ledger, home, recordAt, rankOf, isOut, 
 use Rattle.history.specs.Picture.{picture}
 use Rattle.history.specs.Table.{refusals, number}
 use Rattle.history.specs.Answers.{bodyOf, given}
-use Rattle.history.proofs.GroupLaws.{Laws}
-use Rattle.history.proofs.Rows.{Free}
 use Rattle.history.proofs.Granted.{granted-free}
 use Rattle.history.proofs.Records.{drop-record}
 use Rattle.history.proofs.Picture.{Valid}
@@ -31,26 +29,45 @@ pub found : (l : Ledger) (k : ℕ) (out : List ℕ) → eqb (number l (read k ou
 unfolding refusals
 found l k out e = leb-false (length (l .records (home l k))) (rankOf (l .records (home l k)) k) (granted-free l (read k out) e .1 .1 .1 .1 .0)
 
-module _ (laws : Laws) (l : Ledger) (rest : List ℕ) (h : Valid l) where
+module _ (l : Ledger) (rest : List ℕ) (h : Valid l) where
   pub lost-row : (k : ℕ) → (eqb (view (picture l rest) .dstate (homeIn (view (picture l rest)) k)) 2 && beyondIn (view (picture l rest)) (homeIn (view (picture l rest)) k / 4))
       ≡ (isOut l (home l k) && beyondOf l (home l k / 4))
   lost-row k =
-      rw (home-seen laws l rest h k)
-      (ap₂ (λ (a b : Bool). a && b) (dstate-out laws l rest h (home l k) (home-low laws l rest h k)) (beyond-seen laws l rest h (home l k / 4) (omega (arith, home-low laws l rest h k))))
+      rw (home-seen l rest h k)
+      (ap₂ (λ (a b : Bool). a && b) (dstate-out l rest h (home l k) (home-low l rest h k)) (beyond-seen l rest h (home l k / 4) (omega (arith, home-low l rest h k))))
 
   body-read : (k : ℕ) → Readable l (home l k) → rankOf (l .records (home l k)) k < length (l .records (home l k)) → bodyIn (view (picture l rest)) k ≡ bodyOf l k
   unfolding bodyIn bodyOf
   body-read k ok a =
       let u : ℕ = home l k in
-      let low : u < 16 = home-low laws l rest h k in
-      rw (home-seen laws l rest h k, rank-known laws l rest h u low (known laws l rest h u low ok) k, whole-slot laws l rest h u low ok (rankOf (l .records u) k) (omega (arith, h .fits u)))
+      let low : u < 16 = home-low l rest h k in
+      rw (home-seen l rest h k, rank-known l rest h u low (known l rest h u low ok) k, whole-slot l rest h u low ok (rankOf (l .records u) k) (omega (arith, h .fits u)))
       (drop-record (recordAt l u (rankOf (l .records u) k)))
 
   pub read-simulated : (k : ℕ) (out : List ℕ) → Simulated l rest (read k out)
   unfolding reply refusalsIn refusals granted grantedIn given givenIn
   read-simulated k out = record {
-    tests = (refl, refl, λ _. (refl, refl, λ _. (refl, sound-row laws l rest h, λ _. (refl, lost-row k, λ e. (refl,
-        rw (home-seen laws l rest h k, rank-known laws l rest h (home l k) (low k) (known laws l rest h (home l k) (low k) e) k, fill-known laws l rest h (home l k) (low k) (known laws l rest h (home l k) (low k) e)), λ _. tt)))));
+    tests = (
+      refl,
+      refl,
+      λ _. (
+        refl,
+        refl,
+        λ _. (
+          refl,
+          sound-row l rest h,
+          λ _. (
+            refl,
+            lost-row k,
+            λ e. (
+              refl,
+              rw (home-seen l rest h k, rank-known l rest h (home l k) (low k) (known l rest h (home l k) (low k) e) k, fill-known l rest h (home l k) (low k) (known l rest h (home l k) (low k) e)),
+              λ _. tt,
+            ),
+          ),
+        ),
+      ),
+    );
     hands = λ f. body-read k (f .1 .1 .1 .0) (leb-false _ _ (f .1 .1 .1 .1 .0));
     counts = λ f n y. refl;
     bytes = λ f. refl;
@@ -58,4 +75,4 @@ module _ (laws : Laws) (l : Ledger) (rest : List ℕ) (h : Valid l) where
   }
     where
       low : (k : ℕ) → home l k < 16
-      low k = home-low laws l rest h k
+      low k = home-low l rest h k

@@ -1,5 +1,5 @@
 -- Read in place: the part of the store that holds the body, empty exactly where read, given a buffer that fits, is refused or the unit is out.
--- Assumes the laws of the group layer, as a parameter.
+-- Assumes nothing.
 use Prim.Native.Nat.{ℕ, _+_, _<_}
 use mathlib.Core.Path.{_≡_, refl, sym, ap, _∙_}
 use mathlib.Core.List.{List, []}
@@ -20,10 +20,9 @@ use Rattle.model.specs.Reads.{homeIn, rankIn}
 use Rattle.model.specs.Numbers.{read, readInPlace, refusalsIn, numberIn}
 use Rattle.model.specs.Perform.{Place, reply, placeIn, givenIn, grantedIn}
 use Rattle.history.specs.Ledger.{Ledger, home, recordAt, rankOf, isOut, state, granted}
-use Rattle.history.specs.Picture.{recordBytes, picture}
+use Rattle.history.specs.Picture.{picture}
 use Rattle.history.specs.Table.{refusals, number}
 use Rattle.history.specs.Answers.{bodyOf, given}
-use Rattle.history.proofs.GroupLaws.{Laws}
 use Rattle.history.proofs.Records.{drop-record}
 use Rattle.history.proofs.Picture.{Valid}
 use Rattle.history.proofs.States.{state-in}
@@ -44,7 +43,7 @@ part-none x = refl
 abbrev partAt : List ℕ → Place → List ℕ
 partAt x p = part (p .at) (p .size) x
 
-module _ (laws : Laws) (l : Ledger) (rest : List ℕ) (h : Valid l) (k : ℕ) where
+module _ (l : Ledger) (rest : List ℕ) (h : Valid l) (k : ℕ) where
   abbrev s : List ℕ
   s = picture l rest
 
@@ -57,23 +56,23 @@ module _ (laws : Laws) (l : Ledger) (rest : List ℕ) (h : Valid l) (k : ℕ) wh
 
   test-seen : (eqb (numberIn s (read k (zeros bodyBytes))) 0 && not (eqb (v .dstate (homeIn v k)) 2)) ≡ given-in
   test-seen = rw (
-    number-agrees l rest (read k (zeros bodyBytes)) (read-simulated laws l rest h k (zeros bodyBytes)),
-    home-seen laws l rest h k,
-    dstate-out laws l rest h (home l k) (home-low laws l rest h k),
+    number-agrees l rest (read k (zeros bodyBytes)) (read-simulated l rest h k (zeros bodyBytes)),
+    home-seen l rest h k,
+    dstate-out l rest h (home l k) (home-low l rest h k),
   )
 
   body-there : given-in ≡ true → part (slotAt (v .size) (homeIn v k) (rankIn v (homeIn v k) k) + keyBytes) bodyBytes s ≡ bodyOf l k
   unfolding bodyOf part
   body-there e =
       let u : ℕ = home l k in
-      let low : u < 16 = home-low laws l rest h k in
+      let low : u < 16 = home-low l rest h k in
       let kept : isOut l u ≡ false = not-true (isOut l u) (and-second (eqb (number l (read k (zeros bodyBytes))) 0) (not (isOut l u)) e) in
-      let here : state l u ≡ 1 = state-in l u (there laws l rest h u (home-lt laws l rest h k)) kept in
+      let here : state l u ≡ 1 = state-in l u (there l rest h u (home-lt l rest h k)) kept in
       let r : ℕ = rankOf (l .records u) k in
       let in-list : r < length (l .records u) = found l k (zeros bodyBytes) (and-first (eqb (number l (read k (zeros bodyBytes))) 0) (not (isOut l u)) e) in
-      rw (home-seen laws l rest h k, rank-seen laws l rest h u low here k)
+      rw (home-seen l rest h k, rank-seen l rest h u low here k)
       (slot-body s u r
-      ∙ ap (part keyBytes bodyBytes) (slot-seen laws l rest h u low here r (omega (arith, h .fits u)))
+      ∙ ap (part keyBytes bodyBytes) (slot-seen l rest h u low here r (omega (arith, h .fits u)))
       ∙ ap (λ (x : List ℕ). part 0 bodyBytes x) (drop-record (recordAt l u r))
       ∙ take-all bodyBytes (recordAt l u r .body) (omega (arith, h .good u r .body .size)))
 

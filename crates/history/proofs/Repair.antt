@@ -1,16 +1,16 @@
--- Repair: every unit of the group is in service again, with its bytes. Assumes the laws of the group layer, as a parameter.
+-- Repair: every unit of the group is in service again, with its bytes. Assumes nothing.
 use Prim.Native.Nat.{ℕ, _+_, _*_, _-_, _/_, _%_, _<_}
 use mathlib.Core.Path.{_≡_, refl, sym, ap, _∙_}
 use mathlib.Core.List.{List}
 use mathlib.Core.Bool.{Bool, true, false, not, _&&_, and-false}
 use native.Mathlib.Omega.{arith}
 use lib.Dec.{eqb, ltb}
-use borrow.Author.Tests.{eq-eqb, eqb-true, eqb-false, ltb-false, lt-ltb, le-ltb}
+use borrow.Author.Tests.{eq-eqb, eqb-true, ltb-false, lt-ltb, le-ltb}
 use Rattle.buffer.specs.Choice.{pick}
 use Rattle.buffer.specs.ChoiceLaws.{by-test, by-pick, pick-true, pick-false}
-use Rattle.buffer.specs.TestLaws.{and-false-second, and-first, and-second}
+use Rattle.buffer.specs.TestLaws.{and-false-second, and-first}
 use Rattle.buffer.specs.Bytes.{zeros}
-use Rattle.group.specs.Widths.{slotBytes, checkBytes}
+use Rattle.group.specs.Widths.{checkBytes}
 use Rattle.group.specs.CheckRecord.{checkRecord}
 use Rattle.model.specs.Layout.{Store, view, bytes}
 use Rattle.model.specs.LayoutLaws.{Same, bytes-ext}
@@ -22,11 +22,10 @@ use Rattle.history.specs.Ledger.{Ledger, recordAt, placed, isOut, state,
 use Rattle.history.specs.Picture.{recordBytes, pictureSlot, checkOver, pictureCheck, image, picture}
 use Rattle.history.specs.Table.{refusals}
 use Rattle.history.specs.Answers.{given}
-use Rattle.history.proofs.GroupLaws.{Laws}
 use Rattle.history.proofs.Records.{anew-over}
 use Rattle.history.proofs.Picture.{Valid, seen}
 use Rattle.history.proofs.Seen.{slot-kept, units-seen, beyond-seen}
-use Rattle.history.proofs.Rebuilt.{Readable, whole-slot}
+use Rattle.history.proofs.Rebuilt.{whole-slot}
 use Rattle.history.proofs.OneList.{sound-row}
 use Rattle.history.proofs.Simulation.{Simulated}
 
@@ -83,15 +82,15 @@ module _ (l : Ledger) (g : ℕ) where
   unfolding recordAt withIn
   in-at u r = refl
 
-  module _ (laws : Laws) (rest : List ℕ) (h : Valid l) (hg : g < 4) (nb : beyondOf l g ≡ false) where
+  module _ (rest : List ℕ) (h : Valid l) (hg : g < 4) (nb : beyondOf l g ≡ false) where
     abbrev v : Store
     v = view (picture l rest)
 
     s : Same (view (picture l rest)) (image l rest)
-    s = seen laws l rest (h .good)
+    s = seen l rest (h .good)
 
     whole : (u r : ℕ) → u < 16 → u / 4 ≡ g → r < l .size → wholeSlot v u r ≡ recordBytes (recordAt l u r)
-    whole u r a d b = whole-slot laws l rest h u a (and-false-second (isOut l u) (ap (beyondOf l) d ∙ nb)) r b
+    whole u r a d b = whole-slot l rest h u a (and-false-second (isOut l u) (ap (beyondOf l) d ∙ nb)) r b
 
     in-slot : (u r : ℕ) → u < 16 → r < l .size → pick (eqb (u / 4) g) (wholeSlot v u r) (v .slot u r) ≡ pictureSlot (withIn l g) u r
     unfolding image
@@ -136,14 +135,14 @@ module _ (l : Ledger) (g : ℕ) where
       rest = s .rest;
     })
 
-module _ (laws : Laws) (l : Ledger) (rest : List ℕ) (h : Valid l) where
+module _ (l : Ledger) (rest : List ℕ) (h : Valid l) where
   pub repair-simulated : (g : ℕ) → Simulated l rest (repair g)
   unfolding reply refusalsIn refusals granted grantedIn given givenIn
   repair-simulated g = record {
-    tests = (refl, refl, λ e. (refl, sound-row laws l rest h, λ _. (refl, rw (units-seen laws l rest h), λ _. (refl, beyond-seen laws l rest h g (low e), λ _. tt))));
+    tests = (refl, refl, λ e. (refl, sound-row l rest h, λ _. (refl, rw (units-seen l rest h), λ _. (refl, beyond-seen l rest h g (low e), λ _. tt))));
     hands = λ f. refl;
     counts = λ f n y. refl;
-    bytes = λ f. repair-picture l g laws rest h (low (f .0)) (f .1 .1 .1 .0);
+    bytes = λ f. repair-picture l g rest h (low (f .0)) (f .1 .1 .1 .0);
     valid = λ f. in-valid l g h;
   }
     where

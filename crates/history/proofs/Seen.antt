@@ -1,4 +1,4 @@
--- What the calls read from a picture is what the ledger says. Assumes the laws of the group layer, as a parameter.
+-- What the calls read from a picture is what the ledger says. Assumes nothing.
 use Prim.Native.Nat.{ℕ, _+_, _*_, _-_, _/_, _≤_, _<_}
 use mathlib.Core.Path.{_≡_, refl, sym, ap, ap₂, _∙_}
 use mathlib.Core.List.{List}
@@ -10,7 +10,7 @@ use lib.ListN.{length, getD, List·getD-eq-default}
 use borrow.Author.Tests.{eq-eqb, ne-eqb, ltb-true, ltb-false, lt-ltb}
 use Rattle.buffer.specs.Choice.{pick}
 use Rattle.buffer.specs.ChoiceLaws.{by-test, by-pick, pick-true, pick-same}
-use Rattle.buffer.specs.Range.{first, count}
+use Rattle.buffer.specs.Range.{first}
 use Rattle.buffer.specs.RangeLaws.{first-ext, first-at, first-none, count-ext}
 use Rattle.buffer.specs.Bytes.{byte, bytes32, zeros}
 use Rattle.group.specs.Widths.{slotBytes}
@@ -21,7 +21,6 @@ use Rattle.model.specs.LayoutLaws.{Same}
 use Rattle.model.specs.Reads.{homeIn, fillIn, rankIn, stateIn, outsIn, beyondIn}
 use Rattle.history.specs.Ledger.{Rec, Ledger, empty, home, recordAt, rankOf, placed, isOut, state, outsOf, beyondOf}
 use Rattle.history.specs.Picture.{recordBytes, pictureSlot, image, picture}
-use Rattle.history.proofs.GroupLaws.{Laws}
 use Rattle.history.proofs.Records.{key-record, empty-bytes}
 use Rattle.history.proofs.Picture.{Valid, seen}
 use Rattle.history.proofs.Split.{unitOf-lt}
@@ -54,12 +53,12 @@ fill-is n m f h a b =
     (λ e. first-at n f m (ltb-true m n e) a (b (ltb-true m n e)))
     (λ e. let same : m ≡ n = omega (arith, ltb-false m n e) in first-none n f (λ k l. a k (omega arith)) ∙ sym same)
 
-module _ (laws : Laws) (l : Ledger) (rest : List ℕ) (h : Valid l) where
+module _ (l : Ledger) (rest : List ℕ) (h : Valid l) where
   abbrev v : Store
   v = view (picture l rest)
 
   s : Same (view (picture l rest)) (image l rest)
-  s = seen laws l rest (h .good)
+  s = seen l rest (h .good)
 
   -- ---- the header
 

@@ -1,4 +1,4 @@
--- Shrink on a picture: the store that it leaves is the picture of the shrunk ledger. Assumes the laws of the group layer, as a parameter.
+-- Shrink on a picture: the store that it leaves is the picture of the shrunk ledger. Assumes nothing.
 use Prim.Native.Nat.{ℕ, suc, pred, _+_, _*_, _/_, _%_, _≤_, _<_}
 use mathlib.Core.Path.{_≡_, refl, sym, ap, _∙_, subst}
 use mathlib.Core.Logic.{inl, inr}
@@ -27,7 +27,6 @@ use Rattle.history.specs.Ledger.{Rec, empty, Ledger, recordAt, placed, i
 use Rattle.history.specs.Picture.{recordBytes, pictureSlot, checkOver, pictureCheck, image, picture}
 use Rattle.history.specs.Table.{refusals}
 use Rattle.history.specs.Answers.{given}
-use Rattle.history.proofs.GroupLaws.{Laws}
 use Rattle.history.proofs.Records.{empty-bytes, over-ext, anew-over}
 use Rattle.history.proofs.Picture.{Valid, seen}
 use Rattle.history.proofs.Seen.{slot-kept, size-seen, units-seen, outs-seen, serving, fill-seen}
@@ -48,7 +47,7 @@ by-emptied P m g a b c one none =
     (λ f. one (omega (arith, ltb-false (4 * g) m e, ltb-true (4 * g) (suc m) f)))
     (λ f. none (omega (arith, ltb-false (4 * g) (suc m) f)))))
 
-module _ (laws : Laws) (l : Ledger) (rest : List ℕ) (h : Valid l) (m : ℕ) (is : l .units ≡ suc m) (pos : 1 ≤ m)
+module _ (l : Ledger) (rest : List ℕ) (h : Valid l) (m : ℕ) (is : l .units ≡ suc m) (pos : 1 ≤ m)
     (new : ltb 0 (outsOf l (m / 4)) ≡ false) (old : ltb 0 (outsOf l (splitPointer m / 4)) ≡ false)
     (fit : length (l .records (splitPointer m)) + length (l .records m) ≤ l .size) where
   abbrev n : ℕ
@@ -58,24 +57,24 @@ module _ (laws : Laws) (l : Ledger) (rest : List ℕ) (h : Valid l) (m : ℕ) (i
   v = view (picture l rest)
 
   s : Same (view (picture l rest)) (image l rest)
-  s = seen laws l rest (h .good)
+  s = seen l rest (h .good)
 
   top : m ≤ 15
   top = omega (arith, h .few)
 
   low : n < m
-  low = before laws l h m is pos
+  low = before l h m is pos
 
   valid : Valid (shrunkLedger l m)
-  valid = valid-shrunk laws l h m is pos new old fit
+  valid = valid-shrunk l h m is pos new old fit
 
   -- ---- slots
 
   merged-list : (r : ℕ) → getD (recordsIn v n ++ recordsIn v m) r (zeros slotBytes) ≡ recordBytes (getD (bothLists l m) r empty)
   merged-list r =
       rw (
-        records-seen laws l rest h n (omega (arith, low, top)) (serving laws l rest h n (omega (arith, low)) old),
-        records-seen laws l rest h m (omega (arith, top)) (serving laws l rest h m (omega arith) new),
+        records-seen l rest h n (omega (arith, low, top)) (serving l rest h n (omega (arith, low)) old),
+        records-seen l rest h m (omega (arith, top)) (serving l rest h m (omega arith) new),
         ← (map-append recordBytes (l .records n) (l .records m)),
         ← empty-bytes,
       )
@@ -141,10 +140,10 @@ module _ (laws : Laws) (l : Ledger) (rest : List ℕ) (h : Valid l) (m : ℕ) (i
 
   check-gone : (c : ℕ) → 4 * (c / 3) ≡ m → state (shrunkLedger l m) (16 + c) ≡ 0
   unfolding pick
-  check-gone c e = check-state (shrunkLedger l m) c ∙ rw (checks-gone laws l h m is pos (c / 3) (omega arith), le-ltb (c % 3) 0 (omega arith))
+  check-gone c e = check-state (shrunkLedger l m) c ∙ rw (checks-gone l h m is pos (c / 3) (omega arith), le-ltb (c % 3) 0 (omega arith))
 
   check-kept : (c : ℕ) → (4 * (c / 3) ≡ m → ⊥) → state l (16 + c) ≡ state (shrunkLedger l m) (16 + c)
-  check-kept c e = check-state l c ∙ sym (check-state (shrunkLedger l m) c ∙ rw (checks-kept laws l h m is pos (c / 3) e, out-same (16 + c)))
+  check-kept c e = check-state l c ∙ sym (check-state (shrunkLedger l m) c ∙ rw (checks-kept l h m is pos (c / 3) e, out-same (16 + c)))
 
   cstate-shrunk : (c : ℕ) → c < 12 → shrunkState v m c ≡ state (shrunkLedger l m) (16 + c)
   unfolding shrunkState image pick
@@ -196,50 +195,50 @@ module _ (laws : Laws) (l : Ledger) (rest : List ℕ) (h : Valid l) (m : ℕ) (i
 last-unit : (u : ℕ) → 1 < u → u ≡ suc (pred u)
 last-unit u a = omega arith
 
-module _ (laws : Laws) (l : Ledger) (rest : List ℕ) (h : Valid l) (m : ℕ) (is : l .units ≡ suc m) (pos : 1 ≤ m) where
+module _ (l : Ledger) (rest : List ℕ) (h : Valid l) (m : ℕ) (is : l .units ≡ suc m) (pos : 1 ≤ m) where
   -- the row "shrink that won't fit in b"
   fit-row : ltb 0 (outsOf l (m / 4)) ≡ false → ltb 0 (outsOf l (splitPointer m / 4)) ≡ false
       → ltb (view (picture l rest) .size) (fillIn (view (picture l rest)) (splitPointer m) + fillIn (view (picture l rest)) m)
       ≡ ltb (l .size) (length (l .records (splitPointer m)) + length (l .records m))
   fit-row new old =
-      let low : splitPointer m < m = before laws l h m is pos in
+      let low : splitPointer m < m = before l h m is pos in
       rw (
-        fill-seen laws l rest h (splitPointer m) (omega (arith, h .few)) (serving laws l rest h (splitPointer m) (omega arith) old),
-        fill-seen laws l rest h m (omega (arith, h .few)) (serving laws l rest h m (omega arith) new),
-        size-seen laws l rest h,
+        fill-seen l rest h (splitPointer m) (omega (arith, h .few)) (serving l rest h (splitPointer m) (omega arith) old),
+        fill-seen l rest h m (omega (arith, h .few)) (serving l rest h m (omega arith) new),
+        size-seen l rest h,
       )
 
   out-rows : (ltb 0 (outsIn (view (picture l rest)) (m / 4)) ≡ ltb 0 (outsOf l (m / 4)))
       × (ltb 0 (outsIn (view (picture l rest)) (splitPointer m / 4)) ≡ ltb 0 (outsOf l (splitPointer m / 4)))
   out-rows =
-      let low : splitPointer m < m = before laws l h m is pos in
-      (rw (outs-seen laws l rest h (m / 4) (omega (arith, h .few))), rw (outs-seen laws l rest h (splitPointer m / 4) (omega (arith, h .few))))
+      let low : splitPointer m < m = before l h m is pos in
+      (rw (outs-seen l rest h (m / 4) (omega (arith, h .few))), rw (outs-seen l rest h (splitPointer m / 4) (omega (arith, h .few))))
 
-pub shrink-simulated : (laws : Laws) (l : Ledger) (rest : List ℕ) → Valid l → Simulated l rest shrink
+pub shrink-simulated : (l : Ledger) (rest : List ℕ) → Valid l → Simulated l rest shrink
 unfolding reply refusalsIn refusals granted grantedIn given givenIn
-shrink-simulated laws l rest h = record {
-  tests = rw (units-seen laws l rest h) (
+shrink-simulated l rest h = record {
+  tests = rw (units-seen l rest h) (
     refl,
-    sound-row laws l rest h,
+    sound-row l rest h,
     λ _. (
       refl,
       refl,
       λ e. (
         refl,
-        out-rows laws l rest h m (is e) (pos e) .0,
+        out-rows l rest h m (is e) (pos e) .0,
         λ new. (
           refl,
-          out-rows laws l rest h m (is e) (pos e) .1,
+          out-rows l rest h m (is e) (pos e) .1,
           λ old.
-              (refl, fit-row laws l rest h m (is e) (pos e) new old, λ _. tt),
+              (refl, fit-row l rest h m (is e) (pos e) new old, λ _. tt),
         ),
       ),
     ),
   );
   hands = λ f. refl;
   counts = λ f n y. refl;
-  bytes = λ f. rw (units-seen laws l rest h) (shrink-picture laws l rest h m (is (f .1 .0)) (pos (f .1 .0)) (f .1 .1 .0) (f .1 .1 .1 .0) (fits (f .1 .1 .1 .1 .0)));
-  valid = λ f. valid-shrunk laws l h m (is (f .1 .0)) (pos (f .1 .0)) (f .1 .1 .0) (f .1 .1 .1 .0) (fits (f .1 .1 .1 .1 .0));
+  bytes = λ f. rw (units-seen l rest h) (shrink-picture l rest h m (is (f .1 .0)) (pos (f .1 .0)) (f .1 .1 .0) (f .1 .1 .1 .0) (fits (f .1 .1 .1 .1 .0)));
+  valid = λ f. valid-shrunk l h m (is (f .1 .0)) (pos (f .1 .0)) (f .1 .1 .0) (f .1 .1 .1 .0) (fits (f .1 .1 .1 .1 .0));
 }
   where
     m : ℕ

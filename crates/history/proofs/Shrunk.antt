@@ -1,4 +1,4 @@
--- The ledger after a shrink: it is valid where it was before. Assumes the laws of the group layer, as a parameter.
+-- The ledger after a shrink: it is valid where it was before. Assumes nothing.
 use Prim.Native.Nat.{ℕ, suc, _+_, _*_, _-_, _/_, _%_, _≤_, _<_}
 use mathlib.Core.Path.{_≡_, refl, sym, ap, _∙_, subst}
 use mathlib.Core.Logic.{_≢_, inl}
@@ -14,7 +14,6 @@ use Rattle.buffer.specs.ChoiceLaws.{by-test, by-pick, pick-false}
 use Rattle.buffer.specs.TestLaws.{ltb-suc}
 use Rattle.model.specs.Units.{splitPointer, unitOf}
 use Rattle.history.specs.Ledger.{Rec, empty, Ledger, recordAt, placed, outsOf, shrunkLedger}
-use Rattle.history.proofs.GroupLaws.{Laws}
 use Rattle.history.proofs.Records.{Good, empty-good}
 use Rattle.history.proofs.Picture.{Valid}
 use Rattle.history.proofs.States.{placed-unit, placed-check}
@@ -37,7 +36,7 @@ by-merged l m P u gone both kept =
     (λ f. both (eqb-false u m e) (eqb-true u (splitPointer m) f))
     (λ f. kept (eqb-false u m e) (eqb-false u (splitPointer m) f)))
 
-module _ (laws : Laws) (l : Ledger) (h : Valid l) (m : ℕ) (is : l .units ≡ suc m) (pos : 1 ≤ m) where
+module _ (l : Ledger) (h : Valid l) (m : ℕ) (is : l .units ≡ suc m) (pos : 1 ≤ m) where
   top : m ≤ 15
   top = omega (arith, h .few)
 
@@ -97,7 +96,7 @@ module _ (laws : Laws) (l : Ledger) (h : Valid l) (m : ℕ) (is : l .units ≡ s
   unfolding recordAt
   good-shrunk u r =
       by-merged l m (λ (xs : List Rec). Good (getD xs r empty)) u
-      (λ e. empty-good laws)
+      (λ e. empty-good)
       (λ _ e. joint Good empty (l .records (splitPointer m)) (l .records m) r (λ a. h .good (splitPointer m) r) (λ i q. h .good m i))
       (λ _ _. h .good u r)
 

@@ -2,11 +2,10 @@
 use Prim.Native.Nat.{ℕ}
 use mathlib.Core.Path.{_≡_, refl, sym, ap, ap₂, _∙_}
 use mathlib.Core.List.{List, _++_}
-use mathlib.Core.Bool.{Bool, true, false}
+use mathlib.Core.Bool.{Bool, false}
 use lib.Dec.{eqb}
 use lib.ListN.{length, drop}
-use Rattle.buffer.specs.Choice.{pick}
-use Rattle.buffer.specs.ChoiceLaws.{by-test, by-pick, pick-true, pick-false}
+use Rattle.buffer.specs.ChoiceLaws.{by-test, by-pick, pick-false}
 use Rattle.buffer.specs.TestLaws.{not-both}
 use Rattle.model.specs.Layout.{view}
 use Rattle.model.specs.Reads.{totalIn}

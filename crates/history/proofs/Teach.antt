@@ -1,6 +1,6 @@
--- Teach: a record at the end of the list of the key's unit. Assumes the laws of the group layer, as a parameter.
+-- Teach: a record at the end of the list of the key's unit. Assumes nothing.
 use Prim.Native.Nat.{ℕ, _/_, _≤_, _<_}
-use mathlib.Core.Path.{_≡_, refl, sym, ap, _∙_}
+use mathlib.Core.Path.{_≡_, refl, sym, _∙_}
 use mathlib.Core.Logic.{_≢_}
 use mathlib.Core.List.{List, [], _∷_, _++_}
 use mathlib.Core.Bool.{Bool, false}
@@ -18,7 +18,6 @@ use Rattle.history.specs.Ledger.{Rec, Ledger, empty, home, recordAt, ran
 use Rattle.history.specs.Table.{refusals}
 use Rattle.history.specs.Answers.{given}
 use Rattle.history.specs.Claims.{Typed}
-use Rattle.history.proofs.GroupLaws.{Laws}
 use Rattle.history.proofs.Rows.{Free}
 use Rattle.history.proofs.Records.{Good}
 use Rattle.history.proofs.Picture.{Valid}
@@ -37,17 +36,32 @@ snoc-other rs x q n = by-test (λ (t : Bool). getD (rs ++ (x ∷ [])) q empty �
     let b : length (rs ++ (x ∷ [])) ≤ q = omega (arith, length-append rs (x ∷ [])) in
     List·getD-eq-default (rs ++ (x ∷ [])) empty b ∙ sym (List·getD-eq-default rs empty a))
 
-module _ (laws : Laws) (l : Ledger) (rest : List ℕ) (h : Valid l) where
+module _ (l : Ledger) (rest : List ℕ) (h : Valid l) where
   pub teach-simulated : (k : ℕ) (x : List ℕ) → Typed (teach k x) → Simulated l rest (teach k x)
   unfolding reply refusalsIn refusals granted grantedIn given givenIn recordAt home rankOf
   teach-simulated k x t = record {
-    tests = (refl, refl, λ _. (refl, refl, λ _. (refl, sound-row laws l rest h, λ _. (refl, out-row laws l rest h k,
-        λ e. (refl, rw (rank-home laws l rest h k e, fill-home laws l rest h k e), λ _. (refl, rw (fill-home laws l rest h k e, size-seen laws l rest h), λ _. tt))))));
+    tests = (
+      refl,
+      refl,
+      λ _. (
+        refl,
+        refl,
+        λ _. (
+          refl,
+          sound-row l rest h,
+          λ _. (
+            refl,
+            out-row l rest h k,
+            λ e. (refl, rw (rank-home l rest h k e, fill-home l rest h k e), λ _. (refl, rw (fill-home l rest h k e, size-seen l rest h), λ _. tt)),
+          ),
+        ),
+      ),
+    );
     hands = λ f. refl;
     counts = λ f n z. refl;
-    bytes = λ f. rw (fill-home laws l rest h k (quiet f), home-seen laws l rest h k)
-        (write-home laws l rest h k (quiet f) (length rs) y (rs ++ (y ∷ [])) (room f) (good f) (snoc-at rs y) (snoc-other rs y));
-    valid = λ f. valid-with l u (rs ++ (y ∷ [])) h (home-lt laws l rest h k) (omega (arith, length-append rs (y ∷ []), room f)) (goods f) (keys f) (owns f) (differs f);
+    bytes = λ f. rw (fill-home l rest h k (quiet f), home-seen l rest h k)
+        (write-home l rest h k (quiet f) (length rs) y (rs ++ (y ∷ [])) (room f) (good f) (snoc-at rs y) (snoc-other rs y));
+    valid = λ f. valid-with l u (rs ++ (y ∷ [])) h (home-lt l rest h k) (omega (arith, length-append rs (y ∷ []), room f)) (goods f) (keys f) (owns f) (differs f);
   }
     where
       u : ℕ

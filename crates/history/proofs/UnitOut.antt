@@ -1,11 +1,11 @@
--- Unit out: the unit is marked out and its bytes are zeroed. Assumes the laws of the group layer, as a parameter.
+-- Unit out: the unit is marked out and its bytes are zeroed. Assumes nothing.
 use Prim.Native.Nat.{ℕ, _+_, _*_, _/_, _%_, _<_}
 use mathlib.Core.Path.{_≡_, refl, sym, ap, _∙_}
 use mathlib.Core.List.{List}
 use mathlib.Core.Bool.{Bool, true, false}
 use native.Mathlib.Omega.{arith}
 use lib.Dec.{eqb, ltb}
-use borrow.Author.Tests.{eq-eqb, eqb-true, eqb-false, ltb-false}
+use borrow.Author.Tests.{eqb-true, eqb-false, ltb-false}
 use Rattle.buffer.specs.Choice.{pick}
 use Rattle.buffer.specs.ChoiceLaws.{by-test, by-pick, pick-true, pick-false}
 use Rattle.buffer.specs.TestLaws.{not-both}
@@ -22,7 +22,6 @@ use Rattle.history.specs.Ledger.{Ledger, recordAt, placed, state, withOu
 use Rattle.history.specs.Picture.{recordBytes, pictureSlot, checkOver, pictureCheck, image, picture}
 use Rattle.history.specs.Table.{refusals}
 use Rattle.history.specs.Answers.{given}
-use Rattle.history.proofs.GroupLaws.{Laws}
 use Rattle.history.proofs.Picture.{Valid, seen}
 use Rattle.history.proofs.Seen.{state-seen}
 use Rattle.history.proofs.OneList.{sound-row}
@@ -61,12 +60,12 @@ module _ (l : Ledger) (w : ℕ) (there : eqb (state l w) 0 ≡ false) where
   unfolding pictureCheck recordAt withOut
   check-miss c r n = rw (out-miss (16 + c) n)
 
-  module _ (laws : Laws) (rest : List ℕ) (h : Valid l) where
+  module _ (rest : List ℕ) (h : Valid l) where
     abbrev v : Store
     v = view (picture l rest)
 
     s : Same (view (picture l rest)) (image l rest)
-    s = seen laws l rest (h .good)
+    s = seen l rest (h .good)
 
     out-picture : bytes (unitLost v w) ≡ picture (withOut l w) rest
     unfolding unitLost image withOut upd
@@ -104,15 +103,15 @@ module _ (l : Ledger) (w : ℕ) (there : eqb (state l w) 0 ≡ false) where
       calm = λ i e. upd-other (l .out) w true i (λ d. not-both (ap (placed l) d ∙ in-place) e) ∙ h .calm i e;
     }
 
-module _ (laws : Laws) (l : Ledger) (rest : List ℕ) (h : Valid l) where
+module _ (l : Ledger) (rest : List ℕ) (h : Valid l) where
   pub unitOut-simulated : (w : ℕ) → Simulated l rest (unitOut w)
   unfolding reply refusalsIn refusals granted grantedIn given givenIn
   unitOut-simulated w = record {
-    tests = (refl, refl, λ e. (refl, sound-row laws l rest h, λ _. (refl, rw (state-seen laws l rest h w (low e)), λ _. (refl, rw (state-seen laws l rest h w (low e)), λ _. tt))));
+    tests = (refl, refl, λ e. (refl, sound-row l rest h, λ _. (refl, rw (state-seen l rest h w (low e)), λ _. (refl, rw (state-seen l rest h w (low e)), λ _. tt))));
     hands = λ f. refl;
     counts = λ f n y. refl;
-    bytes = λ f. out-picture l w (f .1 .1 .0) laws rest h;
-    valid = λ f. out-valid l w (f .1 .1 .0) laws rest h;
+    bytes = λ f. out-picture l w (f .1 .1 .0) rest h;
+    valid = λ f. out-valid l w (f .1 .1 .0) rest h;
   }
     where
       low : ltb 27 w ≡ false → w < 28

@@ -1,14 +1,11 @@
--- A unit in service has the same bytes on the picture of a ledger and on that of the same ledger with no unit out. Assumes the laws of the group
--- layer, as a parameter.
-use Prim.Native.Nat.{ℕ, _+_, _*_, _-_, _/_, _%_, _≤_, _<_}
+-- A unit in service has the same bytes on the picture of a ledger and on that of the same ledger with no unit out. Assumes nothing.
+use Prim.Native.Nat.{ℕ, _+_, _-_, _≤_, _<_}
 use mathlib.Core.Path.{_≡_, refl, sym, ap, _∙_}
 use mathlib.Core.List.{List}
-use mathlib.Core.Bool.{Bool}
 use native.Mathlib.Omega.{arith}
-use lib.Dec.{eqb, ltb}
-use borrow.Author.Tests.{eq-eqb, ltb-true, ltb-false}
-use Rattle.buffer.specs.Choice.{pick}
-use Rattle.buffer.specs.ChoiceLaws.{by-test, pick-true, pick-ext}
+use lib.Dec.{ltb}
+use borrow.Author.Tests.{ltb-true, ltb-false}
+use Rattle.buffer.specs.ChoiceLaws.{pick-ext}
 use Rattle.buffer.specs.Table.{tab}
 use Rattle.buffer.specs.TableLaws.{tab-ext}
 use Rattle.model.specs.Layout.{Store, view}
@@ -16,10 +13,8 @@ use Rattle.model.specs.LayoutLaws.{Same}
 use Rattle.history.specs.Ledger.{Ledger, recordAt, placed, state}
 use Rattle.history.specs.Picture.{pictureSlot, pictureCheck, image, picture}
 use Rattle.history.specs.Runs.{unitIn}
-use Rattle.history.proofs.GroupLaws.{Laws}
 use Rattle.history.proofs.Alone.{bare, bare-state}
-use Rattle.history.proofs.Picture.{Goods, Valid, seen}
-use Rattle.history.proofs.Seen.{state-seen}
+use Rattle.history.proofs.Picture.{Valid, seen}
 
 -- ---- the ledger with no unit out
 
@@ -51,7 +46,7 @@ bare-valid l h = record {
   calm = λ w e. refl;
 }
 
-module _ (laws : Laws) (l : Ledger) (rest : List ℕ) (h : Valid l) where
+module _ (l : Ledger) (rest : List ℕ) (h : Valid l) where
   abbrev v : Store
   v = view (picture l rest)
 
@@ -59,10 +54,10 @@ module _ (laws : Laws) (l : Ledger) (rest : List ℕ) (h : Valid l) where
   w = view (picture (bare l) rest)
 
   s : Same (view (picture l rest)) (image l rest)
-  s = seen laws l rest (h .good)
+  s = seen l rest (h .good)
 
   t : Same (view (picture (bare l) rest)) (image (bare l) rest)
-  t = seen laws (bare l) rest (bare-valid l h .good)
+  t = seen (bare l) rest (bare-valid l h .good)
 
   slots : (u : ℕ) → u < 16 → state l u ≡ 1 → tab (v .size) (v .slot u) ≡ tab (w .size) (w .slot u)
   unfolding image bare

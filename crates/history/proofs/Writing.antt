@@ -1,5 +1,5 @@
 -- One slot written, and followed in the check units: on parts that are a ledger's picture this leaves the picture of the ledger with that record.
--- Nothing is asked of the ledger but records that bytes can hold. Assumes the laws of the group layer, as a parameter.
+-- Nothing is asked of the ledger but records that bytes can hold. Assumes nothing.
 use Prim.Native.Nat.{ℕ, _+_, _*_, _/_, _%_, _<_}
 use mathlib.Core.Path.{_≡_, refl, sym, ap, _∙_}
 use mathlib.Core.List.{List}
@@ -22,7 +22,6 @@ use Rattle.model.specs.LayoutLaws.{Same}
 use Rattle.model.specs.Changes.{written}
 use Rattle.history.specs.Ledger.{Rec, Ledger, empty, recordAt, placed, state, withRecords}
 use Rattle.history.specs.Picture.{recordBytes, pictureSlot, checkOver, pictureCheck, image}
-use Rattle.history.proofs.GroupLaws.{Laws}
 use Rattle.history.proofs.Records.{Good, over-ext, patched-over}
 use Rattle.history.proofs.Picture.{Goods}
 
@@ -63,7 +62,7 @@ module _ (l : Ledger) (u r : ℕ) (x : Rec) (rs : List Rec)
   abbrev group : Ledger → ℕ → ℕ → ℕ → Rec
   group k c q p = recordAt k (4 * (c / 3) + p) q
 
-  module _ (laws : Laws) (h : Goods l) (g : Good x) where
+  module _ (h : Goods l) (g : Good x) where
     -- a check record at the rank and of the group
     follows : (c q : ℕ) → c / 3 ≡ u / 4 → q ≡ r
         → patched (c % 3) (u % 4) (take keyBytes (recordBytes x)) (addBody (drop keyBytes (recordBytes (recordAt l u r))) (drop keyBytes (recordBytes x))) (checkOver (c % 3) (group l c q))
@@ -71,7 +70,7 @@ module _ (l : Ledger) (u r : ℕ) (x : Rec) (rs : List Rec)
     follows c q e1 e2 =
         let p : ℕ = u % 4 in
         let k : recordAt l u r ≡ group l c q p = ap (λ (n : ℕ). recordAt l n r) (omega arith) ∙ ap (λ (n : ℕ). recordAt l (4 * (c / 3) + p) n) (sym e2) in
-        rw k (patched-over laws (c % 3) p (group l c q) x (omega arith) (omega arith) (λ i. h (4 * (c / 3) + i) q) g
+        rw k (patched-over (c % 3) p (group l c q) x (omega arith) (omega arith) (λ i. h (4 * (c / 3) + i) q) g
         ∙ over-ext (c % 3) (upd (group l c q) p x) (group m c q) (λ i a. place i a))
       where
         place : (i : ℕ) → i < 4 → upd (group l c q) (u % 4) x i ≡ group m c q i

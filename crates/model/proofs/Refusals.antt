@@ -3,13 +3,13 @@ use Prim.Native.Nat.{ℕ, _≤_}
 use mathlib.Core.Path.{_≡_, refl, sym, ap, ap₂, _∙_}
 use mathlib.Core.Logic.{_≢_}
 use mathlib.Core.List.{List, [], _∷_, _++_}
-use mathlib.Core.Bool.{Bool, true, false, not, _&&_, _||_}
+use mathlib.Core.Bool.{Bool, true, false, not, _||_}
 use native.Mathlib.Omega.{arith}
 use lib.Dec.{eqb, ltb}
 use lib.ListN.{length, drop}
 use borrow.Author.Tests.{ne-eqb}
 use Rattle.buffer.specs.Choice.{pick}
-use Rattle.buffer.specs.ChoiceLaws.{by-pick, by-test, pick-true, pick-false}
+use Rattle.buffer.specs.ChoiceLaws.{by-pick, pick-true, pick-false}
 use Rattle.buffer.specs.TestLaws.{not-both, and-false-first}
 use Rattle.buffer.specs.Bytes.{zeros, part}
 use Rattle.buffer.specs.ByteLaws.{length-zeros}
@@ -18,7 +18,7 @@ use Rattle.model.specs.Layout.{view, storeBytes}
 use Rattle.model.specs.Reads.{totalIn}
 use Rattle.model.specs.Sound.{sound}
 use Rattle.model.specs.Numbers.{Call, teach, correct, erase, read, readInPlace, list, unitOut, repair, grow, shrink, raise, firstOf, refusalsIn, numberIn}
-use Rattle.model.specs.Perform.{Answer, plain, copied, lent, listed, output, reply, placeIn, givenIn, grantedIn, answerIn, afterIn, Outcome, outcome, perform, laidOut, layOutNumber, layOut}
+use Rattle.model.specs.Perform.{plain, copied, lent, listed, output, reply, placeIn, givenIn, grantedIn, answerIn, afterIn, outcome, perform, laidOut, layOutNumber, layOut}
 use Rattle.model.specs.Demand1.{refusal, misuse, missing, Refuses, LayoutRefuses}
 
 -- ---- the numbers are those of the table
