@@ -16,7 +16,7 @@ use Rattle.history.specs.Table.{refusals, number}
 use Rattle.history.specs.Answers.{after, final}
 use Rattle.history.specs.Runs.{lasting}
 use Rattle.history.specs.Claims.{AllTyped}
-use Rattle.history.proofs.Rows.{Free, free-first}
+use Rattle.model.specs.RowLaws.{Free, free-first}
 use Rattle.history.proofs.Granted.{granted-free, granted-after, refused-after}
 
 -- the same ledger with no unit out

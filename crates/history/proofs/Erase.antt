@@ -23,7 +23,7 @@ use Rattle.history.specs.Ledger.{Rec, Ledger, empty, home, recordAt, ran
 use Rattle.history.specs.Picture.{recordBytes, image, picture}
 use Rattle.history.specs.Table.{refusals}
 use Rattle.history.specs.Answers.{given}
-use Rattle.history.proofs.Rows.{Free}
+use Rattle.model.specs.RowLaws.{Free}
 use Rattle.history.proofs.Records.{Good, empty-bytes, empty-good}
 use Rattle.history.proofs.Picture.{Goods, Valid, seen}
 use Rattle.history.proofs.Seen.{home-seen, home-lt, home-low, slot-seen}

@@ -9,7 +9,7 @@ use Rattle.model.specs.Numbers.{Call, teach, correct, erase, read, readInPlace,
 use Rattle.history.specs.Ledger.{Ledger, granted}
 use Rattle.history.specs.Table.{refusals, number}
 use Rattle.history.specs.Answers.{after}
-use Rattle.history.proofs.Rows.{Free, Numbered, first-free}
+use Rattle.model.specs.RowLaws.{Free, Numbered, first-free}
 
 pub numbered : (l : Ledger) (c : Call) → Numbered (refusals l c)
 unfolding refusals

@@ -17,6 +17,7 @@ use Rattle.buffer.specs.Table.{upd}
 use Rattle.group.specs.Widths.{slotBytes, checkBytes}
 use Rattle.group.specs.CheckRecord.{checkRecord}
 use Rattle.model.specs.Units.{splitPointer, unitOf, moves, touched}
+use Rattle.model.specs.UnitLaws.{split-below}
 use Rattle.model.specs.Layout.{Store, bytes, view, keyOf, frontOf}
 use Rattle.model.specs.LayoutLaws.{Same, bytes-ext}
 use Rattle.model.specs.Numbers.{grow, refusalsIn}
@@ -31,7 +32,7 @@ use Rattle.history.proofs.Picture.{Valid, seen}
 use Rattle.history.proofs.Seen.{slot-kept, units-seen, level-seen, outs-seen, serving}
 use Rattle.history.proofs.RecordsSeen.{records-seen}
 use Rattle.history.proofs.Shared.{wording}
-use Rattle.history.proofs.Split.{split-lt, not-moves}
+use Rattle.history.proofs.Split.{not-moves}
 use Rattle.history.proofs.Dealt.{keep-ext, keep-map}
 use Rattle.history.proofs.Touched.{by-either, data-state, check-state, is-touched, not-touched, quiet-data, quiet-check}
 use Rattle.history.proofs.OneList.{sound-row}
@@ -65,7 +66,7 @@ module _ (l : Ledger) (rest : List ℕ) (h : Valid l) (top : l .units ≤ 15)
   s = seen l rest (h .good)
 
   before : n < m
-  before = split-lt m (h .some) (h .few)
+  before = split-below m (h .some)
 
   here : state l n ≡ 1
   here = serving l rest h n before old
@@ -230,7 +231,7 @@ grow-simulated l rest h = record {
             refl,
             rw (outs-seen l rest h (l .units / 4) (omega arith)),
             λ _.
-                (refl, rw (outs-seen l rest h (splitPointer (l .units) / 4) (omega (arith, split-lt (l .units) (h .some) (h .few)))), λ _. tt),
+                (refl, rw (outs-seen l rest h (splitPointer (l .units) / 4) (omega (arith, split-below (l .units) (h .some)))), λ _. tt),
           ),
     ),
   );

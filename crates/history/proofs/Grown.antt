@@ -12,11 +12,12 @@ use borrow.Author.Tests.{eqb-true, ltb-true, ltb-false, le-ltb}
 use Rattle.buffer.specs.Choice.{pick}
 use Rattle.buffer.specs.ChoiceLaws.{by-test}
 use Rattle.model.specs.Units.{splitPointer, unitOf}
+use Rattle.model.specs.UnitLaws.{split-below}
 use Rattle.model.specs.Changes.{keep}
 use Rattle.history.specs.Ledger.{Rec, empty, Ledger, recordAt, placed, grownLedger}
 use Rattle.history.proofs.Records.{Good, empty-good}
 use Rattle.history.proofs.Picture.{Valid}
-use Rattle.history.proofs.Split.{split-lt, other-key}
+use Rattle.history.proofs.Split.{other-key}
 use Rattle.history.proofs.Dealt.{keep-all, keep-length, keep-differ}
 use Rattle.history.proofs.Touched.{by-either}
 
@@ -45,7 +46,7 @@ fewer a m n i e = le-ltb a m (omega (arith, ltb-false a n e))
 
 module _ (l : Ledger) (h : Valid l) (top : l .units ≤ 15) where
   before : splitPointer (l .units) < l .units
-  before = split-lt (l .units) (h .some) (h .few)
+  before = split-below (l .units) (h .some)
 
   -- what holds of each record, and of a missing one, holds of those dealt to a unit
   dealt-all : (P : Rec → Type 0) → ((r : ℕ) → P (recordAt l (splitPointer (l .units)) r)) → P empty → (u r : ℕ) → P (getD (dealtTo l u) r empty)

@@ -1,4 +1,3 @@
-pub mod Rows
 pub mod Granted
 pub mod Alone
 pub mod Shared

@@ -18,7 +18,7 @@ use Rattle.model.specs.Layout.{bytes, storeBytes, frontOf}
 use Rattle.model.specs.Perform.{laidOut, layOutNumber, layOut}
 use Rattle.history.specs.Ledger.{opened, recordAt, placed, state}
 use Rattle.history.specs.Picture.{pictureSlot, pictureCheck, image, picture}
-use Rattle.history.proofs.Rows.{Free, first-free}
+use Rattle.model.specs.RowLaws.{Free, first-free}
 use Rattle.history.proofs.Records.{empty-bytes, empty-good, over-empty}
 use Rattle.history.proofs.Picture.{Valid}
 

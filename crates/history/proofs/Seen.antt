@@ -16,6 +16,7 @@ use Rattle.buffer.specs.Bytes.{byte, bytes32, zeros}
 use Rattle.group.specs.Widths.{slotBytes}
 use Rattle.group.specs.Members.{outs, checks, beyond}
 use Rattle.model.specs.Units.{unitOf}
+use Rattle.model.specs.UnitLaws.{unit-below}
 use Rattle.model.specs.Layout.{Store, view, unitsIn, levelIn, keyOf, frontOf}
 use Rattle.model.specs.LayoutLaws.{Same}
 use Rattle.model.specs.Reads.{homeIn, fillIn, rankIn, stateIn, outsIn, beyondIn}
@@ -23,7 +24,6 @@ use Rattle.history.specs.Ledger.{Rec, Ledger, empty, home, recordAt, ran
 use Rattle.history.specs.Picture.{recordBytes, pictureSlot, image, picture}
 use Rattle.history.proofs.Records.{key-record, empty-bytes}
 use Rattle.history.proofs.Picture.{Valid, seen}
-use Rattle.history.proofs.Split.{unitOf-lt}
 use Rattle.history.proofs.States.{state-out, state-in, state-placed, placed-unit, unit-serving}
 
 -- a rank behind the records
@@ -80,7 +80,7 @@ module _ (l : Ledger) (rest : List ℕ) (h : Valid l) where
 
   pub home-lt : (k : ℕ) → home l k < l .units
   unfolding home
-  home-lt k = unitOf-lt (l .units) k (h .some) (h .few)
+  home-lt k = unit-below (l .units) k (h .some)
 
   pub home-low : (k : ℕ) → home l k < 16
   home-low k = omega (arith, home-lt k, h .few)

@@ -13,11 +13,12 @@ use Rattle.buffer.specs.Choice.{pick}
 use Rattle.buffer.specs.ChoiceLaws.{by-test, by-pick, pick-false}
 use Rattle.buffer.specs.TestLaws.{ltb-suc}
 use Rattle.model.specs.Units.{splitPointer, unitOf}
+use Rattle.model.specs.UnitLaws.{split-below}
 use Rattle.history.specs.Ledger.{Rec, empty, Ledger, recordAt, placed, outsOf, shrunkLedger}
 use Rattle.history.proofs.Records.{Good, empty-good}
 use Rattle.history.proofs.Picture.{Valid}
 use Rattle.history.proofs.States.{placed-unit, placed-check}
-use Rattle.history.proofs.Split.{split-lt, new-key, old-key}
+use Rattle.history.proofs.Split.{new-key, old-key}
 use Rattle.history.proofs.Dealt.{joint}
 use Rattle.history.proofs.Touched.{is-touched, quiet-data, quiet-check}
 
@@ -41,7 +42,7 @@ module _ (l : Ledger) (h : Valid l) (m : ℕ) (is : l .units ≡ suc m) (pos : 1
   top = omega (arith, h .few)
 
   pub before : splitPointer m < m
-  before = split-lt m pos (omega (arith, top))
+  before = split-below m pos
 
   -- ---- lists
 

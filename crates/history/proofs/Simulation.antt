@@ -16,7 +16,7 @@ use Rattle.history.specs.Ledger.{Ledger, total, granted}
 use Rattle.history.specs.Picture.{picture}
 use Rattle.history.specs.Table.{refusals, number}
 use Rattle.history.specs.Answers.{given, answer, after}
-use Rattle.history.proofs.Rows.{Agree, Free, agree-first}
+use Rattle.model.specs.RowLaws.{Agree, Free, agree-first}
 use Rattle.history.proofs.Granted.{granted-free, granted-after, refused-after}
 use Rattle.history.proofs.Picture.{Valid}
 

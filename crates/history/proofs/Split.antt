@@ -4,13 +4,14 @@ use mathlib.Core.Path.{_≡_, refl, sym, ap, _∙_}
 use mathlib.Core.Logic.{_⊎_, inl, inr, ⊎-elim}
 use mathlib.Core.Bool.{Bool, true, false, not}
 use native.Mathlib.Omega.{arith}
-use native.Mathlib.Nat.{mod-lt, mul-le-mul-right}
+use native.Mathlib.Nat.{mod-lt}
 use lib.Arith.{mod-mul}
 use lib.Dec.{eqb, ltb}
 use borrow.Author.Tests.{lt-ltb, le-ltb, ltb-true, ltb-false, eqb-true, eq-eqb, ne-eqb}
 use Rattle.buffer.specs.Choice.{pick}
-use Rattle.buffer.specs.ChoiceLaws.{by-pick, pick-true, pick-false}
+use Rattle.buffer.specs.ChoiceLaws.{pick-true, pick-false}
 use Rattle.model.specs.Units.{powerBelow, splitPointer, unitOf, moves}
+use Rattle.model.specs.UnitLaws.{split-below, unit-below}
 use Rattle.history.proofs.Shared.{Power, power-of}
 
 -- the bounds of 2^j
@@ -23,11 +24,6 @@ pub bounds : (m : ℕ) → 1 ≤ m → m ≤ 16 → Bounds m
 bounds m a b =
     let p : Power m = power-of m a b in
     record { some = omega arith; below = omega arith; above = omega arith }
-
--- the split unit stands before the new one
-pub split-lt : (m : ℕ) → 1 ≤ m → m ≤ 16 → splitPointer m < m
-unfolding splitPointer
-split-lt m a b = let p : Bounds m = bounds m a b in omega arith
 
 split-whole : (m : ℕ) → 1 ≤ m → m ≤ 16 → powerBelow m + splitPointer m ≡ m
 unfolding splitPointer
@@ -118,23 +114,6 @@ unitOf-grow m k lo hi = go (step (powerBelow m) (splitPointer m) k (b .some))
     go (inl s) = inl (at-next m k lo hi ∙ s ∙ sym (at-now m k lo))
     go (inr s) = inr (at-now m k lo ∙ s .0, at-next m k lo hi ∙ s .1 ∙ split-whole m lo (omega arith))
 
--- each key has its unit below m
-pub unitOf-lt : (m k : ℕ) → 1 ≤ m → m ≤ 16 → unitOf m k < m
-unfolding unitOf splitPointer
-unitOf-lt m k lo hi =
-    by-pick (λ u. u < m) (ltb (k % p) (m - p)) (k % (2 * p)) (k % p)
-    (λ e.
-    let a : k / p % 2 ≤ 1 = omega arith in
-    let c : k / p % 2 * p ≤ 1 * p = mul-le-mul-right p a in
-    omega (arith, mod-mul k {m = 2} {c = p} (omega arith) (b .some), ltb-true (k % p) (m - p) e, b))
-    (λ e. omega (arith, mod-lt k (b .some), b))
-  where
-    p : ℕ
-    p = powerBelow m
-
-    b : Bounds m
-    b = bounds m lo hi
-
 -- ---- what it says of a key of the split unit, and of any other; forwards for grow, backwards for shrink
 
 module _ (m k : ℕ) (lo : 1 ≤ m) (hi : m ≤ 15) where
@@ -155,11 +134,11 @@ module _ (m k : ℕ) (lo : 1 ≤ m) (hi : m ≤ 15) where
       (split-key n)
     where
       apart : splitPointer m ≡ m → ⊥
-      apart e = omega (arith, split-lt m lo (omega arith))
+      apart e = omega (arith, split-below m lo)
 
   -- a key of the new unit came from the split one, and a key of any other unit was there before
   pub new-key : unitOf (suc m) k ≡ m → unitOf m k ≡ splitPointer m
-  new-key n = ⊎-elim (λ e. absurd (omega (arith, unitOf-lt m k lo (omega arith)))) (λ e. e .0) (unitOf-grow m k lo hi)
+  new-key n = ⊎-elim (λ e. absurd (omega (arith, unit-below m k lo))) (λ e. e .0) (unitOf-grow m k lo hi)
 
   pub old-key : (unitOf (suc m) k ≡ m → ⊥) → unitOf m k ≡ unitOf (suc m) k
   old-key d = ⊎-elim (λ e. sym e) (λ e. absurd (d (e .1))) (unitOf-grow m k lo hi)

@@ -14,15 +14,16 @@ use Rattle.buffer.specs.ChoiceLaws.{by-test, by-pick, pick-true, pick-false, pi
 use Rattle.buffer.specs.TestLaws.{not-both, and-false-first}
 use Rattle.buffer.specs.Table.{upd}
 use Rattle.model.specs.Units.{splitPointer, unitOf}
+use Rattle.model.specs.UnitLaws.{split-below, unit-below}
 use Rattle.model.specs.Numbers.{Call, teach, correct, erase, read, readInPlace, list, unitOut, repair, grow, shrink, raise}
 use Rattle.model.specs.Changes.{keep}
 use Rattle.history.specs.Ledger.{Rec, empty, Ledger, home, recordAt, rankOf, withRecords, withOut, withIn, grownLedger, shrunkLedger, raisedLedger, granted}
 use Rattle.history.specs.Table.{refusals, number}
 use Rattle.history.specs.Answers.{after}
 use Rattle.history.specs.Runs.{Taught, absent, present, taughtBy}
-use Rattle.history.proofs.Rows.{Free}
+use Rattle.model.specs.RowLaws.{Free}
 use Rattle.history.proofs.Granted.{granted-free, granted-after, refused-after}
-use Rattle.history.proofs.Split.{split-lt, unitOf-lt, other-key, split-key, new-key, old-key}
+use Rattle.history.proofs.Split.{other-key, split-key, new-key, old-key}
 use Rattle.history.proofs.Seek.{seek, Different, Without, orElse, or-absent, absent-or, seek-append, seek-keep, seek-miss, seek-hit, rank-key, rank-without}
 use Rattle.history.proofs.Changed.{set-seek, set-other, cut, cut-seek, cut-other}
 
@@ -174,7 +175,7 @@ module _ (l : Ledger) (h : Ordered l) (k : ℕ) where
   stand-shrunk : (m : ℕ) → l .units ≡ suc m → 1 ≤ m → stand (shrunkLedger l m) k ≡ stand l k
   unfolding stand home shrunkLedger
   stand-shrunk m is pos =
-      ap (λ (xs : List Rec). seek xs k) (pick-false (ne-eqb u m (omega (arith, unitOf-lt m k pos (omega (arith, top))))) [] (pick (eqb u n) (l .records n ++ l .records m) (l .records u)))
+      ap (λ (xs : List Rec). seek xs k) (pick-false (ne-eqb u m (omega (arith, unit-below m k pos))) [] (pick (eqb u n) (l .records n ++ l .records m) (l .records u)))
       ∙ rw is (by-pick
       (λ (xs : List Rec). seek xs k ≡ seek (l .records (unitOf (suc m) k)) k)
       (eqb u n)
@@ -193,7 +194,7 @@ module _ (l : Ledger) (h : Ordered l) (k : ℕ) where
       top = omega (arith, h .few)
 
       apart : n ≡ m → ⊥
-      apart e = omega (arith, split-lt m pos (omega (arith, top)))
+      apart e = omega (arith, split-below m pos)
 
       -- a unit that is not the key's own has no record of it
       elsewhere : (v : ℕ) → (unitOf (suc m) k ≡ v → ⊥) → seek (l .records v) k ≡ absent

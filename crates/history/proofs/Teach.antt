@@ -18,7 +18,7 @@ use Rattle.history.specs.Ledger.{Rec, Ledger, empty, home, recordAt, ran
 use Rattle.history.specs.Table.{refusals}
 use Rattle.history.specs.Answers.{given}
 use Rattle.history.specs.Claims.{Typed}
-use Rattle.history.proofs.Rows.{Free}
+use Rattle.model.specs.RowLaws.{Free}
 use Rattle.history.proofs.Records.{Good}
 use Rattle.history.proofs.Picture.{Valid}
 use Rattle.history.proofs.Seen.{size-seen, home-seen, home-lt}
