@@ -34,7 +34,8 @@ use Rattle.history.proofs.RecordsSeen.{records-seen}
 use Rattle.history.proofs.Shared.{wording}
 use Rattle.history.proofs.Split.{not-moves}
 use Rattle.history.proofs.Dealt.{keep-ext, keep-map}
-use Rattle.history.proofs.Touched.{by-either, data-state, check-state, is-touched, not-touched, quiet-data, quiet-check}
+use Rattle.history.proofs.States.{data-state, check-state}
+use Rattle.history.proofs.Touched.{by-either, is-touched, not-touched, quiet-data, quiet-check}
 use Rattle.history.proofs.OneList.{sound-row}
 use Rattle.history.proofs.Simulation.{Simulated}
 use Rattle.history.proofs.Grown.{goesTo, dealtTo, by-dealt, fewer, more-checks, valid-grown}

@@ -3,6 +3,7 @@ pub mod Alone
 pub mod Shared
 pub mod Split
 pub mod Dealt
+pub mod States
 pub mod Touched
 pub mod Seek
 pub mod Changed
@@ -10,7 +11,6 @@ pub mod Stand
 pub mod Taught
 pub mod Records
 pub mod Picture
-pub mod States
 pub mod Seen
 pub mod Writing
 pub mod Listed

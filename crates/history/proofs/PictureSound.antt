@@ -25,7 +25,7 @@ use Rattle.history.specs.Ledger.{Ledger, recordAt, isOut, state}
 use Rattle.history.specs.Picture.{recordBytes, pictureSlot, pictureCheck, image, picture}
 use Rattle.history.proofs.Records.{empty-bytes, listed-over}
 use Rattle.history.proofs.Picture.{Valid, seen, image-shaped}
-use Rattle.history.proofs.States.{placed-unit, state-check}
+use Rattle.history.proofs.States.{data-state, check-state}
 use Rattle.history.proofs.Seen.{past, fill-is, size-seen, units-seen, level-seen, dstate-is, cstate-is, dstate-out, fill-seen}
 use Rattle.history.proofs.Listed.{Kept, check-kept, key-kept, key-known, no-key, fill-known}
 
@@ -134,17 +134,20 @@ module _ (l : Ledger) (rest : List ℕ) (h : Valid l) where
   -- ---- units in place
 
   units-true : unitsPlaced v ≡ true
-  unfolding unitsPlaced state
-  units-true = rw (units-seen l rest h) (all-holds 16 _ (λ u a. rw (dstate-is l rest h u a, placed-unit l u a) (state-fits (ltb u (l .units)) (l .out u))))
+  unfolding unitsPlaced
+  units-true = rw (units-seen l rest h) (all-holds 16 _ (λ u a. rw (dstate-is l rest h u a, data-state l u a) (state-fits (ltb u (l .units)) (l .out u))))
 
-  check-state : (g j : ℕ) → g < 4 → j < 3 → v .cstate (3 * g + j) ≡ pick (ltb j (l .checks g)) (pick (l .out (16 + (3 * g + j))) 2 1) 0
-  check-state g j a b = cstate-is l rest h (3 * g + j) (omega arith) ∙ state-check l g j b
+  place-state : (g j : ℕ) → g < 4 → j < 3 → v .cstate (3 * g + j) ≡ pick (ltb j (l .checks g)) (pick (l .out (16 + (3 * g + j))) 2 1) 0
+  place-state g j a b =
+      let d : (3 * g + j) / 3 ≡ g = omega arith in
+      let m : (3 * g + j) % 3 ≡ j = omega arith in
+      cstate-is l rest h (3 * g + j) (omega arith) ∙ check-state l (3 * g + j) ∙ rw (d, m)
 
   checks-seen : (g : ℕ) → g < 4 → checksIn v g ≡ l .checks g
   unfolding checksIn
   checks-seen g a = fill-is 3 (l .checks g) (λ j. eqb (v .cstate (3 * g + j)) 0) (omega (arith, h .capped g, h .topped))
-      (λ j b. rw (check-state g j a (omega (arith, h .capped g, h .topped)), lt-ltb j (l .checks g) b) (state-there (l .out (16 + (3 * g + j)))))
-      (λ b. rw (check-state g (l .checks g) a b, le-ltb (l .checks g) (l .checks g) (le-refl (l .checks g))) (state-none (l .out (16 + (3 * g + l .checks g)))))
+      (λ j b. rw (place-state g j a (omega (arith, h .capped g, h .topped)), lt-ltb j (l .checks g) b) (state-there (l .out (16 + (3 * g + j)))))
+      (λ b. rw (place-state g (l .checks g) a b, le-ltb (l .checks g) (l .checks g) (le-refl (l .checks g))) (state-none (l .out (16 + (3 * g + l .checks g)))))
 
   groups-true : groupsPlaced v ≡ true
   unfolding groupsPlaced checksAllowed
@@ -154,7 +157,7 @@ module _ (l : Ledger) (rest : List ℕ) (h : Valid l) where
       (by-pick (λ (t : Bool). t ≡ true) (ltb (4 * g) (l .units)) _ _
       (λ e. and-true (le-leb 1 (l .checks g) (h .manned g (ltb-true (4 * g) (l .units) e))) (le-leb (l .checks g) (l .level) (h .capped g)))
       (λ e. eq-eqb (l .checks g) 0 (h .unmanned g (ltb-false (4 * g) (l .units) e))))
-      (all-holds 3 _ (λ j b. rw (check-state g j a b) (state-fits (ltb j (l .checks g)) (l .out (16 + (3 * g + j)))))))))
+      (all-holds 3 _ (λ j b. rw (place-state g j a b) (state-fits (ltb j (l .checks g)) (l .out (16 + (3 * g + j)))))))))
 
   -- ---- zeros
 

@@ -24,7 +24,7 @@ use Rattle.history.specs.Ledger.{Rec, Ledger, empty, home, recordAt, ran
 use Rattle.history.specs.Picture.{recordBytes, pictureSlot, image, picture}
 use Rattle.history.proofs.Records.{key-record, empty-bytes}
 use Rattle.history.proofs.Picture.{Valid, seen}
-use Rattle.history.proofs.States.{state-out, state-in, state-placed, placed-unit, unit-serving}
+use Rattle.history.proofs.States.{state-out, state-in, state-placed, placed-unit, data-kept}
 
 -- a rank behind the records
 pub past : (l : Ledger) (u r : ℕ) → length (l .records u) ≤ r → recordAt l u r ≡ empty
@@ -129,7 +129,7 @@ module _ (l : Ledger) (rest : List ℕ) (h : Valid l) where
 
   -- a unit of a group with none out is in service
   pub serving : (u : ℕ) → u < l .units → ltb 0 (outsOf l (u / 4)) ≡ false → state l u ≡ 1
-  serving u a e = unit-serving l u (there u a) e
+  serving u a e = state-in l u (there u a) (data-kept l u e)
 
   module _ (u : ℕ) (hu : u < 16) (here : state l u ≡ 1) where
     pub slot-seen : (r : ℕ) → r < l .size → v .slot u r ≡ recordBytes (recordAt l u r)

@@ -32,7 +32,8 @@ use Rattle.history.proofs.Picture.{Valid, seen}
 use Rattle.history.proofs.Seen.{slot-kept, size-seen, units-seen, outs-seen, serving, fill-seen}
 use Rattle.history.proofs.RecordsSeen.{records-seen}
 use Rattle.history.proofs.Shared.{wording}
-use Rattle.history.proofs.Touched.{data-state, check-state, is-touched, not-touched, quiet-data}
+use Rattle.history.proofs.States.{data-state, check-state}
+use Rattle.history.proofs.Touched.{is-touched, not-touched, quiet-data}
 use Rattle.history.proofs.OneList.{sound-row}
 use Rattle.history.proofs.Simulation.{Simulated}
 use Rattle.history.proofs.Shrunk.{bothLists, by-merged, before, checks-gone, checks-kept, valid-shrunk}

@@ -137,9 +137,7 @@ module _ (l : Ledger) (h : Valid l) (m : ℕ) (is : l .units ≡ suc m) (pos : 1
     calm-check c e =
         by-test (λ (t : Bool). l .out (16 + c) ≡ false) (eqb (4 * (c / 3)) m)
         (λ d. let f : 4 * (c / 3) ≡ m = eqb-true (4 * (c / 3)) m d in quiet-check l (h .calm) m new old c (is-touched m (c / 3) (inl (omega arith))))
-        (λ d.
-        let q : 16 + c ≡ 16 + (3 * (c / 3) + c % 3) = omega arith in
-        h .calm (16 + c) (ap (placed l) q ∙ placed-check l (c / 3) (c % 3) (omega arith) ∙ ap (ltb (c % 3)) (sym (checks-kept (c / 3) (eqb-false (4 * (c / 3)) m d))) ∙ e))
+        (λ d. h .calm (16 + c) (placed-check l c ∙ ap (ltb (c % 3)) (sym (checks-kept (c / 3) (eqb-false (4 * (c / 3)) m d))) ∙ e))
 
     calm-shrunk : (w : ℕ) → placed (shrunkLedger l m) w ≡ false → l .out w ≡ false
     unfolding placed pick

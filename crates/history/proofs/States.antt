@@ -54,22 +54,24 @@ module _ (l : Ledger) where
       go true false e f = refl
       go false o e f = not-both e refl
 
-  -- a data unit, and the check unit at a place of a group
+  -- a data unit, and a check unit
   pub placed-unit : (u : ℕ) → u < 16 → placed l u ≡ ltb u (l .units)
   unfolding placed pick
   placed-unit u a = rw (lt-ltb u 16 a)
 
-  pub placed-check : (g j : ℕ) → j < 3 → placed l (16 + (3 * g + j)) ≡ ltb j (l .checks g)
+  pub placed-check : (c : ℕ) → placed l (16 + c) ≡ ltb (c % 3) (l .checks (c / 3))
   unfolding placed pick
-  placed-check g j a =
-      let e : 16 + (3 * g + j) - 16 ≡ 3 * g + j = omega arith in
-      let d : (3 * g + j) / 3 ≡ g = omega arith in
-      let m : (3 * g + j) % 3 ≡ j = omega arith in
-      rw (le-ltb (16 + (3 * g + j)) 16 (omega arith), e, d, m)
+  placed-check c =
+      let e : 16 + c - 16 ≡ c = omega arith in
+      rw (le-ltb (16 + c) 16 (omega arith), e)
 
-  pub state-check : (g j : ℕ) → j < 3 → state l (16 + (3 * g + j)) ≡ pick (ltb j (l .checks g)) (pick (l .out (16 + (3 * g + j))) 2 1) 0
+  pub data-state : (u : ℕ) → u < 16 → state l u ≡ pick (ltb u (l .units)) (pick (l .out u) 2 1) 0
   unfolding state
-  state-check g j a = rw (placed-check g j a)
+  data-state u a = rw (placed-unit u a)
+
+  pub check-state : (c : ℕ) → state l (16 + c) ≡ pick (ltb (c % 3) (l .checks (c / 3))) (pick (l .out (16 + c)) 2 1) 0
+  unfolding state
+  check-state c = rw (placed-check c)
 
   -- of n units, those in service and those out are those in place
   pub serving-count : (n : ℕ) (w : ℕ → ℕ) → count n (λ j. eqb (state l (w j)) 1) + count n (λ j. isOut l (w j)) ≡ count n (λ j. placed l (w j))
@@ -81,12 +83,21 @@ module _ (l : Ledger) where
       go true false = refl
       go false o = refl
 
-  -- a group with no unit out
-  none-out : (g : ℕ) → ltb 0 (outsOf l g) ≡ false → count 4 (λ p. isOut l (4 * g + p)) ≡ 0
+  -- a group with no unit out: no data unit, and no check unit
+  none-data : (g : ℕ) → ltb 0 (outsOf l g) ≡ false → count 4 (λ p. isOut l (4 * g + p)) ≡ 0
   unfolding outsOf
-  none-out g e = omega (arith, ltb-false 0 (outsOf l g) e)
+  none-data g e = omega (arith, ltb-false 0 (outsOf l g) e)
 
-  pub unit-serving : (u : ℕ) → placed l u ≡ true → ltb 0 (outsOf l (u / 4)) ≡ false → state l u ≡ 1
-  unit-serving u a e =
+  none-check : (g : ℕ) → ltb 0 (outsOf l g) ≡ false → count 3 (λ j. isOut l (16 + (3 * g + j))) ≡ 0
+  unfolding outsOf
+  none-check g e = omega (arith, ltb-false 0 (outsOf l g) e)
+
+  pub data-kept : (u : ℕ) → ltb 0 (outsOf l (u / 4)) ≡ false → isOut l u ≡ false
+  data-kept u e =
       let d : u ≡ 4 * (u / 4) + u % 4 = omega arith in
-      state-in u a (ap (isOut l) d ∙ count-zero 4 (λ p. isOut l (4 * (u / 4) + p)) (none-out (u / 4) e) (u % 4) (omega arith))
+      ap (isOut l) d ∙ count-zero 4 (λ p. isOut l (4 * (u / 4) + p)) (none-data (u / 4) e) (u % 4) (omega arith)
+
+  pub check-kept : (c : ℕ) → ltb 0 (outsOf l (c / 3)) ≡ false → isOut l (16 + c) ≡ false
+  check-kept c e =
+      let d : c ≡ 3 * (c / 3) + c % 3 = omega arith in
+      ap (λ (k : ℕ). isOut l (16 + k)) d ∙ count-zero 3 (λ j. isOut l (16 + (3 * (c / 3) + j))) (none-check (c / 3) e) (c % 3) (omega arith)

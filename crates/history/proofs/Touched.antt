@@ -1,30 +1,16 @@
 -- The two groups that grow and shrink touch: none of their units is out. Assumes that a unit which is not in place is not marked out.
-use Prim.Native.Nat.{ℕ, _+_, _*_, _-_, _/_, _%_, _<_}
+use Prim.Native.Nat.{ℕ, _+_, _*_, _/_, _<_}
 use mathlib.Core.Path.{_≡_, refl, ap, _∙_}
 use mathlib.Core.Logic.{_⊎_, inl, inr, ⊎-elim}
 use mathlib.Core.Bool.{Bool, true, false, _&&_, _||_}
 use native.Mathlib.Omega.{arith}
 use lib.Dec.{eqb, ltb}
-use borrow.Author.Tests.{eqb-true, eqb-false, ltb-false, lt-ltb, le-ltb}
-use Rattle.buffer.specs.Choice.{pick}
+use borrow.Author.Tests.{eqb-true, eqb-false}
 use Rattle.buffer.specs.ChoiceLaws.{by-test}
-use Rattle.buffer.specs.Range.{count}
-use Rattle.buffer.specs.RangeLaws.{count-zero}
 use Rattle.buffer.specs.TestLaws.{not-both}
 use Rattle.model.specs.Units.{splitPointer, touched}
-use Rattle.history.specs.Ledger.{Ledger, placed, isOut, state, outsOf}
-
--- ---- the state of a data unit, and of a check unit
-
-pub data-state : (l : Ledger) (u : ℕ) → u < 16 → state l u ≡ pick (ltb u (l .units)) (pick (l .out u) 2 1) 0
-unfolding state placed pick
-data-state l u a = rw (lt-ltb u 16 a)
-
-pub check-state : (l : Ledger) (c : ℕ) → state l (16 + c) ≡ pick (ltb (c % 3) (l .checks (c / 3))) (pick (l .out (16 + c)) 2 1) 0
-unfolding state placed pick
-check-state l c =
-    let e : 16 + c - 16 ≡ c = omega arith in
-    rw (le-ltb (16 + c) 16 (omega arith), e)
+use Rattle.history.specs.Ledger.{Ledger, placed, isOut, outsOf}
+use Rattle.history.proofs.States.{data-kept, check-kept}
 
 -- ---- which units a group has
 
@@ -63,20 +49,8 @@ module _ (l : Ledger) (calm : (w : ℕ) → placed l w ≡ false → l .out w �
       go true q e = e
       go false q e = calm w q
 
-  none-data : (g : ℕ) → ltb 0 (outsOf l g) ≡ false → count 4 (λ p. isOut l (4 * g + p)) ≡ 0
-  unfolding outsOf
-  none-data g e = omega (arith, ltb-false 0 (outsOf l g) e)
-
-  none-check : (g : ℕ) → ltb 0 (outsOf l g) ≡ false → count 3 (λ j. isOut l (16 + (3 * g + j))) ≡ 0
-  unfolding outsOf
-  none-check g e = omega (arith, ltb-false 0 (outsOf l g) e)
-
   pub quiet-data : (u : ℕ) → touched m (u / 4) ≡ true → l .out u ≡ false
-  quiet-data u e =
-      let d : u ≡ 4 * (u / 4) + u % 4 = omega arith in
-      quiet u (ap (isOut l) d ∙ count-zero 4 (λ p. isOut l (4 * (u / 4) + p)) (none-data (u / 4) (touched-quiet (u / 4) e)) (u % 4) (omega arith))
+  quiet-data u e = quiet u (data-kept l u (touched-quiet (u / 4) e))
 
   pub quiet-check : (c : ℕ) → touched m (c / 3) ≡ true → l .out (16 + c) ≡ false
-  quiet-check c e =
-      let d : c ≡ 3 * (c / 3) + c % 3 = omega arith in
-      quiet (16 + c) (ap (λ (k : ℕ). isOut l (16 + k)) d ∙ count-zero 3 (λ j. isOut l (16 + (3 * (c / 3) + j))) (none-check (c / 3) (touched-quiet (c / 3) e)) (c % 3) (omega arith))
+  quiet-check c e = quiet (16 + c) (check-kept l c (touched-quiet (c / 3) e))
