@@ -7,32 +7,21 @@ use mathlib.Core.Bool.{Bool, true, false, not, _||_}
 use native.Mathlib.Omega.{arith}
 use lib.Dec.{eqb, ltb}
 use lib.ListN.{length, drop}
-use borrow.Author.Tests.{ne-eqb}
-use Rattle.buffer.specs.Choice.{pick}
-use Rattle.buffer.specs.ChoiceLaws.{by-pick, pick-true, pick-false}
+use borrow.Author.Tests.{ne-eqb, lt-ltb}
+use Rattle.buffer.specs.ChoiceLaws.{pick-true, pick-false}
 use Rattle.buffer.specs.TestLaws.{not-both, and-false-first}
 use Rattle.buffer.specs.Bytes.{zeros, part}
 use Rattle.buffer.specs.ByteLaws.{length-zeros}
 use Rattle.group.specs.Widths.{bodyBytes}
 use Rattle.model.specs.Layout.{view, storeBytes}
-use Rattle.model.specs.Reads.{totalIn}
+use Rattle.model.specs.Reads.{lostIn, totalIn}
 use Rattle.model.specs.Sound.{sound}
 use Rattle.model.specs.Numbers.{Call, teach, correct, erase, read, readInPlace, list, unitOut, repair, grow, shrink, raise, firstOf, refusalsIn, numberIn}
+use Rattle.model.specs.RowLaws.{Low, low-first, row-holds, row-fails, row-pair}
 use Rattle.model.specs.Perform.{plain, copied, lent, listed, output, reply, placeIn, givenIn, grantedIn, answerIn, afterIn, outcome, perform, laidOut, layOutNumber, layOut}
-use Rattle.model.specs.Demand1.{refusal, misuse, missing, Refuses, LayoutRefuses}
+use Rattle.model.specs.Demand1.{refusal, misuse, missing, tooShort, Refuses, LayoutRefuses}
 
 -- ---- the numbers are those of the table
-
-abbrev Low : List (Bool × ℕ) → Type 0
-Low [] = Unit {0}
-Low (t ∷ ts) = (t .1 ≤ 9) × Low ts
-
-low-first : (ts : List (Bool × ℕ)) → Low ts → firstOf ts ≤ 9
-unfolding firstOf
-low-first [] h = omega arith
-low-first (t ∷ ts) h =
-    let rest : firstOf ts ≤ 9 = low-first ts (h .1) in
-    by-pick (λ (n : ℕ). n ≤ 9) (t .0) (t .1) (firstOf ts) (λ e. h .0) (λ e. rest)
 
 low-rows : (ok : Bool) (s : List ℕ) (c : Call) → Low (refusalsIn ok (view s) c)
 unfolding refusalsIn
@@ -51,22 +40,6 @@ low-rows ok s raise = (omega arith, (omega arith, (omega arith, (omega arith, tt
 number-low : (s : List ℕ) (c : Call) → numberIn s c ≤ 9
 unfolding numberIn
 number-low s c = low-first (refusalsIn (sound s) (view s) c) (low-rows (sound s) s c)
-
--- ---- the first rows
-
-row-holds : {t : Bool} (n : ℕ) (ts : List (Bool × ℕ)) → t ≡ true → firstOf ((t, n) ∷ ts) ≡ n
-unfolding firstOf
-row-holds n ts e = pick-true e n (firstOf ts)
-
-row-fails : {t : Bool} (n : ℕ) (ts : List (Bool × ℕ)) → t ≡ false → firstOf ((t, n) ∷ ts) ≡ firstOf ts
-unfolding firstOf
-row-fails n ts e = pick-false e n (firstOf ts)
-
--- two rows of one number are a row of either
-row-pair : (a b : Bool) (n : ℕ) (ts : List (Bool × ℕ)) → firstOf ((a, n) ∷ (b, n) ∷ ts) ≡ firstOf ((a || b, n) ∷ ts)
-unfolding firstOf pick
-row-pair true b n ts = refl
-row-pair false b n ts = refl
 
 -- ---- a number other than 0
 
@@ -96,11 +69,11 @@ refused-as s c n e z =
 
 -- ---- the part read in place is empty where the read is refused
 
-part-none : (s : List ℕ) → part 0 0 s ≡ []
+pub part-none : (s : List ℕ) → part 0 0 s ≡ []
 unfolding part
 part-none s = refl
 
-in-place-store : (s : List ℕ) (k : ℕ) → perform s (readInPlace k) .store ≡ s
+pub in-place-store : (s : List ℕ) (k : ℕ) → perform s (readInPlace k) .store ≡ s
 unfolding perform afterIn numberIn refusalsIn firstOf grantedIn
 in-place-store s k = pick-true refl s s
 
@@ -165,14 +138,41 @@ module _ (s : List ℕ) where
   nowhere shrink e d m = not-both m refl
   nowhere raise e d m = not-both m refl
 
+  short : (c : Call) → sound s ≡ true → lostIn (view s) ≡ false → tooShort (view s) c ≡ true → perform s c ≡ outcome (refusal c 7) s
+  unfolding numberIn refusalsIn tooShort
+  short (teach k x) d f m = not-both m refl
+  short (correct k x) d f m = not-both m refl
+  short (erase k) d f m = not-both m refl
+  short (read k out) d f m = not-both m refl
+  short (readInPlace k) d f m = not-both m refl
+  short (list out) d f m = refused-as s (list out) 7 (row-fails _ _ (ap not d) ∙ row-fails _ _ f ∙ row-holds _ _ m) (omega arith)
+  short (unitOut w) d f m = not-both m refl
+  short (repair g) d f m = not-both m refl
+  short grow d f m = not-both m refl
+  short shrink d f m = not-both m refl
+  short raise d f m = not-both m refl
+
   pub refuses : (c : Call) → Refuses s c
-  refuses c = record { numbered = number-low s c; refused = λ z. refused-as s c (numberIn s c) refl z; misused = misused c; damaged = damaged c; nowhere = nowhere c }
+  refuses c = record {
+    numbered = number-low s c;
+    refused = λ z. refused-as s c (numberIn s c) refl z;
+    misused = misused c;
+    damaged = damaged c;
+    nowhere = nowhere c;
+    short = short c;
+  }
 
 -- ---- lay out
 
+layout-as : (s : List ℕ) (b n : ℕ) → layOutNumber s b ≡ n → n ≢ 0 → layOut s b ≡ outcome (plain n) s
+unfolding layOut
+layout-as s b n e z = ap₂ outcome (ap plain e) (pick-false (ne-eqb (layOutNumber s b) 0 (λ q. z (sym e ∙ q))) (laidOut b s) s)
+
 pub layout-refuses : (s : List ℕ) (b : ℕ) → LayoutRefuses s b
-unfolding layOutNumber layOut
+unfolding layOutNumber
 layout-refuses s b = record {
   numbered = low-first ((ltb b 1, 2) ∷ (ltb 64 b, 2) ∷ (ltb (length s) (storeBytes b), 7) ∷ []) (omega arith, (omega arith, (omega arith, tt)));
-  refused = λ z. ap (outcome (plain (layOutNumber s b))) (pick-false (ne-eqb (layOutNumber s b) 0 z) (laidOut b s) s);
+  refused = λ z. layout-as s b (layOutNumber s b) refl z;
+  misused = λ e. layout-as s b 2 (row-pair (ltb b 1) (ltb 64 b) 2 _ ∙ row-holds _ _ e) (omega arith);
+  short = λ e l. layout-as s b 7 (row-pair (ltb b 1) (ltb 64 b) 2 _ ∙ row-fails _ _ e ∙ row-holds _ _ (lt-ltb (length s) (storeBytes b) l)) (omega arith);
 }

@@ -1,7 +1,7 @@
 -- Demand 1: the statements, for all bytes and numbers. A call that gets key 0, a buffer of the wrong length, a damaged store or a unit that isn't
 -- there ends with its number of the table (reading in place: with an empty part), and a refused call changes no byte of the store or of an output
 -- buffer. Assumes nothing.
-use Prim.Native.Nat.{ℕ, _*_, _≤_}
+use Prim.Native.Nat.{ℕ, _*_, _≤_, _<_}
 use mathlib.Core.Path.{_≡_}
 use mathlib.Core.Logic.{_≢_}
 use mathlib.Core.List.{List, []}
@@ -9,9 +9,9 @@ use mathlib.Core.Bool.{Bool, true, false, not, _&&_, _||_}
 use lib.Dec.{eqb, ltb, leb}
 use lib.ListN.{length}
 use Rattle.buffer.specs.Choice.{pick}
-use Rattle.group.specs.Widths.{bodyBytes}
-use Rattle.model.specs.Layout.{Store, view, unitsIn}
-use Rattle.model.specs.Reads.{homeIn, stateIn}
+use Rattle.group.specs.Widths.{bodyBytes, slotBytes}
+use Rattle.model.specs.Layout.{Store, view, storeBytes, unitsIn}
+use Rattle.model.specs.Reads.{homeIn, stateIn, lostIn, totalIn}
 use Rattle.model.specs.Sound.{sound}
 use Rattle.model.specs.Numbers.{Call, teach, correct, erase, read, readInPlace, list, unitOut, repair, grow, shrink, raise, numberIn}
 use Rattle.model.specs.Perform.{Answer, plain, copied, lent, listed, outcome, givenIn, perform, layOutNumber, layOut}
@@ -58,6 +58,20 @@ missing v grow = false
 missing v shrink = false
 missing v raise = false
 
+-- an output buffer that list's records don't fit in
+unfoldable pub tooShort : Store → Call → Bool
+tooShort v (teach k x) = false
+tooShort v (correct k x) = false
+tooShort v (erase k) = false
+tooShort v (read k out) = false
+tooShort v (readInPlace k) = false
+tooShort v (list out) = ltb (length out) (slotBytes * totalIn v)
+tooShort v (unitOut w) = false
+tooShort v (repair g) = false
+tooShort v grow = false
+tooShort v shrink = false
+tooShort v raise = false
+
 -- a call on any bytes
 pub record Refuses (s : List ℕ) (c : Call) : Type 0 where
   pub numbered : numberIn s c ≤ 9
@@ -65,6 +79,7 @@ pub record Refuses (s : List ℕ) (c : Call) : Type 0 where
   pub misused : misuse c ≡ true → perform s c ≡ outcome (refusal c 2) s
   pub damaged : misuse c ≡ false → sound s ≡ false → perform s c ≡ outcome (refusal c 1) s
   pub nowhere : misuse c ≡ false → sound s ≡ true → missing (view s) c ≡ true → perform s c ≡ outcome (refusal c 3) s
+  pub short : sound s ≡ true → lostIn (view s) ≡ false → tooShort (view s) c ≡ true → perform s c ≡ outcome (refusal c 7) s
 
 -- reading in place, in any bytes: the store is as it was, and the part is the 16 bytes of a body, or empty exactly where read, given a buffer that
 -- fits, would refuse or the key's unit is out
@@ -77,6 +92,8 @@ pub record InPlace (s : List ℕ) (k : ℕ) : Type 0 where
 pub record LayoutRefuses (s : List ℕ) (b : ℕ) : Type 0 where
   pub numbered : layOutNumber s b ≤ 9
   pub refused : layOutNumber s b ≢ 0 → layOut s b ≡ outcome (plain (layOutNumber s b)) s
+  pub misused : (ltb b 1 || ltb 64 b) ≡ true → layOut s b ≡ outcome (plain 2) s
+  pub short : (ltb b 1 || ltb 64 b) ≡ false → length s < storeBytes b → layOut s b ≡ outcome (plain 7) s
 
 -- DEMAND 1
 pub record Demand1 : Type 0 where

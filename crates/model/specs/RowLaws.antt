@@ -1,11 +1,12 @@
--- Rows of the table of numbers: two lists of rows that give one number, and rows of which none holds. Assumes nothing.
-use Prim.Native.Nat.{ℕ}
+-- Rows of the table of numbers: two lists of rows that give one number, rows of which none holds, and the first row. Assumes nothing.
+use Prim.Native.Nat.{ℕ, _≤_}
 use mathlib.Core.Path.{_≡_, refl, sym, _∙_}
 use mathlib.Core.Logic.{_≢_}
 use mathlib.Core.List.{List, [], _∷_}
-use mathlib.Core.Bool.{Bool, false}
+use mathlib.Core.Bool.{Bool, true, false, _||_}
+use native.Mathlib.Omega.{arith}
 use Rattle.buffer.specs.Choice.{pick}
-use Rattle.buffer.specs.ChoiceLaws.{by-test, pick-true, pick-false, pick-ext}
+use Rattle.buffer.specs.ChoiceLaws.{by-test, by-pick, pick-true, pick-false, pick-ext}
 use Rattle.model.specs.Numbers.{firstOf}
 
 -- row by row the same, each where none before it holds
@@ -54,3 +55,31 @@ pub free-first : (ts : List (Bool × ℕ)) → Free ts → firstOf ts ≡ 0
 unfolding firstOf
 free-first [] f = refl
 free-first (t ∷ ts) f = pick-false (f .0) (t .1) (firstOf ts) ∙ free-first ts (f .1)
+
+-- the rows give numbers up to 9
+abbrev pub Low : List (Bool × ℕ) → Type 0
+Low [] = Unit {0}
+Low (t ∷ ts) = (t .1 ≤ 9) × Low ts
+
+pub low-first : (ts : List (Bool × ℕ)) → Low ts → firstOf ts ≤ 9
+unfolding firstOf
+low-first [] h = omega arith
+low-first (t ∷ ts) h =
+    let rest : firstOf ts ≤ 9 = low-first ts (h .1) in
+    by-pick (λ (n : ℕ). n ≤ 9) (t .0) (t .1) (firstOf ts) (λ e. h .0) (λ e. rest)
+
+-- ---- the first row
+
+pub row-holds : {t : Bool} (n : ℕ) (ts : List (Bool × ℕ)) → t ≡ true → firstOf ((t, n) ∷ ts) ≡ n
+unfolding firstOf
+row-holds n ts e = pick-true e n (firstOf ts)
+
+pub row-fails : {t : Bool} (n : ℕ) (ts : List (Bool × ℕ)) → t ≡ false → firstOf ((t, n) ∷ ts) ≡ firstOf ts
+unfolding firstOf
+row-fails n ts e = pick-false e n (firstOf ts)
+
+-- two rows of one number are a row of either
+pub row-pair : (a b : Bool) (n : ℕ) (ts : List (Bool × ℕ)) → firstOf ((a, n) ∷ (b, n) ∷ ts) ≡ firstOf ((a || b, n) ∷ ts)
+unfolding firstOf pick
+row-pair true b n ts = refl
+row-pair false b n ts = refl

@@ -1,11 +1,10 @@
 -- Laws of where a key lies: a key's unit is one of the units in place, and so is the unit that is split. Assumes nothing.
-use Prim.Native.Nat.{ℕ, _+_, _*_, _-_, _/_, _%_, _≤_, _<_}
+use Prim.Native.Nat.{ℕ, _*_, _-_, _/_, _%_, _≤_, _<_}
 use native.Mathlib.Omega.{arith}
 use native.Mathlib.Nat.{mod-lt, mul-le-mul-right}
 use lib.Arith.{mod-mul}
 use lib.Dec.{ltb}
 use borrow.Author.Tests.{ltb-true, ltb-false}
-use Rattle.buffer.specs.Choice.{pick}
 use Rattle.buffer.specs.ChoiceLaws.{by-pick}
 use Rattle.model.specs.Units.{powerBelow, splitPointer, unitOf}
 
