@@ -14,7 +14,7 @@ use Rattle.algebra.specs.Every.{every, every-at}
 use Rattle.algebra.specs.BinaryLaws.{bound, one}
 use Rattle.algebra.specs.BinaryField.{below}
 use Rattle.algebra.specs.Polynomial.{Point, fin}
-use Rattle.algebra.specs.Lagrange.{gap, gaps, weight, lagrange, Takes}
+use Rattle.algebra.specs.Lagrange.{gap, weight, lagrange, Takes}
 use Rattle.algebra.specs.Interpolation.{rebuilt}
 use Rattle.field.specs.Gf16.{product, inverse}
 use Rattle.field.specs.Gf16Laws.{Symbol, gf16, tested}
