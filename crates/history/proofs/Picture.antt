@@ -4,7 +4,6 @@ use mathlib.Core.Path.{_≡_, refl}
 use mathlib.Core.Logic.{_≢_}
 use mathlib.Core.List.{List, []}
 use mathlib.Core.Bool.{false}
-use native.Mathlib.Omega.{arith}
 use lib.Dec.{eqb}
 use lib.ListN.{length}
 use Rattle.buffer.specs.Bytes.{bytes32, zeros}
@@ -51,7 +50,7 @@ unfolding pictureCheck
 length-check l c r h =
     let f : ℕ → Rec = λ p. recordAt l (4 * (c / 3) + p) r in
     by-pick (λ (x : List ℕ). length x ≡ checkBytes) (eqb (state l (16 + c)) 1) (checkOver (c % 3) f) (zeros checkBytes)
-    (λ e. length-over (c % 3) (omega arith) f (λ p. h (4 * (c / 3) + p))) (λ e. length-zeros checkBytes)
+    (λ e. length-over (c % 3) f (λ p. h (4 * (c / 3) + p))) (λ e. length-zeros checkBytes)
 
 pub image-shaped : (l : Ledger) (rest : List ℕ) → Goods l → Shaped (image l rest)
 unfolding image frontOf bytes32

@@ -5,17 +5,18 @@ use mathlib.Core.List.{List, _++_}
 use native.Mathlib.Omega.{arith}
 use lib.ListN.{length, take, drop, length-append}
 use lib.Seq.{take-at, drop-at}
-use Rattle.buffer.specs.Bytes.{bytes32, zeros, part, splice}
+use Rattle.buffer.specs.Bytes.{bytes32, zeros, part}
 use Rattle.buffer.specs.ByteLaws.{be32-left, be32-bytes32, length-bytes32}
 use Rattle.buffer.specs.SpliceLaws.{part-left}
 use Rattle.buffer.specs.Table.{tab, upd}
-use Rattle.buffer.specs.TableLaws.{tab-ext, length-tab, part-chunk, splice-chunk, upd-map}
+use Rattle.buffer.specs.TableLaws.{Wide, tab-ext, length-tab, part-chunk, upd-map}
 use Rattle.group.specs.Widths.{keyBytes, bodyBytes, slotBytes, keysBytes, checkBytes}
 use Rattle.group.specs.Body.{addBody, IsBody}
 use Rattle.group.specs.BodyLaws.{zeros-is}
-use Rattle.group.specs.Parity.{parity, adjusted}
-use Rattle.group.specs.ParityLaws.{parity-ext, parity-is, parity-zeros, parity-upd}
+use Rattle.group.specs.Parity.{parity}
+use Rattle.group.specs.ParityLaws.{parity-ext}
 use Rattle.group.specs.CheckRecord.{checkRecord, patched}
+use Rattle.group.specs.CheckRecordLaws.{length-checkRecord, checkRecord-zeros, patched-upd}
 use Rattle.model.specs.Layout.{keyOf}
 use Rattle.history.specs.Ledger.{Rec, empty}
 use Rattle.history.specs.Picture.{recordBytes, checkOver}
@@ -85,35 +86,24 @@ anew-over j slots f h = ap₂ (λ (x y : List ℕ). x ++ y)
     (tab-ext 4 (λ p. take keyBytes (slots p)) (λ p. bytes32 (f p .key)) (λ p l. ap (take keyBytes) (h p l) ∙ take-record (f p)))
     (parity-ext j (λ p. drop keyBytes (slots p)) (λ p. f p .body) (λ p l. ap (drop keyBytes) (h p l) ∙ drop-record (f p)))
 
-pub length-over : (j : ℕ) → j < 3 → (f : ℕ → Rec) → ((p : ℕ) → Good (f p)) → length (checkOver j f) ≡ checkBytes
-unfolding checkOver
-length-over j a f h =
-    length-append (tab 4 (λ p. bytes32 (f p .key))) (parity j (λ p. f p .body))
-    ∙ omega (arith, length-keys f, parity-is bodyBytes j a (λ p. f p .body) (λ p l. h p .body) .size)
+-- the slots of good records
+slots-wide : (f : ℕ → Rec) → ((p : ℕ) → Good (f p)) → Wide 4 slotBytes (λ p. recordBytes (f p))
+slots-wide f h p l = length-record (f p) (h p)
+
+pub length-over : (j : ℕ) (f : ℕ → Rec) → ((p : ℕ) → Good (f p)) → length (checkOver j f) ≡ checkBytes
+length-over j f h = ap length (sym (anew-over j (λ p. recordBytes (f p)) f (λ p l. refl))) ∙ length-checkRecord bodyBytes j (λ p. recordBytes (f p)) (slots-wide f h)
 
 -- over no records
 pub over-empty : (j : ℕ) → j < 3 → checkOver j (λ p. empty) ≡ zeros checkBytes
-unfolding checkOver empty
-over-empty j a = rw (parity-zeros bodyBytes j a) keyless
-  where
-    keyless : tab 4 (λ p. bytes32 0) ++ zeros bodyBytes ≡ zeros checkBytes
-    keyless = unfold tab bytes32 zeros in refl
+over-empty j a = sym (anew-over j (λ p. zeros slotBytes) (λ p. empty) (λ p l. sym empty-bytes)) ∙ checkRecord-zeros bodyBytes j a
 
 -- the record of place p becomes x
 pub patched-over : (j p : ℕ) (f : ℕ → Rec) (x : Rec) → j < 3 → p < 4 → ((q : ℕ) → Good (f q)) → Good x
     → patched j p (take keyBytes (recordBytes x)) (addBody (drop keyBytes (recordBytes (f p))) (drop keyBytes (recordBytes x))) (checkOver j f)
     ≡ checkOver j (upd f p x)
-unfolding patched checkOver
 patched-over j p f x a l h g =
-    let k : ℕ → List ℕ = λ q. bytes32 (f q .key) in
-    let b : ℕ → List ℕ = λ q. f q .body in
-    let e1 : take keysBytes (tab 4 k ++ parity j b) ≡ tab 4 k = take-at (tab 4 k) (parity j b) keysBytes (length-keys f) in
-    let e2 : drop keysBytes (tab 4 k ++ parity j b) ≡ parity j b = drop-at (tab 4 k) (parity j b) keysBytes (length-keys f) in
-    let e3 : splice (keyBytes * p) keyBytes (bytes32 (x .key)) (tab 4 k) ≡ tab 4 (upd k p (bytes32 (x .key))) =
-    splice-chunk 4 keyBytes k (λ q m. length-bytes32 (f q .key)) p (bytes32 (x .key)) l in
-    let e4 : tab 4 (upd k p (bytes32 (x .key))) ≡ tab 4 (λ q. bytes32 (upd f p x q .key)) =
-    tab-ext 4 (upd k p (bytes32 (x .key))) (λ q. bytes32 (upd f p x q .key)) (λ q m. sym (upd-map (λ (y : Rec). bytes32 (y .key)) f p x q)) in
-    let e5 : adjusted j p (addBody (b p) (x .body)) (parity j b) ≡ parity j (upd b p (x .body)) = sym (parity-upd bodyBytes j p a l b (λ q m. h q .body .size) (x .body) (g .body .size)) in
-    let e6 : parity j (upd b p (x .body)) ≡ parity j (λ q. upd f p x q .body) =
-    parity-ext j (upd b p (x .body)) (λ q. upd f p x q .body) (λ q m. sym (upd-map (λ (y : Rec). y .body) f p x q)) in
-    rw (take-record x, drop-record x, drop-record (f p), e1, e2, e3, e4, e5, e6)
+    let slots : ℕ → List ℕ = λ q. recordBytes (f q) in
+    ap (patched j p (take keyBytes (recordBytes x)) (addBody (drop keyBytes (recordBytes (f p))) (drop keyBytes (recordBytes x))))
+    (sym (anew-over j slots f (λ q m. refl)))
+    ∙ patched-upd bodyBytes j p a l slots (slots-wide f h) (recordBytes x) (length-record x g)
+    ∙ anew-over j (upd slots p (recordBytes x)) (upd f p x) (λ q m. sym (upd-map recordBytes f p x q))

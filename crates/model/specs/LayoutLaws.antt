@@ -204,7 +204,7 @@ singles n x o h =
 abbrev pub Long : List ℕ → Type 0
 Long x = storeBytes (byte x 5) ≤ length x
 
-module _ (x : List ℕ) (long : storeBytes (byte x 5) ≤ length x) where
+module _ (x : List ℕ) (long : Long x) where
   pub bytes-view : bytes (view x) ≡ x
   unfolding bytes view
   bytes-view =
