@@ -1,6 +1,8 @@
 pub mod Units
 pub mod Layout
 pub mod LayoutLaws
+pub mod RunLaws
+pub mod StoreLaws
 pub mod Reads
 pub mod Sound
 pub mod Numbers
