@@ -1,15 +1,14 @@
 -- Laws of single bytes, of numbers of 32 bits and of zeros: in a part, in a list in which a part was replaced, in two lists. Assumes nothing.
 use mathlib.Core.Path.{_≡_, refl, sym, ap, _∙_}
-use mathlib.Core.Bool.{Bool, true, false}
-use mathlib.Core.List.{List, [], _∷_, _++_}
+use mathlib.Core.Bool.{true}
+use mathlib.Core.List.{List, _++_}
 use Prim.Native.Nat.{ℕ, zero, suc, _+_, _*_, _-_, _/_, _%_, _≤_, _<_}
-use native.Mathlib.Nat.{add-assoc, add-zero, div-lt-iff-lt-mul}
+use native.Mathlib.Nat.{add-assoc, add-zero}
 use native.Mathlib.Omega.{arith}
 use lib.Dec.{eqb}
-use lib.ListN.{length, getD, take, drop, replicate, length-append, length-take, length-replicate, replicate-append-replicate, List·getD-eq-default, List·getD-append}
+use lib.ListN.{length, take, drop, length-replicate, replicate-append-replicate, List·getD-eq-default, List·getD-append}
 use lib.Seq.{getD-take, getD-drop, getD-append-add, ext-getD, length-take-le}
 use borrow.Author.Tests.{eq-eqb, eqb-true}
-use Rattle.buffer.specs.Range.{all}
 use Rattle.buffer.specs.RangeLaws.{all-true, all-holds}
 use Rattle.buffer.specs.Bytes.{byte, be32, bytes32, zeros, part, splice, allZero}
 use Rattle.buffer.specs.SpliceLaws.{length-part}

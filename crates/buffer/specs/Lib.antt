@@ -8,3 +8,5 @@ pub mod RangeLaws
 pub mod SpliceLaws
 pub mod ByteLaws
 pub mod TableLaws
+pub mod LoopTests
+pub mod LoopWrites

@@ -1,10 +1,10 @@
 -- Laws of the definitions of `Range`: tests, counts, first places, sums and lists over 0 to n - 1. Assumes nothing.
 use mathlib.Core.Path.{_≡_, refl, sym, ap, ap₂, _∙_}
 use mathlib.Core.Bool.{Bool, true, false, _&&_}
-use mathlib.Core.List.{List, [], _∷_, _++_}
+use mathlib.Core.List.{List, _∷_}
 use mathlib.Core.Logic.{⊎-elim}
-use Prim.Native.Nat.{ℕ, zero, suc, _+_, _*_, _-_, _≤_, _<_}
-use native.Mathlib.Nat.{le-of-suc-le-suc, not-suc-le-zero, eq-or-lt-of-le, zero-lt-suc}
+use Prim.Native.Nat.{ℕ, zero, suc, _+_, _*_, _≤_, _<_}
+use native.Mathlib.Nat.{le-of-suc-le-suc, not-suc-le-zero, eq-or-lt-of-le}
 use native.Mathlib.Numerals.{add-one}
 use native.Mathlib.Omega.{arith}
 use lib.Dec.{ltb}
@@ -13,7 +13,7 @@ use lib.Seq.{ext-getD}
 use borrow.Author.Tests.{ltb-true, ltb-false}
 use Rattle.buffer.specs.Choice.{pick}
 use Rattle.buffer.specs.ChoiceLaws.{by-test, by-pick, pick-true, pick-false}
-use Rattle.buffer.specs.TestLaws.{and-true, and-first, and-second, and-false-first, and-false-second, not-both, same-test}
+use Rattle.buffer.specs.TestLaws.{and-true, and-first, and-second, not-both}
 use Rattle.buffer.specs.Range.{all, count, first, sum, iter, entries}
 
 -- what holds at n and at each below it holds at each below its successor
@@ -169,7 +169,7 @@ first-misses (suc n) p (suc k) l =
     (λ e q. first-misses n (λ (k : ℕ). p (suc k)) k (le-of-suc-le-suc q))
     l
 
--- what is counted is found, and the other way
+-- what is counted is found
 pub first-found : (n : ℕ) (p : ℕ → Bool) → 0 < count n p → first n p < n
 first-found n p h =
     by-test
@@ -180,17 +180,14 @@ first-found n p h =
     let l : n ≤ first n p = ltb-false (first n p) n e in
     absurd (omega (arith, count-fails n p (λ k q. first-misses n p k (omega arith)))))
 
-pub first-lt : (n : ℕ) (p : ℕ → Bool) (k : ℕ) → k < n → p k ≡ true → first n p ≤ k
-first-lt n p k l e =
+-- no place at which it holds comes before
+pub first-le-at : (n : ℕ) (p : ℕ → Bool) (k : ℕ) → k < n → p k ≡ true → first n p ≤ k
+first-le-at n p k l e =
     by-test
     (λ t. first n p ≤ k)
     (ltb k (first n p))
     (λ q. not-both e (first-misses n p k (ltb-true k (first n p) q)))
     (λ q. ltb-false k (first n p) q)
-
--- the first at which all hold before
-pub all-first : (n : ℕ) (p : ℕ → Bool) → first n p ≡ n → count n p ≡ 0
-all-first n p e = count-fails n p (λ k l. first-misses n p k (rw e l))
 
 -- ---- sum
 pub sum-none : (f : ℕ → ℕ) → sum 0 f ≡ 0
@@ -212,7 +209,7 @@ unfolding sum
 sum-le zero m f h = omega arith
 sum-le (suc n) m f h = omega (arith, h n (omega arith), sum-le n m f (λ k l. h k (omega arith)))
 
--- the terms before one are no more than all before it
+-- a longer sum is no less
 pub sum-mono : (n m : ℕ) (f : ℕ → ℕ) → n ≤ m → sum n f ≤ sum m f
 unfolding sum
 sum-mono n zero f h = let e : n ≡ 0 = omega arith in rw e (omega arith)

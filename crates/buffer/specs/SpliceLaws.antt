@@ -1,7 +1,7 @@
 -- Laws of parts and of parts replaced, over any place and width. Assumes nothing.
 use mathlib.Core.Path.{_≡_, refl, sym, ap, _∙_}
 use mathlib.Core.List.{List, [], _∷_, _++_, append-assoc, append-nil}
-use Prim.Native.Nat.{ℕ, zero, suc, _+_, _-_, _≤_, _<_}
+use Prim.Native.Nat.{ℕ, zero, suc, _+_, _-_, _≤_}
 use native.Mathlib.Nat.{zero-add, suc-add}
 use native.Mathlib.Omega.{arith}
 use lib.ListN.{length, take, drop, length-append, length-take, length-drop, take-append-drop, drop-of-length-le}
@@ -153,13 +153,13 @@ splice-behind at n o m x y s h e l =
     let mid : length (part at n s) ≡ n = length-part at n s h in
     let tail : List ℕ = drop n (drop at s) in
     let here : splice o m y s ≡ take at s ++ (part at n s ++ splice k m y tail) =
-        ap (splice o m y) (cut at n s)
-        ∙ ap (λ j. splice j m y (take at s ++ (part at n s ++ tail))) place
-        ∙ splice-right at (n + k) m y (take at s) (part at n s ++ tail) front
-        ∙ ap (λ t. take at s ++ t) (splice-right n k m y (part at n s) tail mid) in
+    ap (splice o m y) (cut at n s)
+    ∙ ap (λ j. splice j m y (take at s ++ (part at n s ++ tail))) place
+    ∙ splice-right at (n + k) m y (take at s) (part at n s ++ tail) front
+    ∙ ap (λ t. take at s ++ t) (splice-right n k m y (part at n s) tail mid) in
     ap (λ j. splice j m y (take at s ++ (x ++ tail))) place
     ∙ splice-right at (n + k) m y (take at s) (x ++ tail) front
     ∙ ap (λ t. take at s ++ t) (splice-right n k m y x tail e)
     ∙ sym (
-      ap (splice at n x) here
-      ∙ rw (take-at (take at s) (part at n s ++ splice k m y tail) at front, drop-at (take at s) (part at n s ++ splice k m y tail) at front, drop-at (part at n s) (splice k m y tail) n mid) refl)
+    ap (splice at n x) here
+    ∙ rw (take-at (take at s) (part at n s ++ splice k m y tail) at front, drop-at (take at s) (part at n s ++ splice k m y tail) at front, drop-at (part at n s) (splice k m y tail) n mid) refl)

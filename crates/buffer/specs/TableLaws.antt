@@ -1,7 +1,6 @@
 -- Laws of lists that are made of chunks, and of functions changed at one place. Chunk i of a table of chunks of w bytes starts at w * i.
 -- Assumes nothing.
 use mathlib.Core.Path.{_≡_, refl, sym, ap, _∙_}
-use mathlib.Core.Bool.{Bool}
 use mathlib.Core.Logic.{_⊎_, inl, inr}
 use mathlib.Core.List.{List, [], _∷_, _++_, append-assoc, append-nil}
 use Prim.Native.Nat.{ℕ, zero, suc, _+_, _*_, _≤_, _<_}
@@ -9,16 +8,14 @@ use native.Mathlib.Nat.{le-suc-iff, mul-le-mul-left, mul-zero, mul-suc, add-zero
 use native.Mathlib.Numerals.{add-one}
 use native.Mathlib.Omega.{arith}
 use lib.Dec.{eqb}
-use lib.ListN.{length, getD, take, drop, length-append, take-append-drop}
-use lib.Seq.{getD-at}
+use lib.ListN.{length, length-append}
 use borrow.Author.Tests.{eq-eqb, ne-eqb}
-use Rattle.buffer.specs.Choice.{pick}
 use Rattle.buffer.specs.ChoiceLaws.{pick-true, pick-false, pick-map, by-pick}
 use Rattle.buffer.specs.Range.{sum, entries}
-use Rattle.buffer.specs.RangeLaws.{length-entries, getD-entries, entries-of}
+use Rattle.buffer.specs.RangeLaws.{entries-of}
 use Rattle.buffer.specs.Bytes.{byte, be32, zeros, part, splice}
-use Rattle.buffer.specs.SpliceLaws.{length-part, length-splice, part-left, part-right, part-whole, part-append, splice-left, splice-right, splice-whole}
-use Rattle.buffer.specs.ByteLaws.{byte-part, byte-left, byte-right, be32-part, zeros-append}
+use Rattle.buffer.specs.SpliceLaws.{part-left, part-right, part-whole, part-append, splice-left, splice-right, splice-whole}
+use Rattle.buffer.specs.ByteLaws.{byte-part, be32-part, zeros-append}
 use Rattle.buffer.specs.Table.{tab, upd}
 
 -- ---- a function changed at one place

@@ -1,11 +1,12 @@
 -- Tests of numbers, and tests joined by "and". Assumes nothing.
-use mathlib.Core.Path.{_≡_, refl, sym, ap, _∙_}
+use mathlib.Core.Path.{_≡_, refl, sym, _∙_}
 use mathlib.Core.Bool.{Bool, true, false, not, _&&_, true≢false}
 use Prim.Native.Nat.{ℕ, suc, _+_, _≤_, _<_}
 use native.Mathlib.Omega.{arith}
 use native.Mathlib.Numerals.{add-one}
+use lib.Bits.{bitOr, or-add-and, and-le-l, and-le-r}
 use lib.Dec.{eqb, leb, ltb}
-use borrow.Author.Tests.{lt-ltb, le-ltb, le-leb, lt-leb, eq-eqb, ne-eqb, eqb-true, eqb-false, ltb-true, ltb-false, not-true, not-false}
+use borrow.Author.Tests.{lt-ltb, le-ltb, le-leb, lt-leb, eq-eqb, ne-eqb, eqb-true, eqb-false, ltb-true, not-true, not-false}
 use Rattle.buffer.specs.ChoiceLaws.{by-test}
 
 -- no test says both
@@ -76,6 +77,22 @@ by-both P v u q r h k =
     (eqb v u)
     (λ d. by-test P (eqb q r) (λ e. h (eqb-true v u d) (eqb-true q r e)) (λ e. k (λ _ f. eqb-false q r e f)))
     (λ d. k (λ f _. eqb-false v u d f))
+
+-- ---- two numbers joined by "or" are 0 where both are
+pub or-zero : (a b : ℕ) → eqb (bitOr a b) 0 ≡ (eqb a 0 && eqb b 0)
+or-zero a b =
+    same-test
+    (eqb (bitOr a b) 0)
+    (eqb a 0 && eqb b 0)
+    (λ h.
+    let z : bitOr a b ≡ 0 = eqb-true (bitOr a b) 0 h in
+    and-true
+    (eq-eqb a 0 (omega (arith, or-add-and a b, and-le-l a b, and-le-r a b)))
+    (eq-eqb b 0 (omega (arith, or-add-and a b, and-le-l a b, and-le-r a b))))
+    (λ h.
+    let x : a ≡ 0 = eqb-true a 0 (and-first (eqb a 0) (eqb b 0) h) in
+    let y : b ≡ 0 = eqb-true b 0 (and-second (eqb a 0) (eqb b 0) h) in
+    eq-eqb (bitOr a b) 0 (omega (arith, or-add-and a b)))
 
 -- ---- a bound that grows by one
 pub ltb-suc : (a n : ℕ) → (a ≡ n → ⊥) → ltb a n ≡ ltb a (suc n)
