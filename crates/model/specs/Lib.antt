@@ -8,3 +8,4 @@ pub mod Sound
 pub mod Numbers
 pub mod Changes
 pub mod Perform
+pub mod ChangeLaws

@@ -8,10 +8,10 @@ use native.Mathlib.Nat.{mul-one, mul-le-mul-right, one-mul}
 use native.Mathlib.Numerals.{add-one}
 use lib.ListN.{length, take, drop, getD, set, length-set}
 use lib.Seq.{drop-drop, set-split}
-use Rattle.buffer.specs.Bytes.{byte, part, splice}
+use Rattle.buffer.specs.Bytes.{byte, zeros, part, splice}
 use Rattle.buffer.specs.SpliceLaws.{splice-left, splice-right}
 use Rattle.buffer.specs.Table.{tab, upd}
-use Rattle.buffer.specs.TableLaws.{tab-ext, tab-one, splice-chunk, upd-map}
+use Rattle.buffer.specs.TableLaws.{tab-ext, tab-one, tab-zeros, splice-chunk, upd-map}
 use Rattle.group.specs.Widths.{slotBytes, checkBytes}
 use Rattle.model.specs.Layout.{Store, bytes, view, storeBytes, slotAt, checkAt, withSlots, withChecks}
 use Rattle.model.specs.LayoutLaws.{Shaped, Same, bytes-ext, bytes-view, view-shaped, view-bytes, length-bytes, byte-front, view-dstate, view-cstate, slot-read, check-read, len-ds, len-cs, len-slots, len-checks}
@@ -37,6 +37,14 @@ module _ (s : Store) (f : ℕ → ℕ → List ℕ) where
   unfolding withSlots
   slots-size = refl
 
+  pub slots-slot : withSlots s f .slot ≡ f
+  unfolding withSlots
+  slots-slot = refl
+
+  pub slots-again : (u r : ℕ) (z : List ℕ) → withSlots (withSlots s f) (upd2 (withSlots s f .slot) u r z) ≡ withSlots s (upd2 f u r z)
+  unfolding withSlots
+  slots-again u r z = refl
+
   pub slots-shaped : Shaped s → ((u r : ℕ) → u < 16 → r < s .size → length (f u r) ≡ slotBytes) → Shaped (withSlots s f)
   unfolding withSlots
   slots-shaped h g = record { front = h .front; size = h .size; slot = g; check = h .check }
@@ -48,6 +56,14 @@ module _ (s : Store) (f : ℕ → ℕ → List ℕ) where
   pub checks-size : withChecks s f .size ≡ s .size
   unfolding withChecks
   checks-size = refl
+
+  pub checks-check : withChecks s f .check ≡ f
+  unfolding withChecks
+  checks-check = refl
+
+  pub checks-again : (c r : ℕ) (z : List ℕ) → withChecks (withChecks s f) (upd2 (withChecks s f .check) c r z) ≡ withChecks s (upd2 f c r z)
+  unfolding withChecks
+  checks-again c r z = refl
 
   pub checks-shaped : Shaped s → ((c r : ℕ) → c < 12 → r < s .size → length (f c r) ≡ checkBytes) → Shaped (withChecks s f)
   unfolding withChecks
@@ -199,6 +215,23 @@ slots-within b u q m n hu hq h = omega (arith, mul-le-mul-right {m = suc u} {n =
 pub checks-within : (b c q m n : ℕ) → c < 12 → q + m ≤ b → storeBytes b ≤ n → checkAt b c q + checkBytes * m ≤ n
 checks-within b c q m n hc hq h = omega (arith, mul-le-mul-right {m = suc c} {n = 12} b hc)
 
+-- (u, r) is a slot, and (c, r) a check record, of a store that the bytes are long enough for
+pub record SlotIn (x : List ℕ) (u r : ℕ) : Type 0 where
+  pub long : storeBytes (byte x 5) ≤ length x
+  pub unit : u < 16
+  pub rank : r < byte x 5
+
+pub record CheckIn (x : List ℕ) (c r : ℕ) : Type 0 where
+  pub long : storeBytes (byte x 5) ≤ length x
+  pub unit : c < 12
+  pub rank : r < byte x 5
+
+pub slot-end : {x : List ℕ} {u r : ℕ} → SlotIn x u r → slotAt (byte x 5) u r + slotBytes ≤ length x
+slot-end {x} {u} {r} p = slot-within (byte x 5) u r (length x) (p .unit) (p .rank) (p .long)
+
+pub check-end : {x : List ℕ} {c r : ℕ} → CheckIn x c r → checkAt (byte x 5) c r + checkBytes ≤ length x
+check-end {x} {c} {r} p = check-within (byte x 5) c r (length x) (p .unit) (p .rank) (p .long)
+
 -- ---- the bytes of a store as code holds them: s ≡ bytes t, with b read from byte 5 and a place computed from it
 pub size-of : (x : List ℕ) → byte x 5 ≡ view x .size
 unfolding view
@@ -235,3 +268,14 @@ module _ (t : Store) (h : Shaped t) (s : List ℕ) (e : s ≡ bytes t) where
 
     pub check-put : (s′ z : List ℕ) (at c r : ℕ) → at ≡ checkAt b c r → c < 12 → r < b → s′ ≡ splice at checkBytes z s → s′ ≡ bytes (withChecks t (upd2 (t .check) c r z))
     check-put s′ z at c r ea hc hr es = es ∙ rw (e, ea, eb) (splice-check t h c r z hc (rw (← eb) hr))
+
+    -- m slots, or check records, cleared from rank q on
+    pub slots-clear : (s′ : List ℕ) (at n u q m : ℕ) → at ≡ slotAt b u q → n ≡ slotBytes * m → u < 16 → q + m ≤ b → s′ ≡ splice at n (zeros n) s
+        → s′ ≡ bytes (withSlots t (run (t .slot) u q m (λ _. zeros slotBytes)))
+    slots-clear s′ at n u q m ea en hu hq es =
+        es ∙ rw (e, ea, en, eb, ← tab-zeros m slotBytes) (splice-slots t h u q m (λ _. zeros slotBytes) hu (rw (← eb) hq))
+
+    pub checks-clear : (s′ : List ℕ) (at n c q m : ℕ) → at ≡ checkAt b c q → n ≡ checkBytes * m → c < 12 → q + m ≤ b → s′ ≡ splice at n (zeros n) s
+        → s′ ≡ bytes (withChecks t (run (t .check) c q m (λ _. zeros checkBytes)))
+    checks-clear s′ at n c q m ea en hc hq es =
+        es ∙ rw (e, ea, en, eb, ← tab-zeros m checkBytes) (splice-checks t h c q m (λ _. zeros checkBytes) hc (rw (← eb) hq))
