@@ -4,3 +4,8 @@ pub mod Parity
 pub mod CheckRecord
 pub mod Members
 pub mod Rebuilding
+pub mod BodyLaws
+pub mod ParityLaws
+pub mod CheckRecordLaws
+pub mod MembersLaws
+pub mod RebuildingLaws

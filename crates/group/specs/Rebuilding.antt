@@ -3,8 +3,8 @@ use Prim.Native.Nat.{ℕ}
 use mathlib.Core.Bool.{Bool}
 use mathlib.Core.List.{List}
 use lib.ListN.{getD}
-use Rattle.code.specs.Rule.{weightsOf}
-use Rattle.group.specs.Body.{addBody, scaleBody}
+use Rattle.code.specs.Weights.{weightsOf}
+use Rattle.group.specs.Body.{scaleBody}
 use Rattle.group.specs.Parity.{sum4}
 use Rattle.group.specs.Members.{firstFour}
 
