@@ -1,1 +1,4 @@
 pub mod UnitLaws
+pub mod Sized
+pub mod States
+pub mod Keys
