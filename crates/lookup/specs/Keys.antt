@@ -38,25 +38,13 @@ within-fewer h l = record { near = h .near; narrow = h .narrow; fits = λ i k. h
 pub place-near : {s : List ℕ} {base step n : ℕ} → Within s base step n → (i : ℕ) → i ≤ 255 → base + step * i < 3008160
 place-near {s} {base} {step} h i l = let p : step * i ≤ 32 * 255 = mul-le-mul (h .narrow) l in omega (arith, h .near)
 
--- ---- the key of a slot, and one that a check record lists
+-- ---- the key of a slot
 pub slot-key : (s : List ℕ) (u r : ℕ) → be32 s (slotAt (byte s 5) u r) ≡ keyOf (view s .slot u r)
 unfolding keyOf view
 slot-key s u r =
     let at : ℕ = slotAt (byte s 5) u r in
     let z : at + 0 ≡ at = omega arith in
     ap (be32 s) (sym z) ∙ sym (be32-part at slotBytes s 0 (omega arith))
-
-pub listed-key : (s : List ℕ) (c p r : ℕ) → p < 4 → be32 s (checkAt (byte s 5) c r + 4 * p) ≡ keyOf (part (keyBytes * p) keyBytes (view s .check c r))
-unfolding keyOf view
-listed-key s c p r l =
-    let at : ℕ = checkAt (byte s 5) c r in
-    let z : at + 4 * p + 0 ≡ at + 4 * p = omega arith in
-    ap (be32 s) (sym z) ∙ sym (be32-part (at + 4 * p) keyBytes s 0 (omega arith)) ∙ ap (λ x. be32 x 0) (sym (part-part at checkBytes (4 * p) keyBytes s (omega arith)))
-
--- the key of a slot does not look at its body
-pub key-take : (x : List ℕ) → keyOf (take keyBytes x) ≡ keyOf x
-unfolding keyOf
-key-take x = unfold part in be32-part 0 keyBytes x 0 (omega arith)
 
 -- ---- the keys of a data unit, as a list
 pub unit-key : (s : List ℕ) (u r : ℕ) → keyIn s (slotAt (byte s 5) u 0) slotBytes r ≡ keyOf (view s .slot u r)
@@ -74,12 +62,6 @@ unit-within {s} h u n at l k e b =
     }
 
 -- ---- the keys of a unit that is out, as a list
-pub out-key : (s : List ℕ) (c p r : ℕ) → p < 4 → keyIn s (checkAt (byte s 5) c 0 + 4 * p) checkBytes r ≡ keyOf (part (keyBytes * p) keyBytes (view s .check c r))
-unfolding keyIn
-out-key s c p r l =
-    let e : checkAt (byte s 5) c 0 + 4 * p + checkBytes * r ≡ checkAt (byte s 5) c r + 4 * p = omega arith in
-    ap (be32 s) e ∙ listed-key s c p r l
-
 pub out-within : {s : List ℕ} → Sized s → (c p n at : ℕ) → c < 12 → p < 4 → n ≤ byte s 5 → at ≡ checkAt (byte s 5) c 0 + 4 * p → at < 3000000 → Within s at checkBytes n
 out-within {s} h c p n at l q k e b =
     record {
@@ -97,29 +79,45 @@ pub record Known (s : List ℕ) (u : ℕ) : Type 0 where
 
 -- the list at base, a key every step bytes, is that of unit u
 pub record Lists (s : List ℕ) (u base step : ℕ) : Type 0 where
-  pub keys : (r : ℕ) → keyIn s base step r ≡ keyOf (listedKey (view s) u r)
+  pub bytes : (r : ℕ) → part (base + step * r) keyBytes s ≡ listedKey (view s) u r
   pub within : Within s base step (byte s 5)
+
+pub lists-key : {s : List ℕ} {u base step : ℕ} → Lists s u base step → (r : ℕ) → keyIn s base step r ≡ keyOf (listedKey (view s) u r)
+unfolding keyIn keyOf
+lists-key {s} {u} {base} {step} h r =
+    let at : ℕ = base + step * r in
+    let z : at + 0 ≡ at = omega arith in
+    ap (be32 s) (sym z) ∙ sym (be32-part at keyBytes s 0 (omega arith)) ∙ ap (λ x. be32 x 0) (h .bytes r)
+
+-- a slot's own key, and the one that a check unit lists
+own-bytes : (s : List ℕ) (u r i : ℕ) → (byte s (8 + u) ≡ 2 → ⊥) → i ≡ slotAt (byte s 5) u r + 0 → part i keyBytes s ≡ listedKey (view s) u r
+unfolding listedKey view
+own-bytes s u r i h place =
+    ap (λ j. part j keyBytes s) place
+    ∙ sym (part-part (slotAt (byte s 5) u r) slotBytes 0 keyBytes s (omega arith))
+    ∙ unfold part in sym (pick-false (ne-eqb (byte s (8 + u)) 2 h) _ _)
+
+out-bytes : (s : List ℕ) (u r i : ℕ) → byte s (8 + u) ≡ 2 → i ≡ checkAt (byte s 5) (keeper (view s) (u / 4)) r + keyBytes * (u % 4) → part i keyBytes s ≡ listedKey (view s) u r
+unfolding listedKey view
+out-bytes s u r i h place =
+    ap (λ j. part j keyBytes s) place
+    ∙ sym (part-part (checkAt (byte s 5) (keeper (view s) (u / 4)) r) checkBytes (keyBytes * (u % 4)) keyBytes s (omega arith))
+    ∙ sym (pick-true (eq-eqb (byte s (8 + u)) 2 h) _ _)
 
 module _ {s : List ℕ} {u : ℕ} (known : Known s u) where
   pub lists-own : (at : ℕ) → (byte s (8 + u) ≡ 2 → ⊥) → at ≡ slotAt (byte s 5) u 0 → at < 3000000 → Lists s u at slotBytes
   lists-own at h e b =
       record {
-        keys = λ r. ap (λ i. keyIn s i slotBytes r) e ∙ unit-key s u r ∙ sym (key-take (view s .slot u r)) ∙ ap keyOf (own r);
+        bytes = λ r. own-bytes s u r (at + slotBytes * r) h (omega arith);
         within = unit-within (known .sized) u (byte s 5) at (known .unit) (omega arith) e b;
       }
-    where
-      own : (r : ℕ) → take keyBytes (view s .slot u r) ≡ listedKey (view s) u r
-      own r = unfold listedKey in unfold view in sym (pick-false (ne-eqb (byte s (8 + u)) 2 h) _ _)
 
   pub lists-out : (at : ℕ) → byte s (8 + u) ≡ 2 → at ≡ checkAt (byte s 5) (keeper (view s) (u / 4)) 0 + 4 * (u % 4) → at < 3000000 → Lists s u at checkBytes
   lists-out at h e b =
       record {
-        keys = λ r. ap (λ i. keyIn s i checkBytes r) e ∙ out-key s (keeper (view s) (u / 4)) (u % 4) r (omega arith) ∙ ap keyOf (out r);
+        bytes = λ r. out-bytes s u r (at + checkBytes * r) h (omega arith);
         within = out-within (known .sized) (keeper (view s) (u / 4)) (u % 4) (byte s 5) at (known .listed h) (omega arith) (omega arith) e b;
       }
-    where
-      out : (r : ℕ) → part (keyBytes * (u % 4)) keyBytes (view s .check (keeper (view s) (u / 4)) r) ≡ listedKey (view s) u r
-      out r = unfold listedKey in unfold view in sym (pick-true (eq-eqb (byte s (8 + u)) 2 h) _ _)
 
 -- ---- a search through the keys finds what the definitions say
 pub fill-found : (s : List ℕ) (u n r at : ℕ) → n ≡ byte s 5 → at ≡ slotAt (byte s 5) u 0 → r ≡ first n (λ i. eqb (keyIn s at slotBytes i) 0) → r ≡ fillIn (view s) u
@@ -138,8 +136,8 @@ rank-in s u n r key en er = er ∙ rw en
 module _ {s : List ℕ} {u base step : ℕ} (lists : Lists s u base step) where
   pub listed-fill-found : (n r : ℕ) → n ≡ byte s 5 → r ≡ first n (λ i. eqb (keyIn s base step i) 0) → r ≡ listedFill (view s) u
   unfolding listedFill
-  listed-fill-found n r en er = er ∙ rw en (first-ext (byte s 5) _ _ (λ k l. ap (λ x. eqb x 0) (lists .keys k)) ∙ unfold view in refl)
+  listed-fill-found n r en er = er ∙ rw en (first-ext (byte s 5) _ _ (λ k l. ap (λ x. eqb x 0) (lists-key lists k)) ∙ unfold view in refl)
 
   pub listed-rank-found : (n r key : ℕ) → n ≡ listedFill (view s) u → r ≡ first n (λ i. eqb (keyIn s base step i) key) → r ≡ listedRank (view s) u key
   unfolding listedRank
-  listed-rank-found n r key en er = er ∙ rw en (first-ext (listedFill (view s) u) _ _ (λ k l. ap (λ x. eqb x key) (lists .keys k)))
+  listed-rank-found n r key en er = er ∙ rw en (first-ext (listedFill (view s) u) _ _ (λ k l. ap (λ x. eqb x key) (lists-key lists k)))

@@ -2,3 +2,5 @@ pub mod UnitLaws
 pub mod Sized
 pub mod States
 pub mod Keys
+pub mod Groups
+pub mod Slots
