@@ -1,0 +1,5 @@
+pub mod Lists
+pub mod Holding
+pub mod StepLaws
+pub mod DealLoop
+pub mod MergeLoop

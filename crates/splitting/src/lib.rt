@@ -1,0 +1,2 @@
+// Growing and shrinking a store by a unit, and raising its level.
+pub mod dealing;
