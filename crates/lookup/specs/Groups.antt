@@ -110,3 +110,11 @@ recoverable-known {s} {u} h =
       unit = h .unit;
       listed = λ e. keeper-there s u (h .unit) e (group-enough (h .sized) (u / 4) (let l = h .unit in omega arith) (h .whole e));
     }
+
+-- every unit can be read or rebuilt
+pub record Whole (s : List ℕ) : Type 0 where
+  pub sized : Sized s
+  pub units : (u : ℕ) → u < 16 → byte s (8 + u) ≡ 2 → beyondIn (view s) (u / 4) ≡ false
+
+pub whole-unit : {s : List ℕ} → Whole s → (u : ℕ) → u < 16 → Recoverable s u
+whole-unit h u l = record { sized = h .sized; unit = l; whole = h .units u l }

@@ -8,11 +8,11 @@ use native.Mathlib.Omega.{arith}
 use native.Mathlib.Nat.{mul-le-mul}
 use lib.Dec.{eqb}
 use lib.ListN.{length, take}
-use borrow.Author.Tests.{eq-eqb, ne-eqb}
+use borrow.Author.Tests.{eq-eqb, ne-eqb, eqb-false}
 use Rattle.buffer.specs.Choice.{pick}
 use Rattle.buffer.specs.ChoiceLaws.{pick-true, pick-false}
 use Rattle.buffer.specs.Range.{first}
-use Rattle.buffer.specs.RangeLaws.{first-ext}
+use Rattle.buffer.specs.RangeLaws.{first-ext, first-le, first-misses}
 use Rattle.buffer.specs.Bytes.{byte, be32, part}
 use Rattle.buffer.specs.ByteLaws.{be32-part}
 use Rattle.buffer.specs.SpliceLaws.{part-part}
@@ -141,3 +141,30 @@ module _ {s : List ℕ} {u base step : ℕ} (lists : Lists s u base step) where
   pub listed-rank-found : (n r key : ℕ) → n ≡ listedFill (view s) u → r ≡ first n (λ i. eqb (keyIn s base step i) key) → r ≡ listedRank (view s) u key
   unfolding listedRank
   listed-rank-found n r key en er = er ∙ rw en (first-ext (listedFill (view s) u) _ _ (λ k l. ap (λ x. eqb x key) (lists-key lists k)))
+
+-- ---- a unit in service lists its own keys
+key-take : (x : List ℕ) → keyOf (take keyBytes x) ≡ keyOf x
+unfolding keyOf
+key-take x = unfold part in be32-part 0 keyBytes x 0 (omega arith)
+
+module _ (s : List ℕ) (u : ℕ) (serves : byte s (8 + u) ≡ 2 → ⊥) where
+  own-key : (r : ℕ) → keyOf (view s .slot u r) ≡ keyOf (listedKey (view s) u r)
+  unfolding listedKey view
+  own-key r = sym (key-take _) ∙ ap keyOf (sym (pick-false (ne-eqb (byte s (8 + u)) 2 serves) _ _))
+
+  pub own-fill : fillIn (view s) u ≡ listedFill (view s) u
+  unfolding fillIn listedFill
+  own-fill = first-ext (view s .size) _ _ (λ r l. ap (λ x. eqb x 0) (own-key r))
+
+  pub own-rank : (k : ℕ) → rankIn (view s) u k ≡ listedRank (view s) u k
+  unfolding rankIn listedRank
+  own-rank k = rw own-fill (first-ext (listedFill (view s) u) _ _ (λ r l. ap (λ x. eqb x k) (own-key r)))
+
+-- a listed rank has a key
+pub listed-has-key : (s : List ℕ) (u r : ℕ) → r < listedFill (view s) u → keyOf (listedKey (view s) u r) ≡ 0 → ⊥
+unfolding listedFill
+listed-has-key s u r l = eqb-false (keyOf (listedKey (view s) u r)) 0 (first-misses (view s .size) (λ q. eqb (keyOf (listedKey (view s) u q)) 0) r l)
+
+pub listed-fill-small : (s : List ℕ) (u : ℕ) → listedFill (view s) u ≤ byte s 5
+unfolding listedFill view
+listed-fill-small s u = first-le (byte s 5) _
