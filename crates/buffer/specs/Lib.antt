@@ -2,3 +2,11 @@ pub mod Choice
 pub mod Range
 pub mod Bytes
 pub mod Table
+pub mod ChoiceLaws
+pub mod TestLaws
+pub mod RangeLaws
+pub mod SpliceLaws
+pub mod ByteLaws
+pub mod TableLaws
+pub mod LoopTests
+pub mod LoopWrites

@@ -1,6 +1,6 @@
 -- Tests, counts, sums and lists over the numbers 0 to n - 1. Assumes nothing.
 use Prim.Native.Nat.{ℕ, zero, suc, _+_}
-use mathlib.Core.Bool.{Bool, true, false, _&&_}
+use mathlib.Core.Bool.{Bool, true, _&&_}
 use mathlib.Core.List.{List, [], _∷_}
 use Rattle.buffer.specs.Choice.{pick}
 

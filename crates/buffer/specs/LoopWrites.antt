@@ -1,0 +1,121 @@
+-- What holds at each turn of a loop that writes a list: entry by entry from the front, by a change each turn, or piece behind piece. A record
+-- for each kind, which holds at the start, is handed on by a turn, and gives the list at the end. Assumes nothing.
+use mathlib.Core.Path.{_≡_, refl, sym, ap, _∙_}
+use mathlib.Core.List.{List, [], _∷_, _++_, append-assoc, append-nil}
+use Prim.Native.Nat.{ℕ, zero, suc, _+_, _≤_, _<_}
+use native.Mathlib.Nat.{le-of-suc-le-suc, not-suc-le-zero}
+use native.Mathlib.Numerals.{add-one}
+use native.Mathlib.Omega.{arith}
+use lib.ListN.{length, getD, set, drop, length-append, length-set, drop-of-length-le, List·getD-eq-default}
+use lib.Seq.{take-at, drop-at, drop-drop}
+use Rattle.buffer.specs.Range.{iter, entries}
+use Rattle.buffer.specs.RangeLaws.{length-entries, iter-none, iter-more}
+use Rattle.buffer.specs.Bytes.{splice}
+use Rattle.buffer.specs.SpliceLaws.{length-splice}
+use Rattle.buffer.specs.Table.{tab}
+use Rattle.buffer.specs.TableLaws.{tab-more}
+
+-- ---- from the front, an entry a turn
+-- l with its first n entries replaced by f's
+unfoldable pub filled : (ℕ → ℕ) → ℕ → List ℕ → List ℕ
+filled f n l = entries n f ++ drop n l
+
+pub filled-none : (f : ℕ → ℕ) (l : List ℕ) → l ≡ filled f 0 l
+unfolding filled entries
+filled-none f l = refl
+
+pub filled-all : (f : ℕ → ℕ) (l : List ℕ) (n : ℕ) → length l ≤ n → filled f n l ≡ entries n f
+unfolding filled
+filled-all f l n h = rw (drop-of-length-le l h) (append-nil (entries n f))
+
+fill-suc : (f : ℕ → ℕ) (l : List ℕ) (i : ℕ) → i < length l → set (filled f i l) i (f i) ≡ filled f (suc i) l
+unfolding filled entries
+fill-suc f [] i h = absurd (not-suc-le-zero h)
+fill-suc f (x ∷ l) zero h = refl
+fill-suc f (x ∷ l) (suc i) h = ap (λ (t : List ℕ). f 0 ∷ t) (fill-suc (λ (k : ℕ). f (suc k)) l i (le-of-suc-le-suc h))
+
+pub filled-more : (f : ℕ → ℕ) (l : List ℕ) (i : ℕ) → i < length l → set (filled f i l) i (f i) ≡ filled f (i + 1) l
+filled-more f l i h = rw add-one (fill-suc f l i h)
+
+-- an entry that no turn has written yet
+pub filled-rest : (f : ℕ → ℕ) (l : List ℕ) (i : ℕ) → getD (filled f i l) i 0 ≡ getD l i 0
+unfolding filled entries
+filled-rest f l zero = refl
+filled-rest f [] (suc i) = List·getD-eq-default (entries i (λ (k : ℕ). f (suc k)) ++ []) 0 (simp (length-append, length-entries) (omega arith))
+filled-rest f (x ∷ l) (suc i) = filled-rest (λ (k : ℕ). f (suc k)) l i
+
+-- l₀ is the list where the loop begins
+pub record Filling (f : ℕ → ℕ) (l₀ l : List ℕ) (i : ℕ) : Type 0 where
+  pub within : i ≤ length l₀
+  pub long : length l ≡ length l₀
+  pub bytes : l ≡ filled f i l₀
+
+pub filling-start : {f : ℕ → ℕ} {l : List ℕ} → Filling f l l 0
+filling-start {f} {l} = record { within = omega arith; long = refl; bytes = filled-none f l }
+
+pub filling-turn : {f : ℕ → ℕ} {l₀ l : List ℕ} {i : ℕ} (v : ℕ) → Filling f l₀ l i → i < length l → v ≡ f i → Filling f l₀ (set l i v) (i + 1)
+filling-turn {f} {l₀} {l} {i} v g h q =
+    let k : i < length l₀ = omega arith in
+    record {
+      within = omega arith;
+      long = length-set l i v ∙ g .long;
+      bytes = rw (g .bytes, q) (filled-more f l₀ i k);
+    }
+
+-- the entry that the next turn writes is as it was
+pub filling-read : {f : ℕ → ℕ} {l₀ l : List ℕ} {i : ℕ} → Filling f l₀ l i → getD l i 0 ≡ getD l₀ i 0
+filling-read {f} {l₀} {l} {i} g = rw (g .bytes) (filled-rest f l₀ i)
+
+pub filling-end : {f : ℕ → ℕ} {l₀ l : List ℕ} {i : ℕ} → Filling f l₀ l i → length l ≤ i → l ≡ entries (length l₀) f
+filling-end {f} {l₀} {l} {i} g h =
+    let e : i ≡ length l₀ = omega arith in
+    g .bytes ∙ rw e (filled-all f l₀ (length l₀) (omega arith))
+
+-- ---- by a change each turn that keeps the length
+pub record Stepping (f : ℕ → List ℕ → List ℕ) (n : ℕ) (l₀ l : List ℕ) (i : ℕ) : Type 0 where
+  pub within : i ≤ n
+  pub long : length l ≡ length l₀
+  pub bytes : l ≡ iter i f l₀
+
+pub stepping-start : {f : ℕ → List ℕ → List ℕ} {n : ℕ} {l : List ℕ} → Stepping f n l l 0
+stepping-start {f} {n} {l} = record { within = omega arith; long = refl; bytes = sym (iter-none f l) }
+
+pub stepping-turn : {f : ℕ → List ℕ → List ℕ} {n : ℕ} {l₀ l l′ : List ℕ} {i : ℕ} → Stepping f n l₀ l i → i < n → length l′ ≡ length l → l′ ≡ f i l → Stepping f n l₀ l′ (i + 1)
+stepping-turn {f} {n} {l₀} {l} {l′} {i} g h k e =
+    record { within = omega arith; long = k ∙ g .long; bytes = e ∙ ap (f i) (g .bytes) ∙ sym (iter-more i f l₀) }
+
+pub stepping-end : {f : ℕ → List ℕ → List ℕ} {n : ℕ} {l₀ l : List ℕ} {i : ℕ} → Stepping f n l₀ l i → n ≤ i → l ≡ iter n f l₀
+stepping-end {f} {n} {l₀} {l} {i} g h =
+    let same : i ≡ n = omega arith in
+    g .bytes ∙ ap (λ m. iter m f l₀) same
+
+-- ---- piece behind piece; `at` is where the next goes
+pub record Appending (f : ℕ → List ℕ) (n : ℕ) (o₀ o : List ℕ) (i at : ℕ) : Type 0 where
+  pub within : i ≤ n
+  pub place : at ≡ length (tab i f)
+  pub long : length o ≡ length o₀
+  pub bytes : o ≡ tab i f ++ drop at o₀
+
+pub appending-start : {f : ℕ → List ℕ} {n : ℕ} {o : List ℕ} → Appending f n o o 0 0
+unfolding tab
+appending-start = record { within = omega arith; place = refl; long = refl; bytes = refl }
+
+pub appending-turn : {f : ℕ → List ℕ} {n : ℕ} {o₀ o o′ : List ℕ} {i at : ℕ} (w : ℕ) → Appending f n o₀ o i at → i < n → w ≡ length (f i) → at + w ≤ length o
+    → o′ ≡ splice at w (f i) o → Appending f n o₀ o′ (i + 1) (at + w)
+appending-turn {f} {n} {o₀} {o} {o′} {i} {at} w g h e l q =
+    record {
+      within = omega arith;
+      place = rw (tab-more i f) (simp length-append (omega arith));
+      long = ap length q ∙ length-splice at w (f i) o l (sym e) ∙ g .long;
+      bytes = q ∙ ap (splice at w (f i)) (g .bytes) ∙ next f i at w o₀ (sym (g .place));
+    }
+  where
+    next : (f : ℕ → List ℕ) (i at w : ℕ) (o₀ : List ℕ) → length (tab i f) ≡ at → splice at w (f i) (tab i f ++ drop at o₀) ≡ tab (i + 1) f ++ drop (at + w) o₀
+    next f i at w o₀ p =
+        unfold splice in rw (take-at (tab i f) (drop at o₀) at p, drop-at (tab i f) (drop at o₀) at p, drop-drop w at o₀, tab-more i f)
+        (sym (append-assoc (tab i f) (f i) (drop (at + w) o₀)))
+
+pub appending-end : {f : ℕ → List ℕ} {n : ℕ} {o₀ o : List ℕ} {i at : ℕ} → Appending f n o₀ o i at → n ≤ i → o ≡ tab n f ++ drop (length (tab n f)) o₀
+appending-end {f} {n} {o₀} {o} {i} {at} g h =
+    let same : i ≡ n = omega arith in
+    g .bytes ∙ rw (g .place, same)

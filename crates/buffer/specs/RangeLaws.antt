@@ -1,0 +1,264 @@
+-- Laws of the definitions of `Range`: tests, counts, first places, sums and lists over 0 to n - 1. Assumes nothing.
+use mathlib.Core.Path.{_≡_, refl, sym, ap, ap₂, _∙_}
+use mathlib.Core.Bool.{Bool, true, false, _&&_}
+use mathlib.Core.List.{List, _∷_}
+use mathlib.Core.Logic.{⊎-elim}
+use Prim.Native.Nat.{ℕ, zero, suc, _+_, _*_, _≤_, _<_}
+use native.Mathlib.Nat.{le-of-suc-le-suc, not-suc-le-zero, eq-or-lt-of-le}
+use native.Mathlib.Numerals.{add-one}
+use native.Mathlib.Omega.{arith}
+use lib.Dec.{ltb}
+use lib.ListN.{length, getD}
+use lib.Seq.{ext-getD}
+use borrow.Author.Tests.{ltb-true, ltb-false}
+use Rattle.buffer.specs.Choice.{pick}
+use Rattle.buffer.specs.ChoiceLaws.{by-test, by-pick, pick-true, pick-false}
+use Rattle.buffer.specs.TestLaws.{and-true, and-first, and-second, not-both}
+use Rattle.buffer.specs.Range.{all, count, first, sum, iter, entries}
+
+-- what holds at n and at each below it holds at each below its successor
+pub below-suc {ℓ} : (P : ℕ → Type ℓ) (n : ℕ) → ((k : ℕ) → k < n → P k) → P n → (k : ℕ) → k < suc n → P k
+below-suc P n h e k l = ⊎-elim (λ q. rw q e) (λ lt. h k lt) (eq-or-lt-of-le (le-of-suc-le-suc l))
+
+-- ---- all
+pub all-none : (p : ℕ → Bool) → all 0 p ≡ true
+unfolding all
+all-none p = refl
+
+pub all-more : (p : ℕ → Bool) (n : ℕ) → all (n + 1) p ≡ (all n p && p n)
+unfolding all
+all-more p n = rw add-one
+
+pub all-ext : (n : ℕ) (p q : ℕ → Bool) → ((k : ℕ) → k < n → p k ≡ q k) → all n p ≡ all n q
+unfolding all
+all-ext zero p q h = refl
+all-ext (suc n) p q h = rw (h n (omega arith), all-ext n p q (λ k l. h k (omega arith)))
+
+-- where it holds over the range, at each
+pub all-true : (n : ℕ) (p : ℕ → Bool) → all n p ≡ true → (k : ℕ) → k < n → p k ≡ true
+unfolding all
+all-true zero p h k l = absurd (not-suc-le-zero l)
+all-true (suc n) p h k l = below-suc (λ k. p k ≡ true) n (all-true n p (and-first (all n p) (p n) h)) (and-second (all n p) (p n) h) k l
+
+-- and the other way
+pub all-holds : (n : ℕ) (p : ℕ → Bool) → ((k : ℕ) → k < n → p k ≡ true) → all n p ≡ true
+unfolding all
+all-holds zero p h = refl
+all-holds (suc n) p h = and-true (all-holds n p (λ k l. h k (omega arith))) (h n (omega arith))
+
+-- one place at which it fails
+pub all-fails : (n : ℕ) (p : ℕ → Bool) (k : ℕ) → k < n → p k ≡ false → all n p ≡ false
+unfolding all
+all-fails n p k l e = by-test (λ t. t ≡ false) (all n p) (λ h. not-both (all-true n p h k l) e) (λ h. refl)
+
+-- ---- count
+pub count-none : (p : ℕ → Bool) → count 0 p ≡ 0
+unfolding count
+count-none p = refl
+
+pub count-more : (p : ℕ → Bool) (n : ℕ) → count (n + 1) p ≡ count n p + pick (p n) 1 0
+unfolding count
+count-more p n = rw add-one
+
+pub count-ext : (n : ℕ) (p q : ℕ → Bool) → ((k : ℕ) → k < n → p k ≡ q k) → count n p ≡ count n q
+unfolding count
+count-ext zero p q h = refl
+count-ext (suc n) p q h = rw (h n (omega arith), count-ext n p q (λ k l. h k (omega arith)))
+
+pub count-le : (n : ℕ) (p : ℕ → Bool) → count n p ≤ n
+unfolding count
+count-le zero p = omega arith
+count-le (suc n) p =
+    let ih : count n p ≤ n = count-le n p in
+    by-pick (λ c. count n p + c ≤ suc n) (p n) 1 0 (λ e. omega arith) (λ e. omega arith)
+
+-- nothing is counted where the test fails throughout, and the other way
+pub count-fails : (n : ℕ) (p : ℕ → Bool) → ((k : ℕ) → k < n → p k ≡ false) → count n p ≡ 0
+unfolding count
+count-fails zero p h = refl
+count-fails (suc n) p h = rw (pick-false (h n (omega arith)), count-fails n p (λ k l. h k (omega arith)))
+
+pub count-zero : (n : ℕ) (p : ℕ → Bool) → count n p ≡ 0 → (k : ℕ) → k < n → p k ≡ false
+unfolding count
+count-zero zero p e k l = absurd (not-suc-le-zero l)
+count-zero (suc n) p e k l =
+    below-suc
+    (λ k. p k ≡ false)
+    n
+    (count-zero n p (omega arith))
+    (by-test (λ t. t ≡ false) (p n) (λ q. absurd (omega (arith, e, pick-true {A = ℕ} q 1 0))) (λ q. refl))
+    k
+    l
+
+-- one place at which it holds
+pub count-pos : (n : ℕ) (p : ℕ → Bool) (k : ℕ) → k < n → p k ≡ true → 0 < count n p
+count-pos n p k l e =
+    by-test
+    (λ t. 0 < count n p)
+    (ltb 0 (count n p))
+    (λ q. ltb-true 0 (count n p) q)
+    (λ q. not-both e (count-zero n p (let z : count n p ≤ 0 = ltb-false 0 (count n p) q in omega arith) k l))
+
+-- the whole range is counted where the test holds throughout
+pub count-holds : (n : ℕ) (p : ℕ → Bool) → ((k : ℕ) → k < n → p k ≡ true) → count n p ≡ n
+unfolding count
+count-holds zero p h = refl
+count-holds (suc n) p h = rw (pick-true (h n (omega arith)), count-holds n p (λ k l. h k (omega arith)), add-one)
+
+-- the count of a range taken apart
+pub count-append : (n m : ℕ) (p : ℕ → Bool) → count (n + m) p ≡ count n p + count m (λ k. p (n + k))
+unfolding count
+count-append n zero p = let e : n + 0 ≡ n = omega arith in rw e (omega arith)
+count-append n (suc m) p = let e : n + suc m ≡ suc (n + m) = omega arith in rw (e, count, count-append n m p) (omega arith)
+
+-- ---- first
+pub first-le : (n : ℕ) (p : ℕ → Bool) → first n p ≤ n
+unfolding first
+first-le zero p = omega arith
+first-le (suc n) p =
+    let ih : first n (λ (k : ℕ). p (suc k)) ≤ n = first-le n (λ (k : ℕ). p (suc k)) in
+    by-pick (λ f. f ≤ suc n) (p 0) 0 (suc (first n (λ (k : ℕ). p (suc k)))) (λ e. omega arith) (λ e. omega arith)
+
+pub first-ext : (n : ℕ) (p q : ℕ → Bool) → ((k : ℕ) → k < n → p k ≡ q k) → first n p ≡ first n q
+unfolding first
+first-ext zero p q h = refl
+first-ext (suc n) p q h = rw (h 0 (omega arith), first-ext n (λ (k : ℕ). p (suc k)) (λ (k : ℕ). q (suc k)) (λ k l. h (suc k) (omega arith)))
+
+-- the place at which it holds, if it fails before
+pub first-at : (n : ℕ) (p : ℕ → Bool) (i : ℕ) → i < n → ((k : ℕ) → k < i → p k ≡ false) → p i ≡ true → first n p ≡ i
+unfolding first
+first-at zero p i l h e = absurd (not-suc-le-zero l)
+first-at (suc n) p zero l h e = pick-true e 0 (suc (first n (λ (k : ℕ). p (suc k))))
+first-at (suc n) p (suc i) l h e =
+    rw (pick-false (h 0 (omega arith))) (ap suc (first-at n (λ (k : ℕ). p (suc k)) i (le-of-suc-le-suc l) (λ k q. h (suc k) (omega arith)) e))
+
+-- no place
+pub first-none : (n : ℕ) (p : ℕ → Bool) → ((k : ℕ) → k < n → p k ≡ false) → first n p ≡ n
+unfolding first
+first-none zero p h = refl
+first-none (suc n) p h =
+    rw (pick-false (h 0 (omega arith))) (ap suc (first-none n (λ (k : ℕ). p (suc k)) (λ k q. h (suc k) (omega arith))))
+
+-- the test holds at the first place at which it does
+pub first-holds : (n : ℕ) (p : ℕ → Bool) → first n p < n → p (first n p) ≡ true
+unfolding first
+first-holds zero p l = absurd (not-suc-le-zero l)
+first-holds (suc n) p l =
+    by-pick
+    (λ f. f < suc n → p f ≡ true)
+    (p 0)
+    0
+    (suc (first n (λ (k : ℕ). p (suc k))))
+    (λ e _. e)
+    (λ e q. first-holds n (λ (k : ℕ). p (suc k)) (le-of-suc-le-suc q))
+    l
+
+-- and fails before it
+pub first-misses : (n : ℕ) (p : ℕ → Bool) (k : ℕ) → k < first n p → p k ≡ false
+unfolding first
+first-misses zero p k l = absurd (not-suc-le-zero l)
+first-misses (suc n) p zero l =
+    by-test (λ t. t ≡ false) (p 0) (λ e. absurd (not-suc-le-zero (rw (pick-true e) at l))) (λ e. refl)
+first-misses (suc n) p (suc k) l =
+    by-pick
+    (λ f. suc k < f → p (suc k) ≡ false)
+    (p 0)
+    0
+    (suc (first n (λ (k : ℕ). p (suc k))))
+    (λ e q. absurd (not-suc-le-zero q))
+    (λ e q. first-misses n (λ (k : ℕ). p (suc k)) k (le-of-suc-le-suc q))
+    l
+
+-- what is counted is found
+pub first-found : (n : ℕ) (p : ℕ → Bool) → 0 < count n p → first n p < n
+first-found n p h =
+    by-test
+    (λ t. first n p < n)
+    (ltb (first n p) n)
+    (λ e. ltb-true (first n p) n e)
+    (λ e.
+    let l : n ≤ first n p = ltb-false (first n p) n e in
+    absurd (omega (arith, count-fails n p (λ k q. first-misses n p k (omega arith)))))
+
+-- no place at which it holds comes before
+pub first-le-at : (n : ℕ) (p : ℕ → Bool) (k : ℕ) → k < n → p k ≡ true → first n p ≤ k
+first-le-at n p k l e =
+    by-test
+    (λ t. first n p ≤ k)
+    (ltb k (first n p))
+    (λ q. not-both e (first-misses n p k (ltb-true k (first n p) q)))
+    (λ q. ltb-false k (first n p) q)
+
+-- ---- sum
+pub sum-none : (f : ℕ → ℕ) → sum 0 f ≡ 0
+unfolding sum
+sum-none f = refl
+
+pub sum-more : (f : ℕ → ℕ) (n : ℕ) → sum (n + 1) f ≡ sum n f + f n
+unfolding sum
+sum-more f n = rw add-one
+
+pub sum-ext : (n : ℕ) (f g : ℕ → ℕ) → ((k : ℕ) → k < n → f k ≡ g k) → sum n f ≡ sum n g
+unfolding sum
+sum-ext zero f g h = refl
+sum-ext (suc n) f g h = rw (h n (omega arith), sum-ext n f g (λ k l. h k (omega arith)))
+
+-- a sum of terms below a bound
+pub sum-le : (n m : ℕ) (f : ℕ → ℕ) → ((k : ℕ) → k < n → f k ≤ m) → sum n f ≤ m * n
+unfolding sum
+sum-le zero m f h = omega arith
+sum-le (suc n) m f h = omega (arith, h n (omega arith), sum-le n m f (λ k l. h k (omega arith)))
+
+-- a longer sum is no less
+pub sum-mono : (n m : ℕ) (f : ℕ → ℕ) → n ≤ m → sum n f ≤ sum m f
+unfolding sum
+sum-mono n zero f h = let e : n ≡ 0 = omega arith in rw e (omega arith)
+sum-mono n (suc m) f h =
+    ⊎-elim (λ e. rw e (omega arith)) (λ l. let ih : sum n f ≤ sum m f = sum-mono n m f (le-of-suc-le-suc l) in omega arith) (eq-or-lt-of-le h)
+
+-- ---- iter
+pub iter-none : {A : Type 0} (f : ℕ → A → A) (a : A) → iter 0 f a ≡ a
+unfolding iter
+iter-none f a = refl
+
+pub iter-more : {A : Type 0} (n : ℕ) (f : ℕ → A → A) (a : A) → iter (n + 1) f a ≡ f n (iter n f a)
+unfolding iter
+iter-more n f a = rw add-one
+
+pub iter-ext : {A : Type 0} (n : ℕ) (f g : ℕ → A → A) (a : A) → ((k : ℕ) (x : A) → k < n → f k x ≡ g k x) → iter n f a ≡ iter n g a
+unfolding iter
+iter-ext zero f g a h = refl
+iter-ext (suc n) f g a h = h n (iter n f a) (omega arith) ∙ ap (g n) (iter-ext n f g a (λ k x l. h k x (omega arith)))
+
+-- what each turn keeps
+pub iter-keeps {ℓ} : {A : Type 0} (P : A → Type ℓ) (n : ℕ) (f : ℕ → A → A) (a : A) → P a → ((k : ℕ) (x : A) → k < n → P x → P (f k x)) → P (iter n f a)
+unfolding iter
+iter-keeps P zero f a p h = p
+iter-keeps P (suc n) f a p h = h n (iter n f a) (omega arith) (iter-keeps P n f a p (λ k x l. h k x (omega arith)))
+
+-- ---- entries
+pub length-entries : (n : ℕ) (f : ℕ → ℕ) → length (entries n f) ≡ n
+unfolding entries
+length-entries zero f = refl
+length-entries (suc n) f = ap suc (length-entries n (λ (k : ℕ). f (suc k)))
+
+pub getD-entries : (n : ℕ) (f : ℕ → ℕ) (k d : ℕ) → k < n → getD (entries n f) k d ≡ f k
+unfolding entries
+getD-entries zero f k d h = absurd (not-suc-le-zero h)
+getD-entries (suc n) f zero d h = refl
+getD-entries (suc n) f (suc k) d h = getD-entries n (λ (k : ℕ). f (suc k)) k d (le-of-suc-le-suc h)
+
+pub entries-ext : (n : ℕ) (f g : ℕ → ℕ) → ((k : ℕ) → k < n → f k ≡ g k) → entries n f ≡ entries n g
+unfolding entries
+entries-ext zero f g h = refl
+entries-ext (suc n) f g h =
+    ap₂ (λ (x : ℕ) (l : List ℕ). x ∷ l) (h 0 (omega arith)) (entries-ext n (λ (k : ℕ). f (suc k)) (λ (k : ℕ). g (suc k)) (λ k l. h (suc k) (omega arith)))
+
+-- a list of which the length and each entry are known
+pub entries-of : (l : List ℕ) (n : ℕ) (f : ℕ → ℕ) → length l ≡ n → ((k : ℕ) → k < n → getD l k 0 ≡ f k) → l ≡ entries n f
+entries-of l n f e h =
+    ext-getD 0 l (entries n f) (e ∙ sym (length-entries n f)) (λ k q. h k (rw (sym e) q) ∙ sym (getD-entries n f k 0 (rw (sym e) q)))
+
+-- a list by its own entries
+pub entries-self : (l : List ℕ) → l ≡ entries (length l) (λ k. getD l k 0)
+entries-self l = entries-of l (length l) (λ k. getD l k 0) refl (λ k h. refl)

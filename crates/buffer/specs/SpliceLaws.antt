@@ -1,0 +1,165 @@
+-- Laws of parts and of parts replaced, over any place and width. Assumes nothing.
+use mathlib.Core.Path.{_≡_, refl, sym, ap, _∙_}
+use mathlib.Core.List.{List, [], _∷_, _++_, append-assoc, append-nil}
+use Prim.Native.Nat.{ℕ, zero, suc, _+_, _-_, _≤_}
+use native.Mathlib.Nat.{zero-add, suc-add}
+use native.Mathlib.Omega.{arith}
+use lib.ListN.{length, take, drop, length-append, length-take, length-drop, take-append-drop, drop-of-length-le}
+use lib.Seq.{take-append-le, drop-append-le, take-append-add, drop-append-add, take-at, drop-at, take-nil, take-take, take-all, take-add, drop-drop, length-take-le}
+use Rattle.buffer.specs.Bytes.{part, splice}
+
+-- ---- lengths
+pub length-part : (at n : ℕ) (s : List ℕ) → at + n ≤ length s → length (part at n s) ≡ n
+unfolding part
+length-part at n s h = length-take-le n (drop at s) (simp length-drop (omega arith))
+
+pub length-splice : (at n : ℕ) (new s : List ℕ) → at + n ≤ length s → length new ≡ n → length (splice at n new s) ≡ length s
+unfolding splice
+length-splice at n new s h e = simp (length-append, length-take, length-drop) (omega arith)
+
+-- ---- a part that is the whole
+pub part-whole : (n : ℕ) (s : List ℕ) → length s ≤ n → part 0 n s ≡ s
+unfolding part
+part-whole n s h = take-all n s h
+
+pub splice-whole : (n : ℕ) (new s : List ℕ) → length s ≤ n → splice 0 n new s ≡ new
+unfolding splice
+splice-whole n new s h = rw (drop-of-length-le s {i = n} h) (append-nil new)
+
+-- ---- the first, and the second, of two lists
+pub part-left : (at n : ℕ) (x y : List ℕ) → at + n ≤ length x → part at n (x ++ y) ≡ part at n x
+unfolding part
+part-left at n x y h = rw (drop-append-le at x y (omega arith), take-append-le n (drop at x) y (simp length-drop (omega arith)))
+
+pub part-right : (m at n : ℕ) (x y : List ℕ) → length x ≡ m → part (m + at) n (x ++ y) ≡ part at n y
+unfolding part
+part-right m at n x y e = rw (← e, drop-append-add x y at)
+
+pub part-seam : (n : ℕ) (x y : List ℕ) → length x ≡ n → part 0 n (x ++ y) ≡ x
+unfolding part
+part-seam n x y e = take-at x y n e
+
+pub drop-right : (m at : ℕ) (x y : List ℕ) → length x ≡ m → drop (m + at) (x ++ y) ≡ drop at y
+drop-right m at x y e = rw (← e) (drop-append-add x y at)
+
+pub splice-left : (at n : ℕ) (new x y : List ℕ) → at + n ≤ length x → splice at n new (x ++ y) ≡ splice at n new x ++ y
+unfolding splice
+splice-left at n new x y h =
+    rw (take-append-le at x y (omega arith), drop-append-le at x y (omega arith), drop-append-le n (drop at x) y (simp length-drop (omega arith)))
+    (simp append-assoc)
+
+pub splice-right : (m at n : ℕ) (new x y : List ℕ) → length x ≡ m → splice (m + at) n new (x ++ y) ≡ x ++ splice at n new y
+unfolding splice
+splice-right m at n new x y e = rw (← e, take-append-add x y at, drop-append-add x y at) (append-assoc x (take at y) (new ++ drop n (drop at y)))
+
+-- ---- a part of a part
+drop-take : (j m : ℕ) (l : List ℕ) → drop j (take (j + m) l) ≡ take m (drop j l)
+drop-take zero m l = rw zero-add
+drop-take (suc j) m [] = rw (suc-add, take-nil m)
+drop-take (suc j) m (y ∷ l) = rw suc-add (drop-take j m l)
+
+pub part-part : (at n o m : ℕ) (s : List ℕ) → o + m ≤ n → part o m (part at n s) ≡ part (at + o) m s
+unfolding part
+part-part at n o m s h =
+    rw (same, drop-take o (m + (n - (o + m))) (drop at s), take-take m (m + (n - (o + m))) (drop o (drop at s)) (omega arith), drop-drop o at s)
+  where
+    same : n ≡ o + (m + (n - (o + m)))
+    same = omega arith
+
+-- two parts one behind the other
+pub part-append : (at n m : ℕ) (s : List ℕ) → part at n s ++ part (at + n) m s ≡ part at (n + m) s
+unfolding part
+part-append at n m s = rw (← drop-drop n at s) (sym (take-add n m (drop at s)))
+
+-- ---- a list cut at a part of it
+cut : (at n : ℕ) (s : List ℕ) → s ≡ take at s ++ (part at n s ++ drop n (drop at s))
+unfolding part
+cut at n s = sym (rw (take-append-drop n (drop at s)) (take-append-drop at s))
+
+pub splice-part : (at n : ℕ) (s : List ℕ) → splice at n (part at n s) s ≡ s
+unfolding splice
+splice-part at n s = sym (cut at n s)
+
+-- ---- a part of a list in which a part was replaced: inside it, before it, behind it
+long : (at : ℕ) (s : List ℕ) → at ≤ length s → length (take at s) ≡ at
+long at s h = length-take-le at s h
+
+pub part-splice-inside : (at n o m : ℕ) (new s : List ℕ) → at ≤ length s → length new ≡ n → o + m ≤ n → part (at + o) m (splice at n new s) ≡ part o m new
+unfolding splice
+part-splice-inside at n o m new s h e l =
+    part-right at o m (take at s) (new ++ drop n (drop at s)) (long at s h) ∙ part-left o m new (drop n (drop at s)) (omega arith)
+
+pub part-splice : (at n : ℕ) (new s : List ℕ) → at ≤ length s → length new ≡ n → part at n (splice at n new s) ≡ new
+unfolding splice part
+part-splice at n new s h e =
+    rw (drop-at (take at s) (new ++ drop n (drop at s)) at (long at s h)) (take-at new (drop n (drop at s)) n e)
+
+pub part-splice-before : (at n o m : ℕ) (new s : List ℕ) → at ≤ length s → o + m ≤ at → part o m (splice at n new s) ≡ part o m s
+unfolding splice
+part-splice-before at n o m new s h l =
+    part-left o m (take at s) (new ++ drop n (drop at s)) (rw (long at s h) l)
+    ∙ sym (part-left o m (take at s) (drop at s) (rw (long at s h) l))
+    ∙ ap (part o m) (take-append-drop at s)
+
+pub part-splice-behind : (at n o m : ℕ) (new s : List ℕ) → at + n ≤ length s → length new ≡ n → at + n ≤ o → part o m (splice at n new s) ≡ part o m s
+unfolding splice
+part-splice-behind at n o m new s h e l =
+    let k : ℕ = o - (at + n) in
+    let place : o ≡ at + (n + k) = omega arith in
+    let front : length (take at s) ≡ at = long at s (omega arith) in
+    let mid : length (part at n s) ≡ n = length-part at n s h in
+    ap (λ j. part j m (take at s ++ (new ++ drop n (drop at s)))) place
+    ∙ part-right at (n + k) m (take at s) (new ++ drop n (drop at s)) front
+    ∙ part-right n k m new (drop n (drop at s)) e
+    ∙ sym (part-right n k m (part at n s) (drop n (drop at s)) mid)
+    ∙ sym (part-right at (n + k) m (take at s) (part at n s ++ drop n (drop at s)) front)
+    ∙ ap (λ j. part j m (take at s ++ (part at n s ++ drop n (drop at s)))) (sym place)
+    ∙ ap (part o m) (sym (cut at n s))
+
+-- ---- a part replaced in a list in which a part was replaced: the same, the next, one inside it, one behind it
+pub splice-splice : (at n : ℕ) (x y s : List ℕ) → at ≤ length s → length x ≡ n → splice at n y (splice at n x s) ≡ splice at n y s
+unfolding splice
+splice-splice at n x y s h e =
+    rw
+    (take-at (take at s) (x ++ drop n (drop at s)) at (long at s h), drop-at (take at s) (x ++ drop n (drop at s)) at (long at s h), drop-at x (drop n (drop at s)) n e)
+
+pub splice-next : (at n m : ℕ) (x y s : List ℕ) → at ≤ length s → length x ≡ n → splice (at + n) m y (splice at n x s) ≡ splice at (n + m) (x ++ y) s
+unfolding splice
+splice-next at n m x y s h e =
+    rw
+    (← append-assoc (take at s) x (drop n (drop at s)), take-at (take at s ++ x) (drop n (drop at s)) (at + n) both, drop-at (take at s ++ x) (drop n (drop at s)) (at + n) both, drop-drop m n (drop at s))
+    (simp append-assoc)
+  where
+    both : length (take at s ++ x) ≡ at + n
+    both = simp (length-append, length-take) (omega arith)
+
+pub splice-inside : (at n o m : ℕ) (x y s : List ℕ) → at ≤ length s → length x ≡ n → o + m ≤ n → splice (at + o) m y (splice at n x s) ≡ splice at n (splice o m y x) s
+splice-inside at n o m x y s h e l =
+    unfold splice in splice-right at o m y (take at s) (x ++ drop n (drop at s)) (long at s h)
+    ∙ ap (λ t. take at s ++ t) (splice-left o m y x (drop n (drop at s)) (omega arith))
+
+-- a part of a part replaced
+pub splice-within : (at n o m : ℕ) (y s : List ℕ) → at + n ≤ length s → o + m ≤ n → splice (at + o) m y s ≡ splice at n (splice o m y (part at n s)) s
+splice-within at n o m y s h l =
+    ap (splice (at + o) m y) (sym (splice-part at n s)) ∙ splice-inside at n o m (part at n s) y s (omega arith) (length-part at n s h) l
+
+-- two parts that don't meet may be replaced in either order
+pub splice-behind : (at n o m : ℕ) (x y s : List ℕ) → at + n ≤ length s → length x ≡ n → at + n ≤ o → splice o m y (splice at n x s) ≡ splice at n x (splice o m y s)
+unfolding splice
+splice-behind at n o m x y s h e l =
+    let k : ℕ = o - (at + n) in
+    let place : o ≡ at + (n + k) = omega arith in
+    let front : length (take at s) ≡ at = long at s (omega arith) in
+    let mid : length (part at n s) ≡ n = length-part at n s h in
+    let tail : List ℕ = drop n (drop at s) in
+    let here : splice o m y s ≡ take at s ++ (part at n s ++ splice k m y tail) =
+    ap (splice o m y) (cut at n s)
+    ∙ ap (λ j. splice j m y (take at s ++ (part at n s ++ tail))) place
+    ∙ splice-right at (n + k) m y (take at s) (part at n s ++ tail) front
+    ∙ ap (λ t. take at s ++ t) (splice-right n k m y (part at n s) tail mid) in
+    ap (λ j. splice j m y (take at s ++ (x ++ tail))) place
+    ∙ splice-right at (n + k) m y (take at s) (x ++ tail) front
+    ∙ ap (λ t. take at s ++ t) (splice-right n k m y x tail e)
+    ∙ sym (
+    ap (splice at n x) here
+    ∙ rw (take-at (take at s) (part at n s ++ splice k m y tail) at front, drop-at (take at s) (part at n s ++ splice k m y tail) at front, drop-at (part at n s) (splice k m y tail) n mid) refl)

@@ -1,0 +1,180 @@
+-- Laws of lists that are made of chunks, and of functions changed at one place. Chunk i of a table of chunks of w bytes starts at w * i.
+-- Assumes nothing.
+use mathlib.Core.Path.{_≡_, refl, sym, ap, _∙_}
+use mathlib.Core.Logic.{_⊎_, inl, inr}
+use mathlib.Core.List.{List, [], _∷_, _++_, append-assoc, append-nil}
+use Prim.Native.Nat.{ℕ, zero, suc, _+_, _*_, _≤_, _<_}
+use native.Mathlib.Nat.{le-suc-iff, mul-le-mul-left, mul-zero, mul-suc, add-zero, add-suc, not-suc-le-zero, one-mul, zero-add}
+use native.Mathlib.Numerals.{add-one}
+use native.Mathlib.Omega.{arith}
+use lib.Dec.{eqb}
+use lib.ListN.{length, length-append}
+use borrow.Author.Tests.{eq-eqb, ne-eqb}
+use Rattle.buffer.specs.ChoiceLaws.{pick-true, pick-false, pick-map, by-pick}
+use Rattle.buffer.specs.Range.{sum, entries}
+use Rattle.buffer.specs.RangeLaws.{entries-of}
+use Rattle.buffer.specs.Bytes.{byte, be32, zeros, part, splice}
+use Rattle.buffer.specs.SpliceLaws.{part-left, part-right, part-whole, part-append, splice-left, splice-right, splice-whole}
+use Rattle.buffer.specs.ByteLaws.{byte-part, be32-part, zeros-append}
+use Rattle.buffer.specs.Table.{tab, upd}
+
+-- ---- a function changed at one place
+pub upd-at {ℓ} : {A : Type ℓ} (f : ℕ → A) (i : ℕ) (x : A) (k : ℕ) → k ≡ i → upd f i x k ≡ x
+unfolding upd
+upd-at f i x k e = pick-true (eq-eqb k i e) x (f k)
+
+pub upd-same {ℓ} : {A : Type ℓ} (f : ℕ → A) (i : ℕ) (x : A) → upd f i x i ≡ x
+upd-same f i x = upd-at f i x i refl
+
+pub upd-other {ℓ} : {A : Type ℓ} (f : ℕ → A) (i : ℕ) (x : A) (k : ℕ) → (k ≡ i → ⊥) → upd f i x k ≡ f k
+unfolding upd
+upd-other f i x k e = pick-false (ne-eqb k i e) x (f k)
+
+-- a function of a changed function
+pub upd-map {ℓ κ} : {A : Type ℓ} {B : Type κ} (g : A → B) (f : ℕ → A) (i : ℕ) (x : A) (k : ℕ) → g (upd f i x k) ≡ upd (λ j. g (f j)) i (g x) k
+unfolding upd
+upd-map g f i x k = pick-map g (eqb k i) x (f k)
+
+-- ---- chunks of any lengths
+pub tab-none : (f : ℕ → List ℕ) → tab 0 f ≡ []
+unfolding tab
+tab-none f = refl
+
+pub tab-more : (n : ℕ) (f : ℕ → List ℕ) → tab (n + 1) f ≡ tab n f ++ f n
+unfolding tab
+tab-more n f = rw add-one
+
+pub tab-one : (f : ℕ → List ℕ) → tab 1 f ≡ f 0
+unfolding tab
+tab-one f = refl
+
+pub tab-ext : (n : ℕ) (f g : ℕ → List ℕ) → ((k : ℕ) → k < n → f k ≡ g k) → tab n f ≡ tab n g
+unfolding tab
+tab-ext zero f g h = refl
+tab-ext (suc n) f g h = rw (tab-ext n f g (λ k l. h k (omega arith)), h n (omega arith))
+
+-- a table taken apart
+pub tab-append : (n m : ℕ) (f : ℕ → List ℕ) → tab (n + m) f ≡ tab n f ++ tab m (λ k. f (n + k))
+unfolding tab
+tab-append n zero f = rw add-zero (sym (append-nil (tab n f)))
+tab-append n (suc m) f = rw (add-suc, tab, tab-append n m f) (append-assoc (tab n f) (tab m (λ k. f (n + k))) (f (n + m)))
+
+-- the chunks before chunk i, and chunk i, are no longer than all
+pub tab-room : (n i : ℕ) (f : ℕ → List ℕ) → i < n → length (tab i f) + length (f i) ≤ length (tab n f)
+unfolding tab
+tab-room zero i f h = absurd (not-suc-le-zero h)
+tab-room (suc n) i f h = go (le-suc-iff .0 h) (tab-room n i f)
+  where
+    go : (suc i ≤ n) ⊎ (suc i ≡ suc n) → (i < n → length (tab i f) + length (f i) ≤ length (tab n f)) → length (tab i f) + length (f i) ≤ length (tab n f ++ f n)
+    go (inl a) ih = simp length-append (omega (arith, ih a))
+    go (inr e) ih =
+        let same : i ≡ n = omega arith in
+        rw same (simp length-append (omega arith))
+
+pub length-tab-sum : (n w : ℕ) (f : ℕ → List ℕ) (g : ℕ → ℕ) → ((k : ℕ) → k < n → length (f k) ≡ w * g k) → length (tab n f) ≡ w * sum n g
+unfolding tab sum
+length-tab-sum zero w f g h = sym (mul-zero w)
+length-tab-sum (suc n) w f g h = simp length-append (omega (arith, h n (omega arith), length-tab-sum n w f g (λ k l. h k (omega arith))))
+
+-- ---- chunks of one length
+-- each of the first n chunks has w bytes
+abbrev pub Wide : ℕ → ℕ → (ℕ → List ℕ) → Type 0
+Wide n w f = (k : ℕ) → k < n → length (f k) ≡ w
+
+pub length-tab : (n w : ℕ) (f : ℕ → List ℕ) → Wide n w f → length (tab n f) ≡ w * n
+unfolding tab
+length-tab zero w f h = sym (mul-zero w)
+length-tab (suc n) w f h = simp length-append (omega (arith, length-tab n w f (λ k l. h k (omega arith)), h n (omega arith)))
+
+-- a part of a chunk
+pub part-tab : (n w : ℕ) (f : ℕ → List ℕ) → Wide n w f → (i o m : ℕ) → i < n → o + m ≤ w → part (w * i + o) m (tab n f) ≡ part o m (f i)
+unfolding tab
+part-tab zero w f h i o m l k = absurd (not-suc-le-zero l)
+part-tab (suc n) w f h i o m l k = go (le-suc-iff .0 l) (part-tab n w f hn i o m)
+  where
+    hn : Wide n w f
+    hn = λ j q. h j (omega arith)
+
+    go : (suc i ≤ n) ⊎ (suc i ≡ suc n) → (i < n → o + m ≤ w → part (w * i + o) m (tab n f) ≡ part o m (f i))
+        → part (w * i + o) m (tab n f ++ f n) ≡ part o m (f i)
+    go (inl a) ih =
+        let b : w * suc i ≤ w * n = mul-le-mul-left w a in
+        part-left (w * i + o) m (tab n f) (f n) (omega (arith, length-tab n w f hn)) ∙ ih a k
+    go (inr e) ih =
+        let same : i ≡ n = omega arith in
+        rw same (part-right (w * n) o m (tab n f) (f n) (length-tab n w f hn))
+
+-- a chunk
+pub part-chunk : (n w : ℕ) (f : ℕ → List ℕ) → Wide n w f → (i : ℕ) → i < n → part (w * i) w (tab n f) ≡ f i
+part-chunk n w f h i l =
+    ap (λ j. part j w (tab n f)) (sym (add-zero (w * i))) ∙ part-tab n w f h i 0 w l (omega arith) ∙ part-whole w (f i) (omega (arith, h i l))
+
+-- a byte, and a number, of a chunk
+pub byte-tab : (n w : ℕ) (f : ℕ → List ℕ) → Wide n w f → (i o : ℕ) → i < n → o < w → byte (tab n f) (w * i + o) ≡ byte (f i) o
+byte-tab n w f h i o l k = sym (byte-part (w * i) w (tab n f) o k) ∙ ap (λ s. byte s o) (part-chunk n w f h i l)
+
+pub be32-tab : (n w : ℕ) (f : ℕ → List ℕ) → Wide n w f → (i o : ℕ) → i < n → o + 4 ≤ w → be32 (tab n f) (w * i + o) ≡ be32 (f i) o
+be32-tab n w f h i o l k = sym (be32-part (w * i) w (tab n f) o k) ∙ ap (λ s. be32 s o) (part-chunk n w f h i l)
+
+-- a part of a chunk replaced
+pub splice-tab : (n w : ℕ) (f : ℕ → List ℕ) → Wide n w f → (i o m : ℕ) (z : List ℕ) → i < n → o + m ≤ w
+    → splice (w * i + o) m z (tab n f) ≡ tab n (upd f i (splice o m z (f i)))
+unfolding tab
+splice-tab zero w f h i o m z l k = absurd (not-suc-le-zero l)
+splice-tab (suc n) w f h i o m z l k = go (le-suc-iff .0 l) (splice-tab n w f hn i o m z)
+  where
+    hn : Wide n w f
+    hn = λ j q. h j (omega arith)
+
+    g : ℕ → List ℕ
+    g = upd f i (splice o m z (f i))
+
+    go : (suc i ≤ n) ⊎ (suc i ≡ suc n) → (i < n → o + m ≤ w → splice (w * i + o) m z (tab n f) ≡ tab n g)
+        → splice (w * i + o) m z (tab n f ++ f n) ≡ tab n g ++ g n
+    go (inl a) ih =
+        let b : w * suc i ≤ w * n = mul-le-mul-left w a in
+        splice-left (w * i + o) m z (tab n f) (f n) (omega (arith, length-tab n w f hn))
+        ∙ ap (λ r. r ++ f n) (ih a k)
+        ∙ ap (λ r. tab n g ++ r) (sym (upd-other f i (splice o m z (f i)) n (omega arith)))
+    go (inr e) ih =
+        let same : i ≡ n = omega arith in
+        ap (λ j. splice (w * j + o) m z (tab n f ++ f n)) same
+        ∙ splice-right (w * n) o m z (tab n f) (f n) (length-tab n w f hn)
+        ∙ ap (λ r. r ++ splice o m z (f n)) (tab-ext n f g (λ j q. sym (upd-other f i (splice o m z (f i)) j (omega arith))))
+        ∙ ap (λ r. tab n g ++ r) (sym (upd-at f i (splice o m z (f i)) n (sym same) ∙ ap (λ j. splice o m z (f j)) same))
+
+-- a chunk replaced
+pub splice-chunk : (n w : ℕ) (f : ℕ → List ℕ) → Wide n w f → (i : ℕ) (z : List ℕ) → i < n → splice (w * i) w z (tab n f) ≡ tab n (upd f i z)
+splice-chunk n w f h i z l =
+    ap (λ j. splice j w z (tab n f)) (sym (add-zero (w * i)))
+    ∙ splice-tab n w f h i 0 w z l (omega arith)
+    ∙ ap (λ x. tab n (upd f i x)) (splice-whole w z (f i) (omega (arith, h i l)))
+
+-- a changed table keeps its width
+pub upd-wide : (n w : ℕ) (f : ℕ → List ℕ) → Wide n w f → (i : ℕ) (z : List ℕ) → length z ≡ w → Wide n w (upd f i z)
+unfolding upd
+upd-wide n w f h i z e k l = by-pick (λ s. length s ≡ w) (eqb k i) z (f k) (λ q. e) (λ q. h k l)
+
+-- a list cut into chunks
+cut-front : (n w : ℕ) (s : List ℕ) → tab n (λ k. part (w * k) w s) ≡ part 0 (w * n) s
+unfolding tab part
+cut-front zero w s = rw mul-zero
+cut-front (suc n) w s = rw (cut-front n w s, mul-suc) (ap (λ j. part 0 (w * n) s ++ part j w s) (sym (zero-add (w * n))) ∙ part-append 0 (w * n) w s)
+
+pub tab-parts : (n w : ℕ) (s : List ℕ) → length s ≡ w * n → tab n (λ k. part (w * k) w s) ≡ s
+tab-parts n w s e = cut-front n w s ∙ part-whole (w * n) s (omega arith)
+
+-- zeros, and single bytes
+pub tab-zeros : (n w : ℕ) → tab n (λ _. zeros w) ≡ zeros (w * n)
+unfolding tab
+tab-zeros zero w = rw mul-zero (unfold zeros in refl)
+tab-zeros (suc n) w = rw (tab-zeros n w, mul-suc) (zeros-append (w * n) w)
+
+pub byte-ones : (n : ℕ) (f : ℕ → ℕ) (i : ℕ) → i < n → byte (tab n (λ k. f k ∷ [])) i ≡ f i
+byte-ones n f i l =
+    let place : 1 * i + 0 ≡ i = omega arith in
+    ap (λ j. byte (tab n (λ k. f k ∷ [])) j) (sym place) ∙ byte-tab n 1 (λ k. f k ∷ []) (λ k q. refl) i 0 l (omega arith)
+
+pub tab-ones : (n : ℕ) (f : ℕ → ℕ) → tab n (λ k. f k ∷ []) ≡ entries n f
+tab-ones n f =
+    entries-of (tab n (λ k. f k ∷ [])) n f (length-tab n 1 (λ k. f k ∷ []) (λ k q. refl) ∙ one-mul n) (byte-ones n f)
