@@ -2,7 +2,7 @@
 use Prim.Native.Nat.{ℕ, _+_, _*_, _/_, _%_, _≤_, _<_}
 use mathlib.Core.Path.{_≡_}
 use mathlib.Core.List.{List}
-use mathlib.Core.Bool.{_&&_}
+use mathlib.Core.Bool.{Bool, _&&_}
 use lib.Dec.{eqb, ltb, leb}
 use lib.ListN.{set}
 use Rattle.buffer.specs.Choice.{pick}
@@ -31,22 +31,35 @@ cleared v u q = withSlots v (λ w r. pick (eqb w u && leb q r) (zeros slotBytes)
 unfoldable pub marked : Store → ℕ → ℕ → ℕ → Store
 marked v m u state = withDstates (withFront v (set (v .front) 6 m)) (upd (v .dstate) u state)
 
--- group g has k check units in service, and no other in place
-unfoldable pub levelled : Store → ℕ → ℕ → Store
-levelled v g k = withCstates v (λ c. pick (eqb (c / 3) g) (pick (ltb (c % 3) k) 1 0) (v .cstate c))
+-- ---- check units that a test picks: one; those of a group; those of the group of unit u, where u is the first of it; those of both groups of a split
+abbrev pub isUnit : ℕ → ℕ → Bool
+isUnit c d = eqb d c
 
--- the check records of group g are zero
-unfoldable pub wiped : Store → ℕ → Store
-wiped v g = withChecks v (λ c r. pick (eqb (c / 3) g) (zeros checkBytes) (v .check c r))
+abbrev pub inGroup : ℕ → ℕ → Bool
+inGroup g c = eqb (c / 3) g
+
+abbrev pub ofFirst : ℕ → ℕ → Bool
+ofFirst u c = eqb (c / 3) (u / 4) && eqb (u % 4) 0
+
+abbrev pub ofBoth : ℕ → ℕ → Bool
+ofBoth m c = touched m (c / 3)
+
+-- their states: the lowest k places of a group are in service, the others not in place
+unfoldable pub levelled : (ℕ → Bool) → ℕ → Store → Store
+levelled p k v = withCstates v (λ c. pick (p c) (pick (ltb (c % 3) k) 1 0) (v .cstate c))
+
+-- their records are zero
+unfoldable pub wiped : (ℕ → Bool) → Store → Store
+wiped p v = withChecks v (λ c r. pick (p c) (zeros checkBytes) (v .check c r))
 
 -- the check record of check unit c at rank r, made from the data
 unfoldable pub madeRecord : Store → ℕ → ℕ → List ℕ
 madeRecord v c r = checkRecord (c % 3) (λ p. v .slot (4 * (c / 3) + p) r)
 
--- each check unit in service of group g is made anew
-unfoldable pub remade : Store → ℕ → Store
-remade v g = withChecks v (λ c r. pick (eqb (c / 3) g && eqb (v .cstate c) 1) (madeRecord v c r) (v .check c r))
+-- check unit c is made anew
+unfoldable pub unitMade : Store → ℕ → Store
+unitMade v c = withChecks v (λ d r. pick (eqb d c) (madeRecord v d r) (v .check d r))
 
--- the same of the groups of unit m and of the unit that it is split from
-unfoldable pub bothRemade : Store → ℕ → Store
-bothRemade v m = withChecks v (λ c r. pick (touched m (c / 3) && eqb (v .cstate c) 1) (madeRecord v c r) (v .check c r))
+-- those in service are made anew
+unfoldable pub remade : (ℕ → Bool) → Store → Store
+remade p v = withChecks v (λ c r. pick (p c && eqb (v .cstate c) 1) (madeRecord v c r) (v .check c r))

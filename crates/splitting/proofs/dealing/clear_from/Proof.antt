@@ -6,7 +6,7 @@ use lib.ListN.{length}
 use Prim.Native.Nat.{ℕ, _+_, _*_, _-_, _≤_}
 use Rattle.buffer.specs.Bytes.{zeros, part, splice}
 use Rattle.buffer.specs.SpliceLaws.{length-part}
-use Rattle.splitting.proofs.StepLaws.{unit-end, clear-from}
+use Rattle.splitting.proofs.Places.{unit-end, clear-from}
 use Rattle.splitting.proofs.dealing.clear_from.Statement.{statement}
 use Rattle.splitting.proofs.dealing.clear_from.Tie as tie
 
