@@ -3,7 +3,7 @@
 use reference::call::{Call, Kind};
 use reference::compare::case::Step;
 use reference::generate::cases::damaged_case;
-use reference::generate::history;
+use reference::generate::{history, losses, LOSSES};
 use reference::ledger::Ledger;
 use reference::store;
 use std::collections::HashSet;
@@ -26,8 +26,7 @@ const NUMBERS: [(Kind, &[u8]); 11] = [
 type Reached = HashSet<(Kind, u8)>;
 
 /// Runs a history on both and adds the numbers that it reached.
-fn agree(seed: u64, reached: &mut Reached) {
-    let calls = history(seed);
+fn agree(calls: &[Call], reached: &mut Reached) {
     let Call::LayOut { b } = calls[0] else { panic!("a history starts with a layout") };
     let length = 36 + 704 * b as usize;
     let mut bytes = vec![0xEE; length + 10];
@@ -35,8 +34,8 @@ fn agree(seed: u64, reached: &mut Reached) {
     assert_eq!(store::lay_out(&mut bytes, b), 0);
     for call in &calls[1..] {
         let answer = store::perform(&mut bytes, call);
-        assert_eq!(answer, ledger.perform(call), "seed {seed}, {call}");
-        assert!(bytes[..length] == ledger.picture(), "seed {seed}, {call}");
+        assert_eq!(answer, ledger.perform(call), "{call} in {calls:?}");
+        assert!(bytes[..length] == ledger.picture(), "{call} in {calls:?}");
         reached.extend(answer.number().map(|number| (call.kind(), number)));
     }
     assert!(store::sound(&bytes));
@@ -47,9 +46,14 @@ fn agree(seed: u64, reached: &mut Reached) {
 #[test]
 fn ledger_and_bytes_agree() {
     let mut reached = Reached::new();
-    (0..250).for_each(|seed| agree(seed, &mut reached));
+    (0..250).for_each(|seed| agree(&history(seed), &mut reached));
     let due = NUMBERS.iter().flat_map(|(kind, numbers)| numbers.iter().map(|n| (*kind, *n)));
     assert_eq!(reached, due.collect());
+}
+
+#[test]
+fn every_choice_of_losses() {
+    (0..LOSSES).for_each(|choice| agree(&losses(choice), &mut Reached::new()));
 }
 
 /// What the steps of a damaged case leave, and the numbers that its last calls gave.

@@ -1,7 +1,7 @@
 //! Faults that the comparison has to catch, chosen by the environment variable LHRS_FAULT.
 
 use crate::call::Kind;
-use crate::store::layout::{check_at, length, CHECK_RECORD, HEADER};
+use crate::store::layout::{check_at, length, View, CHECK_RECORD, HEADER};
 use std::env;
 use std::sync::OnceLock;
 
@@ -9,7 +9,7 @@ use std::sync::OnceLock;
 /// after it and the number, and returns the number to hand back.
 type Fault = (&'static str, Kind, fn(&[u8], &mut [u8], u8) -> u8);
 
-const FAULTS: [Fault; 9] = [
+const FAULTS: [Fault; 10] = [
     ("teach-does-nothing", Kind::Teach, |before, after, number| {
         after.copy_from_slice(before);
         number
@@ -44,6 +44,13 @@ const FAULTS: [Fault; 9] = [
         number
     }),
     ("lay-out-writes-behind", Kind::LayOut, lay_out_writes_behind),
+    ("raise-tests-the-header-only", Kind::Raise, |_, after, number| {
+        if number == 1 && View::new(after).is_some() {
+            after[7] += 1;
+            return 0;
+        }
+        number
+    }),
 ];
 
 pub fn fault_names() -> impl Iterator<Item = &'static str> {

@@ -16,11 +16,11 @@ pub struct Arguments {
 impl Arguments {
     /// A pool of about `size` keys: small numbers, keys of one unit, or any.
     pub fn new(mut random: Random, size: usize) -> Arguments {
-        let last = random.next() as u32 % 16;
+        let last = random.next_u64() as u32 % 16;
         let pool = match random.below(4) {
             0 | 1 => (1..=size as u32).collect(),
             2 => (1..=size as u32).map(|i| 16 * i + last).collect(),
-            _ => (0..size).map(|_| 1 + random.next() as u32 % u32::MAX).collect(),
+            _ => (0..size).map(|_| 1 + random.next_u64() as u32 % u32::MAX).collect(),
         };
         Arguments { random, pool }
     }
@@ -47,7 +47,7 @@ impl Arguments {
     pub fn new_key(&mut self, ledger: &Ledger) -> u32 {
         match self.random.below(24) {
             0 => 0,
-            1 => self.random.next() as u32,
+            1 => self.random.next_u64() as u32,
             2 | 3 => self.present_key(ledger),
             _ => self.random.pick(&self.pool),
         }
@@ -58,7 +58,7 @@ impl Arguments {
         match self.random.below(24) {
             0 => 0,
             1 => u32::MAX,
-            2 => self.random.next() as u32,
+            2 => self.random.next_u64() as u32,
             3..=8 => self.random.pick(&self.pool),
             _ => self.present_key(ledger),
         }

@@ -2,7 +2,7 @@
 
 use super::arguments::Arguments;
 use super::damage::{damage, wrong_parity};
-use super::{history, short_history};
+use super::{history, losses, short_history, LOSSES};
 use crate::call::{Call, KINDS};
 use crate::compare::case::{Case, Step};
 use crate::ledger::Ledger;
@@ -51,11 +51,12 @@ fn case(random: &mut Random, calls: &[Call]) -> Case {
     Case { front: 64 + random.below(16), steps }
 }
 
-/// A history; in one of four, parity bytes become wrong on the way.
+/// A history, the first ones by every choice of losses. In one of four, parity bytes become wrong
+/// on the way.
 pub fn history_case(index: u64) -> Case {
     let mut random = Random::new(0x4849_5354_0000 + index);
-    let calls = history(index);
-    if !random.chance(1, 4) {
+    let calls = if index < LOSSES { losses(index) } else { history(index) };
+    if index < LOSSES || !random.chance(1, 4) {
         return case(&mut random, &calls);
     }
     let (before, rest) = calls.split_at(1 + random.below(calls.len()));

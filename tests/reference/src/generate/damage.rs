@@ -102,7 +102,7 @@ fn key_everywhere(random: &mut Random, view: View) -> Vec<Step> {
     let unit = 4 * group + place;
     let keys = view.keys(unit).unwrap_or_else(|| vec![0; view.b]);
     let rank = random.below(view.b);
-    let keys = [0, keys[0], keys[rank].wrapping_add(1), keys[rank] ^ 16, random.next() as u32];
+    let keys = [0, keys[0], keys[rank].wrapping_add(1), keys[rank] ^ 16, random.next_u64() as u32];
     let key = random.pick(&keys).to_be_bytes().to_vec();
     let mut steps = Vec::new();
     if view.state(unit) == IN_SERVICE {
@@ -123,14 +123,14 @@ fn empty_slot(random: &mut Random, view: View) -> Step {
     let range = unit_range(view.b, unit);
     let near_end = random.chance(1, 2);
     let at = if near_end { range.end - 1 } else { range.start + random.below(range.len()) };
-    write(at, vec![1 + random.next() as u8 % 255])
+    write(at, vec![1 + random.next_u64() as u8 % 255])
 }
 
 fn wrong_body(random: &mut Random, view: View) -> Step {
     let unit = random.below(view.units());
     let rank = random.below(view.b);
     let at = slot_at(view.b, unit, rank) + 4 + random.below(16);
-    write(at, vec![random.next() as u8])
+    write(at, vec![random.next_u64() as u8])
 }
 
 /// Wrong parity, in one to three records of check units in service, at ranks without a key too.
@@ -147,5 +147,5 @@ pub fn wrong_parity(random: &mut Random, bytes: &[u8]) -> Vec<Step> {
 
 fn anywhere(random: &mut Random, view: View) -> Step {
     let at = random.below(length(view.b));
-    write(at, vec![random.next() as u8])
+    write(at, vec![random.next_u64() as u8])
 }

@@ -35,10 +35,11 @@ pub fn history(seed: u64) -> Vec<Call> {
     make(random, b, mixed)
 }
 
-/// A history with small units and few calls.
+/// A history with few calls and, but for one in a hundred, small units.
 pub fn short_history(seed: u64) -> Vec<Call> {
     let mut random = Random::new(seed);
-    let b = random.pick(&[1, 1, 2, 2, 3, 4, 7]);
+    let large = random.chance(1, 100);
+    let b = if large { random.pick(&[16, 33, 64]) } else { random.pick(&[1, 1, 2, 2, 3, 4, 7]) };
     let mixed = random.below(16);
     make(random, b, mixed)
 }

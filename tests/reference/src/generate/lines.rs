@@ -50,6 +50,6 @@ fn spoil(random: &mut Random, line: &mut Vec<u8>) {
         6 => line.truncate(at),
         7 => line[at] = b'\t',
         8 => line.push(b'0'),
-        _ => line[at] = random.next() as u8,
+        _ => line[at] = random.next_u64() as u8,
     }
 }

@@ -5,5 +5,7 @@ pub mod cases;
 mod damage;
 mod history;
 pub mod lines;
+mod losses;
 
 pub use history::{history, short_history};
+pub use losses::{losses, LOSSES};

@@ -50,7 +50,7 @@ impl Ledger {
             self.lists[unit_of(added + 1, record.key)].push(record);
         }
         for unit in [split, added] {
-            if unit % 4 == 0 {
+            if unit.is_multiple_of(4) {
                 self.checks[unit / 4] = self.level;
             }
         }
@@ -60,7 +60,7 @@ impl Ledger {
         let moved = self.lists.pop().unwrap();
         let last = self.units();
         self.lists[split_unit(last)].extend(moved);
-        if last % 4 == 0 {
+        if last.is_multiple_of(4) {
             self.checks[last / 4] = 0;
         }
     }

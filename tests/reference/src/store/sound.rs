@@ -2,8 +2,11 @@
 
 use super::layout::{unit_of, unit_range, View, IN_SERVICE, OUT};
 
+/// A clause by name.
+type Clause = (&'static str, fn(View) -> bool);
+
 /// What has to hold beside the header's ranges and the slice's length.
-const CLAUSES: [(&str, fn(View) -> bool); 7] = [
+const CLAUSES: [Clause; 7] = [
     ("data units in place", data_units_in_place),
     ("check units in place", check_units_in_place),
     ("zero where nothing is", zero_where_nothing_is),

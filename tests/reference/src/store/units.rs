@@ -93,7 +93,7 @@ pub fn grow(bytes: &mut [u8]) -> u8 {
     set_state(bytes, added, IN_SERVICE);
     bytes[6] += 1;
     for unit in [split, added] {
-        if unit % 4 == 0 {
+        if unit.is_multiple_of(4) {
             (0..level).for_each(|j| set_state(bytes, 16 + 3 * (unit / 4) + j, IN_SERVICE));
         }
     }
@@ -124,7 +124,7 @@ pub fn shrink(bytes: &mut [u8]) -> u8 {
     clear_unit(bytes, last);
     set_state(bytes, last, 0);
     bytes[6] -= 1;
-    if last % 4 == 0 {
+    if last.is_multiple_of(4) {
         remove_checks(bytes, last / 4);
     }
     make_checks(bytes, into / 4);
