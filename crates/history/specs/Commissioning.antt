@@ -4,6 +4,7 @@ use Prim.Native.Nat.{ℕ}
 use mathlib.Core.Path.{_≡_, refl}
 use mathlib.Core.List.{List, [], _∷_, _++_}
 use Rattle.code.specs.Commissioning as code
+use Rattle.group.specs.Values.{ParityValues, parity-values}
 use Rattle.buffer.specs.Choice.{pick}
 use Rattle.buffer.specs.Range.{first, count, sum}
 use Rattle.buffer.specs.Bytes.{bytes32, zeros}
@@ -19,6 +20,8 @@ use Rattle.history.specs.Answers.{bodyOf, listing, given, answer, after,
 pub record Commissioned : Type 0 where
   -- 1 to 4: products and quotients, data under all columns, rebuilding
   pub symbols : code.Commissioned
+  -- 5 and 6: the parity of four bodies in two check units, and after a change
+  pub parities : ParityValues
   -- 7. "M = 5: key 8 is in unit 0, key 4 in 4, key 5 in 1."
   pub five-units : (unitOf 5 8 ≡ 0) × (unitOf 5 4 ≡ 4) × (unitOf 5 5 ≡ 1)
   -- 8. "M = 16: key 16 is in unit 0, the largest key in 15."
@@ -28,6 +31,7 @@ pub commissioned : Commissioned
 unfolding unitOf powerBelow splitPointer pick
 commissioned = record {
   symbols = code.commissioned;
+  parities = parity-values;
   five-units = (refl, refl, refl);
   sixteen-units = (refl, refl);
 }
