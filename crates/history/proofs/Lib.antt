@@ -38,3 +38,8 @@ pub mod Opened
 pub mod History
 pub mod Unlost
 pub mod Demand3
+pub mod Alike
+pub mod AlikeSound
+pub mod AlikeWritten
+pub mod AlikeRepaired
+pub mod AlikeDealt
