@@ -13,7 +13,7 @@ use lib.Seq.{getD-take}
 use borrow.Author.Tests.{ltb-true, ltb-false}
 use Rattle.buffer.specs.Choice.{pick}
 use Rattle.buffer.specs.ChoiceLaws.{pick-ext}
-use Rattle.buffer.specs.Range.{first, count}
+use Rattle.buffer.specs.Range.{first}
 use Rattle.buffer.specs.RangeLaws.{first-le, first-ext, count-ext}
 use Rattle.buffer.specs.Bytes.{byte, zeros, part}
 use Rattle.buffer.specs.ByteLaws.{be32-ext, length-zeros}
@@ -141,23 +141,23 @@ module _ (v w : Store) (a : Alike v w) where
       (λ e. a .dstate n (ltb-true n 16 e)) (λ e. a .cstate (n - 16) (omega (arith, ltb-false n 16 e)))
 
   -- a test of the states of a group's data units, and of its check units, by place
-  data-test : (f : ℕ → Bool) (g : ℕ) → g < 4 → (p : ℕ) → p < 4 → f (v .dstate (4 * g + p)) ≡ f (w .dstate (4 * g + p))
-  data-test f g l p m = ap f (a .dstate (4 * g + p) (omega arith))
+  data-states : (f : ℕ → Bool) (g : ℕ) → g < 4 → (p : ℕ) → p < 4 → f (v .dstate (4 * g + p)) ≡ f (w .dstate (4 * g + p))
+  data-states f g l p m = ap f (a .dstate (4 * g + p) (omega arith))
 
-  pub check-test : (f : ℕ → Bool) (g : ℕ) → g < 4 → (j : ℕ) → j < 3 → f (v .cstate (3 * g + j)) ≡ f (w .cstate (3 * g + j))
-  check-test f g l j m = ap f (a .cstate (3 * g + j) (omega arith))
+  pub check-states : (f : ℕ → Bool) (g : ℕ) → g < 4 → (j : ℕ) → j < 3 → f (v .cstate (3 * g + j)) ≡ f (w .cstate (3 * g + j))
+  check-states f g l j m = ap f (a .cstate (3 * g + j) (omega arith))
 
   pub outs-alike : (g : ℕ) → g < 4 → outsIn v g ≡ outsIn w g
   unfolding outsIn outs
-  outs-alike g l = ap₂ (λ (m n : ℕ). m + n) (count-ext 4 _ _ (data-test (λ n. eqb n 2) g l)) (count-ext 3 _ _ (check-test (λ n. eqb n 2) g l))
+  outs-alike g l = ap₂ (λ (m n : ℕ). m + n) (count-ext 4 _ _ (data-states (λ n. eqb n 2) g l)) (count-ext 3 _ _ (check-states (λ n. eqb n 2) g l))
 
   pub beyond-alike : (g : ℕ) → g < 4 → beyondIn v g ≡ beyondIn w g
   unfolding beyondIn beyond checks
-  beyond-alike g l = ap₂ ltb (count-ext 3 _ _ (check-test (ltb 0) g l)) (unfold outsIn in outs-alike g l)
+  beyond-alike g l = ap₂ ltb (count-ext 3 _ _ (check-states (ltb 0) g l)) (unfold outsIn in outs-alike g l)
 
   pub checks-alike : (g : ℕ) → g < 4 → checksIn v g ≡ checksIn w g
   unfolding checksIn
-  checks-alike g l = first-ext 3 _ _ (check-test (λ n. eqb n 0) g l)
+  checks-alike g l = first-ext 3 _ _ (check-states (λ n. eqb n 0) g l)
 
   -- ---- keys
 
@@ -184,7 +184,7 @@ module _ (v w : Store) (a : Alike v w) where
 
   keeper-alike : (g : ℕ) → g < 4 → keeper v g ≡ keeper w g
   unfolding keeper
-  keeper-alike g l = ap (λ (n : ℕ). 3 * g + n) (first-ext 3 _ _ (check-test (λ n. eqb n 1) g l))
+  keeper-alike g l = ap (λ (n : ℕ). 3 * g + n) (first-ext 3 _ _ (check-states (λ n. eqb n 1) g l))
 
   pub keeper-low : (g : ℕ) → g < 4 → Served g → keeper v g < 12
   unfolding keeper

@@ -1,6 +1,6 @@
 -- Grow and shrink lead from alike stores to alike stores: records are dealt out and put together by their keys. Assumes nothing.
 use Prim.Native.Nat.{ℕ, zero, suc, _+_, _*_, _/_, _%_, _<_}
-use mathlib.Core.Path.{_≡_, refl, sym, ap, _∙_, subst}
+use mathlib.Core.Path.{_≡_, refl, sym, ap, _∙_}
 use mathlib.Core.List.{List, [], _∷_, _++_}
 use mathlib.Core.Bool.{Bool, true, false, not, _&&_, _||_}
 use native.Mathlib.Omega.{arith}
@@ -9,7 +9,7 @@ use lib.ListN.{length, getD, set, length-set}
 use lib.Seq.{getD-set-other}
 use Rattle.buffer.specs.Choice.{pick}
 use Rattle.buffer.specs.ChoiceLaws.{by-test, pick-true, pick-false, pick-ext}
-use Rattle.buffer.specs.TestLaws.{not-both, and-false-second, and-first}
+use Rattle.buffer.specs.TestLaws.{not-both, and-false-second}
 use Rattle.buffer.specs.Bytes.{byte, zeros}
 use Rattle.buffer.specs.Table.{upd}
 use Rattle.group.specs.Widths.{slotBytes, checkBytes}

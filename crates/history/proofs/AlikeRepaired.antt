@@ -16,15 +16,14 @@ use Rattle.buffer.specs.RangeLaws.{count-ext, count-append, count-not, count-po
 use Rattle.buffer.specs.Bytes.{zeros, part}
 use Rattle.buffer.specs.ByteLaws.{be32-left}
 use Rattle.buffer.specs.SpliceLaws.{length-part}
-use Rattle.buffer.specs.Table.{tab}
 use Rattle.buffer.specs.TableLaws.{tab-ext}
-use Rattle.group.specs.Widths.{keyBytes, bodyBytes, keysBytes, slotBytes, checkBytes}
+use Rattle.group.specs.Widths.{keyBytes, bodyBytes, keysBytes, slotBytes}
 use Rattle.group.specs.Members.{firstFour}
 use Rattle.group.specs.MembersLaws.{Members, serves-data, serves-check, enough, first-four}
 use Rattle.group.specs.Rebuilding.{rebuilt}
 use Rattle.group.specs.RebuildingLaws.{length-weighed}
 use Rattle.group.specs.CheckRecord.{checkRecord}
-use Rattle.group.specs.CheckRecordLaws.{length-key, length-body, length-checkRecord, checkRecord-keys}
+use Rattle.group.specs.CheckRecordLaws.{length-body, length-checkRecord, checkRecord-keys}
 use Rattle.model.specs.Layout.{Store, keyOf}
 use Rattle.model.specs.LayoutLaws.{Shaped}
 use Rattle.model.specs.Reads.{beyondIn, servesIn, holds, keeper, listedKey, wholeSlot}
@@ -125,7 +124,7 @@ module _ (v w : Store) (a : Alike v w) (g : ℕ) (hg : g < 4) (low : (c : ℕ) �
         (length-rebuilt v (left-shaped v w a) g hg left-low nb r hr (u % 4))
         (length-rebuilt w (right-shaped v w a) g hg right-low right-near r (omega (arith, a .size)) (u % 4)) n)
 
-    pub whole-like : LikeSlot (wholeSlot v u r) (wholeSlot w u r)
+    whole-like : LikeSlot (wholeSlot v u r) (wholeSlot w u r)
     unfolding wholeSlot
     whole-like = rw (← (a .dstate u hu))
         (pick-both LikeSlot (eqb (v .dstate u) 2) _ _ (v .slot u r) (w .slot u r)

@@ -1,26 +1,27 @@
 -- What is sound stays sound in an alike store: no clause of soundness looks at the body of a record or at parity bytes. Assumes nothing.
-use Prim.Native.Nat.{ℕ, _+_, _*_, _/_, _%_, _≤_, _<_}
+use Prim.Native.Nat.{ℕ, _+_, _*_, _/_, _%_, _<_}
 use mathlib.Core.Path.{_≡_, refl, sym, ap, ap₂, _∙_}
-use mathlib.Core.List.{List, [], _∷_}
+use mathlib.Core.List.{List}
 use mathlib.Core.Bool.{Bool, true, false, not, _&&_, _||_}
 use native.Mathlib.Omega.{arith}
-use lib.Dec.{eqb, ltb, leb}
+use lib.Dec.{eqb, ltb}
 use lib.ListN.{length}
 use borrow.Author.Tests.{eqb-true, ltb-true, ltb-false}
 use Rattle.buffer.specs.Choice.{pick}
 use Rattle.buffer.specs.ChoiceLaws.{by-test}
-use Rattle.buffer.specs.TestLaws.{not-both, and-true, and-first, and-second}
+use Rattle.buffer.specs.TestLaws.{not-both, and-true}
 use Rattle.buffer.specs.Range.{all, first}
-use Rattle.buffer.specs.RangeLaws.{all-ext, all-true, all-holds, first-misses, first-le-at}
-use Rattle.buffer.specs.Bytes.{byte, be32, zeros, part}
+use Rattle.buffer.specs.RangeLaws.{all-ext, all-holds, first-misses, first-le-at}
+use Rattle.buffer.specs.Bytes.{byte, be32, zeros}
 use Rattle.buffer.specs.ByteLaws.{be32-ext, be32-zeros}
-use Rattle.group.specs.Widths.{keyBytes, slotBytes, checkBytes}
+use Rattle.group.specs.Widths.{slotBytes, checkBytes}
 use Rattle.model.specs.Units.{unitOf}
 use Rattle.model.specs.Layout.{Store, bytes, view, storeBytes, unitsIn, keyOf}
 use Rattle.model.specs.LayoutLaws.{byte-front, length-bytes}
 use Rattle.model.specs.Reads.{fillIn, listedKey, listedFill}
-use Rattle.model.specs.Sound.{same, ranges, unitsPlaced, checksIn, checksAllowed, groupsPlaced, zeroed, keysKnown, keysPlaced, listsAgree, sound}
-use Rattle.history.proofs.Alike.{Alike, left-shaped, right-shaped, seen-alike, units-alike, level-alike, check-test, checks-alike, fill-alike, Served, listed-like, listed-alike, listed-fill-alike}
+use Rattle.model.specs.Sound.{same, ranges, unitsPlaced, checksIn, groupsPlaced, zeroed, keysKnown, keysPlaced, listsAgree, sound}
+use Rattle.history.proofs.SoundSays.{same-true, slot-test, check-test, Zeroed, zeroed-says, clauses}
+use Rattle.history.proofs.Alike.{Alike, left-shaped, right-shaped, seen-alike, units-alike, level-alike, check-states, checks-alike, fill-alike, Served, listed-like, listed-alike, listed-fill-alike}
 
 -- ---- tests
 
@@ -39,15 +40,8 @@ unless-ext k l x y e h = ap (λ t. not t || x) e ∙ go l (λ q. h (e ∙ q))
 all-over : (n m : ℕ) (p q : ℕ → Bool) → n ≡ m → ((k : ℕ) → k < n → p k ≡ q k) → all n p ≡ all m q
 all-over n m p q e h = all-ext n p q h ∙ ap (λ (k : ℕ). all k q) e
 
-pub same-true : (x y : List ℕ) → same x y ≡ true → x ≡ y
-unfolding same
-same-true [] [] e = refl
-same-true [] (b ∷ y) e = not-both e refl
-same-true (a ∷ x) [] e = not-both e refl
-same-true (a ∷ x) (b ∷ y) e = ap₂ (λ (n : ℕ) (l : List ℕ). n ∷ l) (eqb-true a b (and-first (eqb a b) (same x y) e)) (same-true x y (and-second (eqb a b) (same x y) e))
-
 -- where a test does not fail throughout, it holds at some place
-pub not-all-first : (n : ℕ) (f : ℕ → Bool) → not (all n (λ j. not (f j))) ≡ true → first n f < n
+not-all-first : (n : ℕ) (f : ℕ → Bool) → not (all n (λ j. not (f j))) ≡ true → first n f < n
 not-all-first n f e =
     by-test (λ (t : Bool). first n f < n) (ltb (first n f) n) (λ q. ltb-true (first n f) n q)
     (λ q. not-both e (ap not (all-holds n (λ j. not (f j)) (λ k l. ap not (first-misses n f k (omega (arith, ltb-false (first n f) n q)))))))
@@ -68,13 +62,6 @@ module _ (v w : Store) (a : Alike v w) where
           ≡ all 3 (λ j. pick (ltb j (checksIn w g)) (eqb (w .cstate (3 * g + j)) 1 || eqb (w .cstate (3 * g + j)) 2) (eqb (w .cstate (3 * g + j)) 0))
       places g l = all-ext 3 _ _ (λ j m. rw (checks-alike v w a g l, a .cstate (3 * g + j) (omega arith)))
 
-  -- the test that a slot holds a record of a unit in service or is zero
-  abbrev slot-test : Store → ℕ → ℕ → Bool
-  slot-test s u r = (eqb (s .dstate u) 1 && ltb r (fillIn s u)) || same (s .slot u r) (zeros slotBytes)
-
-  abbrev check-zero : Store → ℕ → ℕ → Bool
-  check-zero s c r = eqb (s .cstate c) 1 || same (s .check c r) (zeros checkBytes)
-
   slot-carry : (u r : ℕ) → u < 16 → r < v .size → slot-test v u r ≡ true → slot-test w u r ≡ true
   unfolding keyOf
   slot-carry u r l m e = rw (← (a .dstate u l), ← (fill-alike v w a u l))
@@ -82,7 +69,7 @@ module _ (v w : Store) (a : Alike v w) where
       (λ _ q. ap (λ (x : List ℕ). same x (zeros slotBytes))
       (sym (a .slot u r l m .bare (ap (λ (x : List ℕ). be32 x 0) (same-true (v .slot u r) (zeros slotBytes) q) ∙ be32-zeros slotBytes 0))) ∙ q) e)
 
-  check-carry : (c r : ℕ) → c < 12 → r < v .size → check-zero v c r ≡ true → check-zero w c r ≡ true
+  check-carry : (c r : ℕ) → c < 12 → r < v .size → check-test v c r ≡ true → check-test w c r ≡ true
   check-carry c r l m e = rw (← (a .cstate c l))
       (or-carry (eqb (v .cstate c) 1) (same (v .check c r) (zeros checkBytes)) (same (w .check c r) (zeros checkBytes))
       (λ t q. ap (λ (x : List ℕ). same x (zeros checkBytes)) (sym (a .idle c r l m t)) ∙ q) e)
@@ -90,19 +77,18 @@ module _ (v w : Store) (a : Alike v w) where
   zeros-kept : zeroed v ≡ true → zeroed w ≡ true
   unfolding zeroed
   zeros-kept e =
-      let d = all-true 16 (λ u. all (v .size) (slot-test v u)) (and-first (all 16 (λ u. all (v .size) (slot-test v u))) (all 12 (λ c. all (v .size) (check-zero v c))) e) in
-      let f = all-true 12 (λ c. all (v .size) (check-zero v c)) (and-second (all 16 (λ u. all (v .size) (slot-test v u))) (all 12 (λ c. all (v .size) (check-zero v c))) e) in
+      let z : Zeroed v = zeroed-says v e in
       and-true
       (all-holds 16 (λ u. all (w .size) (slot-test w u)) (λ u l. all-holds (w .size) (slot-test w u) (λ r m.
-      let n : r < v .size = omega (arith, a .size) in slot-carry u r l n (all-true (v .size) (slot-test v u) (d u l) r n))))
-      (all-holds 12 (λ c. all (w .size) (check-zero w c)) (λ c l. all-holds (w .size) (check-zero w c) (λ r m.
-      let n : r < v .size = omega (arith, a .size) in check-carry c r l n (all-true (v .size) (check-zero v c) (f c l) r n))))
+      let n : r < v .size = omega (arith, a .size) in slot-carry u r l n (z .slots u r l n))))
+      (all-holds 12 (λ c. all (w .size) (check-test w c)) (λ c l. all-holds (w .size) (check-test w c) (λ r m.
+      let n : r < v .size = omega (arith, a .size) in check-carry c r l n (z .checks c r l n))))
 
   -- ---- keys
 
   known-same : (u : ℕ) → u < 16 → keysKnown v u ≡ keysKnown w u
   unfolding keysKnown
-  known-same u l = rw (a .dstate u l, all-ext 3 (λ j. not (eqb (v .cstate (3 * (u / 4) + j)) 1)) (λ j. not (eqb (w .cstate (3 * (u / 4) + j)) 1)) (check-test v w a (λ n. not (eqb n 1)) (u / 4) (omega arith)))
+  known-same u l = rw (a .dstate u l, all-ext 3 (λ j. not (eqb (v .cstate (3 * (u / 4) + j)) 1)) (λ j. not (eqb (w .cstate (3 * (u / 4) + j)) 1)) (check-states v w a (λ n. not (eqb n 1)) (u / 4) (omega arith)))
 
   known-served : (u : ℕ) → keysKnown v u ≡ true → eqb (v .dstate u) 2 ≡ true → Served v w a (u / 4)
   unfolding keysKnown
@@ -157,10 +143,6 @@ module _ (v w : Store) (a : Alike v w) where
       let number : be32 (bytes v) 1 ≡ be32 (bytes w) 1 = be32-ext (bytes v) 1 (bytes w) 1 (λ k l. same-byte (1 + k) (omega arith)) in
       rw (same-byte 0 (omega arith), same-byte 5 (omega arith), same-byte 6 (omega arith), same-byte 7 (omega arith), number, same-long)
 
--- the last three of six tests
-third : (r u g z k l : Bool) → (r && u && g && z && k && l) ≡ true → z ≡ true
-third r u g z k l e = and-second (r && u && g) z (and-first (r && u && g && z) k (and-first (r && u && g && z && k) l e))
-
 -- SOUND STAYS SOUND
 pub sound-alike : (v w : Store) → Alike v w → sound (bytes v) ≡ true → sound (bytes w) ≡ true
 unfolding sound
@@ -168,5 +150,5 @@ sound-alike v w a e =
     let x : Store = view (bytes v) in
     let y : Store = view (bytes w) in
     let b : Alike x y = seen-alike v w a in
-    let z : zeroed x ≡ true = third (ranges (bytes v)) (unitsPlaced x) (groupsPlaced x) (zeroed x) (keysPlaced x) (listsAgree x) e in
+    let z : zeroed x ≡ true = clauses (bytes v) e .zeros in
     rw (← (same-ranges v w a), ← (units-placed x y b), ← (groups-placed x y b), zeros-kept x y b z ∙ sym z, ← (keys-placed x y b), ← (lists-agree x y b)) e

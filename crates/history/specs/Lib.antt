@@ -4,3 +4,4 @@ pub mod Table
 pub mod Answers
 pub mod Runs
 pub mod Claims
+pub mod StaysSound
