@@ -5,3 +5,4 @@ pub mod Answers
 pub mod Runs
 pub mod Claims
 pub mod Commissioning
+pub mod StaysSound
