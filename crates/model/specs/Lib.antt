@@ -9,3 +9,4 @@ pub mod RowLaws
 pub mod Changes
 pub mod Perform
 pub mod Demand1
+pub mod history
