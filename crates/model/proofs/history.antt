@@ -46,3 +46,4 @@ pub mod AlikeDealt
 pub mod LedgerOf
 pub mod LedgerAlike
 pub mod StaysSound
+pub mod Contracts

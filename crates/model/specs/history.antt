@@ -6,3 +6,4 @@ pub mod Runs
 pub mod Claims
 pub mod Commissioning
 pub mod StaysSound
+pub mod Contracts

@@ -21,7 +21,7 @@ use Rattle.group.specs.Widths.{keyBytes, bodyBytes, keysBytes, slotBytes}
 use Rattle.group.specs.Members.{firstFour}
 use Rattle.group.specs.MembersLaws.{Members, serves-data, serves-check, enough, first-four}
 use Rattle.group.specs.Rebuilding.{rebuilt}
-use Rattle.group.specs.RebuildingLaws.{length-weighed}
+use Rattle.group.specs.WeighedLaws.{length-weighed}
 use Rattle.group.specs.CheckRecord.{checkRecord}
 use Rattle.group.specs.CheckRecordLaws.{length-body, length-checkRecord, checkRecord-keys}
 use Rattle.model.specs.Layout.{Store, keyOf}
