@@ -1,6 +1,14 @@
 pub mod Every
-pub mod Field
 pub mod Xor
+pub mod Field
+pub mod FieldLaws
 pub mod Polynomial
-pub mod Interpolate
+pub mod Lagrange
+pub mod Division
+pub mod Roots
+pub mod LagrangeLaws
+pub mod Interpolation
 pub mod Binary
+pub mod BinaryLinear
+pub mod BinaryLaws
+pub mod BinaryField

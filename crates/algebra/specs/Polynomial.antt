@@ -1,27 +1,48 @@
--- Polynomials over GF(2). A number stands for the polynomial over GF(2) whose coefficient of t^i is its binary digit i. Sums are `bitXor`.
--- Assumes nothing.
-use Prim.Native.Nat.{ℕ, zero, suc, pred, _+_, _*_, _/_, _%_, _^_}
-use lib.Bits.{bitXor}
+-- Polynomials over any field, and the points at which they have values. A polynomial is the list of its coefficients, lowest first. A point is an
+-- element of the field or the point at infinity; the value there is the last coefficient, so that no theorem needs a case for it.
+-- A reader wants `value p P`, the value of p at P, and `IsPolynomial n f`: f is what some polynomial of n coefficients gives at every point.
+use mathlib.Core.Path.{_≡_}
+use mathlib.Core.List.{List, [], _∷_}
+use Prim.Native.Nat.{ℕ}
+use lib.ListN.{length}
+use Rattle.algebra.specs.Field.{Field}
 
--- the product of the polynomials a and b, b of degree below n
-unfoldable pub times : ℕ → ℕ → ℕ → ℕ
-times zero a b = 0
-times (suc n) a b = bitXor (a * (b % 2)) (times n (a * 2) (b / 2))
+pub data Point (A : Type 0) : Type 0 where
+  fin : A → Point A
+  inf : Point A
 
--- the remainder of the polynomial x, of degree below w + n, by the polynomial m, of degree w
-unfoldable pub remainder : ℕ → ℕ → ℕ → ℕ → ℕ
-remainder w m zero x = x
-remainder w m (suc n) x = remainder w m n (bitXor x (m * 2 ^ n * (x / 2 ^ (w + n) % 2)))
+-- each entry has the property P
+abbrev pub All {ℓ} : {X : Type 0} → (X → Type ℓ) → List X → Type ℓ
+All P [] = Unit
+All P (x ∷ xs) = P x × All P xs
 
--- the product modulo the polynomial m, of degree w
-unfoldable pub productIn : ℕ → ℕ → ℕ → ℕ → ℕ
-productIn w m a b = remainder w m w (times w a b)
+-- no two entries are equal
+abbrev pub Distinct : {X : Type 0} → List X → Type 0
+Distinct [] = Unit
+Distinct (x ∷ xs) = All (λ y. y ≡ x → ⊥) xs × Distinct xs
 
--- r times the powers of a with exponents 2, 4, .. 2 ^ n
-unfoldable pub squares : ℕ → ℕ → ℕ → ℕ → ℕ → ℕ
-squares w m zero a r = r
-squares w m (suc n) a r = squares w m n (productIn w m a a) (productIn w m r (productIn w m a a))
+module _ (F : Field) where
+  open Field F using (A, 𝟘, add as _⊕_, mul as _⊗_)
 
--- the power of a with the exponent 2 ^ w - 2: the inverse of an a that is not 0, and 0 for 0
-unfoldable pub inverseIn : ℕ → ℕ → ℕ → ℕ
-inverseIn w m a = squares w m (pred w) a 1
+  infixl 60 _⊕_
+  infixl 70 _⊗_
+  -- the value at an element x of the field
+  abbrev pub eval : List A → A → A
+  eval [] x = 𝟘
+  eval (a ∷ p) x = a ⊕ x ⊗ eval p x
+
+  -- the last coefficient
+  abbrev pub last : List A → A
+  last [] = 𝟘
+  last (a ∷ []) = a
+  last (a ∷ (b ∷ p)) = last (b ∷ p)
+
+  abbrev pub value : List A → Point A → A
+  value p (fin x) = eval p x
+  value p inf = last p
+
+  -- f is the function of points that a polynomial of n coefficients gives
+  pub record IsPolynomial (n : ℕ) (f : Point A → A) : Type 0 where
+    pub poly : List A
+    pub long : length poly ≡ n
+    pub is : (Q : Point A) → value poly Q ≡ f Q

@@ -1,1 +1,1 @@
-// Theorems only: see specs/ and proofs/.
+// Theorems only: fields, polynomials, interpolation and binary fields, of any size. See specs/.

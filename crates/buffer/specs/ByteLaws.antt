@@ -9,7 +9,7 @@ use lib.Dec.{eqb}
 use lib.ListN.{length, take, drop, length-replicate, replicate-append-replicate, List·getD-eq-default, List·getD-append}
 use lib.Seq.{getD-take, getD-drop, getD-append-add, ext-getD, length-take-le}
 use borrow.Author.Tests.{eq-eqb, eqb-true}
-use Rattle.buffer.specs.RangeLaws.{all-true, all-holds}
+use Rattle.buffer.specs.RangeLaws.{below-four, all-true, all-holds}
 use Rattle.buffer.specs.Bytes.{byte, be32, bytes32, zeros, part, splice, allZero}
 use Rattle.buffer.specs.SpliceLaws.{length-part}
 
@@ -137,7 +137,7 @@ bytes32-be32 s at l h =
     let x : ℕ = be32 s at in
     let e = split a b c d x (h (at + 1)) (h (at + 2)) (h (at + 3)) refl in
     bytes-ext (bytes32 x) (part at 4 s) (sym (length-part at 4 s l)) (λ i q.
-    four
+    below-four
     (λ i. byte (bytes32 x) i ≡ byte (part at 4 s) i)
     (ap (λ n. n % 256) (e .0) ∙ small a (h at) ∙ ap (λ j. byte s j) (sym (add-zero at)) ∙ sym (byte-part at 4 s 0 (omega arith)))
     (ap (λ n. n % 256) (e .1) ∙ low b a (h (at + 1)) ∙ sym (byte-part at 4 s 1 (omega arith)))
@@ -148,13 +148,6 @@ bytes32-be32 s at l h =
   where
     small : (a : ℕ) → a < 256 → a % 256 ≡ a
     small a k = omega arith
-
-    four : (P : ℕ → Type 0) → P 0 → P 1 → P 2 → P 3 → (i : ℕ) → i < 4 → P i
-    four P p q r t zero k = p
-    four P p q r t (suc zero) k = q
-    four P p q r t (suc (suc zero)) k = r
-    four P p q r t (suc (suc (suc zero))) k = t
-    four P p q r t (suc (suc (suc (suc i)))) k = absurd (omega arith)
 
 -- ---- zeros
 pub length-zeros : (n : ℕ) → length (zeros n) ≡ n

@@ -1,10 +1,10 @@
 -- Laws of the definitions of `Range`: tests, counts, first places, sums and lists over 0 to n - 1. Assumes nothing.
 use mathlib.Core.Path.{_≡_, refl, sym, ap, ap₂, _∙_}
-use mathlib.Core.Bool.{Bool, true, false, _&&_}
+use mathlib.Core.Bool.{Bool, true, false, not, _&&_}
 use mathlib.Core.List.{List, _∷_}
 use mathlib.Core.Logic.{⊎-elim}
-use Prim.Native.Nat.{ℕ, zero, suc, _+_, _*_, _≤_, _<_}
-use native.Mathlib.Nat.{le-of-suc-le-suc, not-suc-le-zero, eq-or-lt-of-le}
+use Prim.Native.Nat.{ℕ, zero, suc, _+_, _*_, _-_, _≤_, _<_}
+use native.Mathlib.Nat.{add-zero, le-of-suc-le-suc, not-suc-le-zero, eq-or-lt-of-le}
 use native.Mathlib.Numerals.{add-one}
 use native.Mathlib.Omega.{arith}
 use lib.Dec.{ltb}
@@ -19,6 +19,14 @@ use Rattle.buffer.specs.Range.{all, count, first, sum, iter, entries}
 -- what holds at n and at each below it holds at each below its successor
 pub below-suc {ℓ} : (P : ℕ → Type ℓ) (n : ℕ) → ((k : ℕ) → k < n → P k) → P n → (k : ℕ) → k < suc n → P k
 below-suc P n h e k l = ⊎-elim (λ q. rw q e) (λ lt. h k lt) (eq-or-lt-of-le (le-of-suc-le-suc l))
+
+-- what holds at 0 to 3
+pub below-four {ℓ} : (P : ℕ → Type ℓ) → P 0 → P 1 → P 2 → P 3 → (k : ℕ) → k < 4 → P k
+below-four P p q r t zero l = p
+below-four P p q r t (suc zero) l = q
+below-four P p q r t (suc (suc zero)) l = r
+below-four P p q r t (suc (suc (suc zero))) l = t
+below-four P p q r t (suc (suc (suc (suc k)))) l = absurd (omega arith)
 
 -- ---- all
 pub all-none : (p : ℕ → Bool) → all 0 p ≡ true
@@ -111,6 +119,19 @@ unfolding count
 count-append n zero p = let e : n + 0 ≡ n = omega arith in rw e (omega arith)
 count-append n (suc m) p = let e : n + suc m ≡ suc (n + m) = omega arith in rw (e, count, count-append n m p) (omega arith)
 
+-- a test that is counted in two parts
+pub count-parts : (n : ℕ) (p q r : ℕ → Bool) → ((k : ℕ) → k < n → pick (p k) 1 0 + pick (q k) 1 0 ≡ pick (r k) 1 0) → count n p + count n q ≡ count n r
+unfolding count
+count-parts zero p q r h = refl
+count-parts (suc n) p q r h = omega (arith, h n (omega arith), count-parts n p q r (λ k l. h k (omega arith)))
+
+pub count-not : (n : ℕ) (p : ℕ → Bool) → count n p + count n (λ k. not (p k)) ≡ n
+count-not n p = count-parts n p (λ k. not (p k)) (λ _. true) (λ k l. one (p k)) ∙ count-holds n (λ _. true) (λ k l. refl)
+  where
+    one : (t : Bool) → pick t 1 0 + pick (not t) 1 0 ≡ pick true 1 0
+    one true = unfold pick in refl
+    one false = unfold pick in refl
+
 -- ---- first
 pub first-le : (n : ℕ) (p : ℕ → Bool) → first n p ≤ n
 unfolding first
@@ -188,6 +209,21 @@ first-le-at n p k l e =
     (ltb k (first n p))
     (λ q. not-both e (first-misses n p k (ltb-true k (first n p) q)))
     (λ q. ltb-false k (first n p) q)
+
+-- the first place is counted once, and those behind it
+pub count-first : (n : ℕ) (p : ℕ → Bool) → first n p < n → count n p ≡ suc (count (n - suc (first n p)) (λ k. p (suc (first n p) + k)))
+count-first n p h =
+    let i : ℕ = first n p in
+    let m : ℕ = n - suc i in
+    let whole : n ≡ i + (1 + m) = omega arith in
+    let none : count i p ≡ 0 = count-fails i p (first-misses n p) in
+    let here : pick {A = ℕ} (p (i + 0)) 1 0 ≡ 1 = pick-true (ap p (add-zero i) ∙ first-holds n p h) 1 0 in
+    let behind : count m (λ k. p (i + (1 + k))) ≡ count m (λ k. p (suc i + k)) = count-ext m (λ k. p (i + (1 + k))) (λ k. p (suc i + k)) (λ k l. let e : i + (1 + k) ≡ suc i + k = omega arith in ap p e) in
+    ap (λ j. count j p) whole
+    ∙ omega (arith, count-append i (1 + m) p, count-append 1 m (λ k. p (i + k)), one (λ k. p (i + k)))
+  where
+    one : (q : ℕ → Bool) → count 1 q ≡ pick (q 0) 1 0
+    one q = unfold count in omega arith
 
 -- ---- sum
 pub sum-none : (f : ℕ → ℕ) → sum 0 f ≡ 0

@@ -1,4 +1,5 @@
 pub mod Gf16
-pub mod Laws
+pub mod Gf16Laws
 pub mod Table
 pub mod Byte
+pub mod ByteLaws

@@ -1,26 +1,12 @@
--- The table of products: the entry at 16 a + b is the product of a and b. Assumes nothing.
-use mathlib.Core.Path.{_≡_, ap₂, _∙_, sym, subst}
-use Rattle.field.specs.Laws.{product-bound}
+-- Document 01: "Products are looked up in a table of 256 entries, whose rule is shown over the whole table." The product of a and b stands at 16a + b;
+-- `products` is the list of what the rule gives, with which the constant of the code is compared, whole.
 use mathlib.Core.List.{List}
-use Prim.Native.Nat.{ℕ, _+_, _*_, _/_, _%_, _<_}
-use native.Mathlib.Omega.{arith}
-use lib.ListN.{getD}
+use Prim.Native.Nat.{ℕ, _/_, _%_}
+use Rattle.algebra.specs.Every.{values}
 use Rattle.field.specs.Gf16.{product}
-use Rattle.algebra.specs.Every.{values, values-at}
 
 unfoldable pub rule : ℕ → ℕ
 rule k = product (k / 16) (k % 16)
 
 unfoldable pub products : List ℕ
 products = values 256 0 rule
-
-pub products-at : (a b : ℕ) → a < 16 → b < 16 → getD products (a * 16 + b) 0 ≡ product a b
-unfolding rule products
-products-at a b ha hb = values-at 256 0 rule (a * 16 + b) (omega arith) ∙ ap₂ product (omega arith) (omega arith)
-
--- what a read of the table gives
-pub read : (l : List ℕ) → l ≡ products → (a b x y : ℕ) → x ≡ a → y ≡ b → a < 16 → b < 16
-    → (getD l (x * 16 + y) 0 ≡ product a b) × (getD l (x * 16 + y) 0 < 16)
-read l e a b x y p q ha hb =
-    let f : getD l (x * 16 + y) 0 ≡ product a b = (λ i. getD (e i) (p i * 16 + q i) 0) ∙ products-at a b ha hb in
-    (f, subst (λ (n : ℕ). n < 16) (sym f) (product-bound a b ha hb))

@@ -1,13 +1,13 @@
--- `field::inv` meets its contract: the table is the list of the inverses, which antt computes.
--- Assumes nothing.
+-- `field::inv` meets its contract: the table is the list of the inverses, which the prover computes.
 use mathlib.Core.Path.{ap, _∙_, sym, subst}
 use Prim.Native.Nat.{ℕ, _<_}
 use lib.Dec.{ltb→lt}
-use Rattle.field.specs.Laws.{inverse-bound}
+use Rattle.algebra.specs.BinaryLaws.{inverse-low}
+use Rattle.field.specs.Gf16Laws.{tested}
 use native.Mathlib.Nat.{zero-add}
 use borrow.Author.Needs.{needs}
-use Rattle.algebra.specs.Polynomial.{times, remainder, productIn, inverseIn, squares}
-use Rattle.field.specs.Gf16.{product, inverse}
+use Rattle.algebra.specs.Binary.{times, remainder, productIn, inverseIn, squares}
+use Rattle.field.specs.Gf16.{inverse}
 use Rattle.algebra.specs.Every.{values, values-at}
 use Rattle.field.proofs.inv.Statement.{statement}
 use Rattle.field.proofs.inv.Tie as tie
@@ -22,7 +22,7 @@ returns : tie.Need-returns
 unfolding values productIn remainder times inverseIn squares
 returns c =
     let e = values-at 16 0 inverse (c .wide .result) (search needs) ∙ ap inverse (zero-add (c .wide .result) ∙ c .wide .ensures) in
-    (e, subst (λ (n : ℕ). n < 16) (sym e) (ltb→lt (inverse (c .before .args .a)) 16 (inverse-bound (c .before .args .a) (search needs))))
+    (e, subst (λ (n : ℕ). n < 16) (sym e) (ltb→lt (inverse (c .before .args .a)) 16 (inverse-low tested (c .before .args .a) (search needs))))
 
 pub inv-spec : {M : Type 1} → statement M
 inv-spec = tie.close (tie.spec wide-requires array-read-result returns)

@@ -1,7 +1,6 @@
--- `field::table` meets its contract: the constant is the list of the products, which antt computes.
--- Assumes nothing.
+-- `field::table` meets its contract: one computed test carries the polynomial rule to each entry of the constant.
 use mathlib.Core.Path.{refl}
-use Rattle.algebra.specs.Polynomial.{times, remainder, productIn}
+use Rattle.algebra.specs.Binary.{times, remainder, productIn}
 use Rattle.algebra.specs.Every.{values}
 use Rattle.field.specs.Table.{products, rule}
 use Rattle.field.proofs.table.Statement.{statement}

@@ -1,0 +1,122 @@
+-- Rebuilding bytes, both halves together. A reader wants `rebuilt-bytes-have` (the rebuilt bytes have the given bytes
+-- at the columns), `bytes-fixed` (four different columns fix four bytes), `bytes-back` and `byte-back` (rebuilding what was encoded gives the data,
+-- all four or one place), `encode-data` (columns 0 to 3 are the data).
+use mathlib.Core.Path.{_≡_, refl, ap, ap₂, _∙_, sym}
+use mathlib.Core.Bool.{true}
+use mathlib.Core.List.{List, [], _∷_, map}
+use Prim.Native.Nat.{ℕ, _+_, _*_, _/_, _%_, _≤_, _<_}
+use native.Mathlib.Nat.{div-add-mod', le-of-suc-le-suc}
+use native.Mathlib.Omega.{arith}
+use lib.Bits.{xor-zero-l, xor-zero-r}
+use lib.Dec.{lit<}
+use lib.ListN.{length, getD, length-map}
+use Rattle.algebra.specs.Polynomial.{All}
+use Rattle.field.specs.ByteLaws.{scale-one, scale-zero}
+use Rattle.code.specs.Matrix.{matrix, entry, column, encode, within, different}
+use Rattle.code.specs.MatrixLaws.{column-within}
+use Rattle.code.specs.Lists.{four, all-four, each-four, within-head, within-tail, within-at, within-four, within-map, getD-map}
+use Rattle.code.specs.Fixing.{fixes}
+use Rattle.code.specs.Weights.{weightsOf, data-of}
+use Rattle.code.specs.WeightsLaws.{weights-within, rebuilt-has}
+use Rattle.code.specs.Bytes.{highs, lows, mixed, encode-bytes, bytes-of}
+use Rattle.code.specs.Halves.{lows-within, highs-within, mixed-high, mixed-low, mixed-bound, encode-high, encode-low, encode-halves}
+
+-- ---- the rebuilt bytes have the given bytes
+highs-are : (cs ys : List ℕ) → highs (bytes-of cs ys) ≡ data-of cs (highs ys)
+highs-are cs ys =
+    λ i. mixed-high (weightsOf cs 0) ys (weights-within cs 0) i ∷ mixed-high (weightsOf cs 1) ys (weights-within cs 1) i
+    ∷ mixed-high (weightsOf cs 2) ys (weights-within cs 2) i ∷ mixed-high (weightsOf cs 3) ys (weights-within cs 3) i ∷ []
+
+lows-are : (cs ys : List ℕ) → lows (bytes-of cs ys) ≡ data-of cs (lows ys)
+lows-are cs ys =
+    λ i. mixed-low (weightsOf cs 0) ys (weights-within cs 0) i ∷ mixed-low (weightsOf cs 1) ys (weights-within cs 1) i
+    ∷ mixed-low (weightsOf cs 2) ys (weights-within cs 2) i ∷ mixed-low (weightsOf cs 3) ys (weights-within cs 3) i ∷ []
+
+pub rebuilt-bytes-have : (cs : List ℕ) → length cs ≡ 4 → within 16 cs ≡ true → different cs ≡ true → (ys : List ℕ) → length ys ≡ 4 → within 255 ys ≡ true
+    → (j : ℕ) → j < 4 → encode-bytes (bytes-of cs ys) (getD cs j 0) ≡ getD ys j 0
+rebuilt-bytes-have cs lc w d ys ly v j h =
+    let k : j < length cs = omega arith in
+    let k′ : j < length ys = omega arith in
+    encode-halves (bytes-of cs ys) refl (getD cs j 0) (omega (arith, within-at 16 cs w j k))
+    ∙ ap₂ (λ (x y : ℕ). x * 16 + y)
+    (ap (λ (l : List ℕ). encode l (getD cs j 0)) (highs-are cs ys)
+    ∙ rebuilt-has cs lc w d (highs ys) (length-map ys (λ (b : ℕ). b / 16) ∙ ly) (highs-within ys v) j h ∙ getD-map (λ (b : ℕ). b / 16) ys j k′)
+    (ap (λ (l : List ℕ). encode l (getD cs j 0)) (lows-are cs ys)
+    ∙ rebuilt-has cs lc w d (lows ys) (length-map ys (λ (b : ℕ). b % 16) ∙ ly) (lows-within ys) j h ∙ getD-map (λ (b : ℕ). b % 16) ys j k′)
+    ∙ div-add-mod' (getD ys j 0) 16
+
+-- ---- four different columns fix four bytes
+joined : List ℕ → List ℕ → List ℕ
+joined [] ls = []
+joined (h ∷ hs) [] = []
+joined (h ∷ hs) (l ∷ ls) = (h * 16 + l) ∷ joined hs ls
+
+joined-halves : (bs : List ℕ) → joined (highs bs) (lows bs) ≡ bs
+unfolding joined
+joined-halves [] = refl
+joined-halves (b ∷ bs) = ap₂ (λ (x : ℕ) (l : List ℕ). x ∷ l) (div-add-mod' b 16) (joined-halves bs)
+
+all-map : (P Q : ℕ → Type 0) → ((c : ℕ) → c < 17 → P c → Q c) → (cs : List ℕ) → within 16 cs ≡ true → All P cs → All Q cs
+all-map P Q f [] w a = tt
+all-map P Q f (c ∷ cs) w a = (f c (omega (arith, within-head 16 c cs w)) (a .0), all-map P Q f cs (within-tail 16 c cs w) (a .1))
+
+pub bytes-fixed : (cs : List ℕ) → length cs ≡ 4 → within 16 cs ≡ true → different cs ≡ true → (ds es : List ℕ) → length ds ≡ 4 → length es ≡ 4
+    → within 255 ds ≡ true → within 255 es ≡ true → All (λ c. encode-bytes ds c ≡ encode-bytes es c) cs → ds ≡ es
+bytes-fixed cs lc w d ds es ld le vd ve a = sym (joined-halves ds) ∙ ap₂ joined same-highs same-lows ∙ joined-halves es
+  where
+    same-highs : highs ds ≡ highs es
+    same-highs =
+        fixes cs lc w d (highs ds) (highs es) (length-map ds (λ (b : ℕ). b / 16) ∙ ld) (length-map es (λ (b : ℕ). b / 16) ∙ le)
+        (highs-within ds vd) (highs-within es ve)
+        (all-map (λ c. encode-bytes ds c ≡ encode-bytes es c) (λ c. encode (highs ds) c ≡ encode (highs es) c)
+        (λ c h e. sym (encode-high ds ld c h) ∙ ap (λ (x : ℕ). x / 16) e ∙ encode-high es le c h) cs w a)
+
+    same-lows : lows ds ≡ lows es
+    same-lows =
+        fixes cs lc w d (lows ds) (lows es) (length-map ds (λ (b : ℕ). b % 16) ∙ ld) (length-map es (λ (b : ℕ). b % 16) ∙ le)
+        (lows-within ds) (lows-within es)
+        (all-map (λ c. encode-bytes ds c ≡ encode-bytes es c) (λ c. encode (lows ds) c ≡ encode (lows es) c)
+        (λ c h e. sym (encode-low ds ld c h) ∙ ap (λ (x : ℕ). x % 16) e ∙ encode-low es le c h) cs w a)
+
+-- ---- rebuilding what was encoded gives the data
+pub encode-bytes-bound : (ds : List ℕ) → within 255 ds ≡ true → (c : ℕ) → c < 17 → encode-bytes ds c < 256
+encode-bytes-bound ds v c h = mixed-bound (column c) ds (column-within c h) v
+
+pub bytes-of-within : (cs ys : List ℕ) → within 255 ys ≡ true → within 255 (bytes-of cs ys) ≡ true
+bytes-of-within cs ys v = within-four 255 _ _ _ _ (low 0) (low 1) (low 2) (low 3)
+  where
+    low : (q : ℕ) → mixed (weightsOf cs q) ys ≤ 255
+    low q = le-of-suc-le-suc (mixed-bound (weightsOf cs q) ys (weights-within cs q) v)
+
+pub bytes-back : (cs : List ℕ) → length cs ≡ 4 → within 16 cs ≡ true → different cs ≡ true → (ds : List ℕ) → length ds ≡ 4 → within 255 ds ≡ true
+    → bytes-of cs (map (encode-bytes ds) cs) ≡ ds
+bytes-back cs lc w d ds ld v =
+    bytes-fixed cs lc w d (bytes-of cs ys) ds refl ld (bytes-of-within cs ys within-ys) v
+    (all-four (λ c. encode-bytes (bytes-of cs ys) c ≡ encode-bytes ds c) cs lc
+    (λ j h. rebuilt-bytes-have cs lc w d ys (length-map cs (encode-bytes ds) ∙ lc) within-ys j h ∙ getD-map (encode-bytes ds) cs j (omega arith)))
+  where
+    ys : List ℕ
+    ys = map (encode-bytes ds) cs
+
+    within-ys : within 255 ys ≡ true
+    within-ys = within-map 16 255 (encode-bytes ds) (λ c h. le-of-suc-le-suc (encode-bytes-bound ds v c (omega arith))) cs w
+
+pub byte-back : (cs : List ℕ) → length cs ≡ 4 → within 16 cs ≡ true → different cs ≡ true → (ds : List ℕ) → length ds ≡ 4 → within 255 ds ≡ true
+    → (q : ℕ) → q < 4 → mixed (weightsOf cs q) (map (encode-bytes ds) cs) ≡ getD ds q 0
+byte-back cs lc w d ds ld v q h =
+    each-four (λ p. mixed (weightsOf cs p) (map (encode-bytes ds) cs) ≡ getD (bytes-of cs (map (encode-bytes ds) cs)) p 0) refl refl refl refl q h
+    ∙ ap (λ (l : List ℕ). getD l q 0) (bytes-back cs lc w d ds ld v)
+
+-- ---- columns 0 to 3 are the data themselves
+at : (ds : List ℕ) → length ds ≡ 4 → within 255 ds ≡ true → (q : ℕ) → q < 4 → getD ds q 0 < 256
+at ds l v q h = omega (arith, within-at 255 ds v q (omega arith))
+
+pub encode-data : (ds : List ℕ) → length ds ≡ 4 → within 255 ds ≡ true → (q : ℕ) → q < 4 → encode-bytes ds q ≡ getD ds q 0
+unfolding entry matrix
+encode-data =
+    four (λ ds. within 255 ds ≡ true → (q : ℕ) → q < 4 → encode-bytes ds q ≡ getD ds q 0)
+    (λ a b c d v. each-four (λ q. encode-bytes (a ∷ b ∷ c ∷ d ∷ []) q ≡ getD (a ∷ b ∷ c ∷ d ∷ []) q 0)
+    (simp (scale-one a (at (a ∷ b ∷ c ∷ d ∷ []) refl v 0 (lit< tt)), scale-zero, xor-zero-l, xor-zero-r))
+    (simp (scale-one b (at (a ∷ b ∷ c ∷ d ∷ []) refl v 1 (lit< tt)), scale-zero, xor-zero-l, xor-zero-r))
+    (simp (scale-one c (at (a ∷ b ∷ c ∷ d ∷ []) refl v 2 (lit< tt)), scale-zero, xor-zero-l, xor-zero-r))
+    (simp (scale-one d (at (a ∷ b ∷ c ∷ d ∷ []) refl v 3 (lit< tt)), scale-zero, xor-zero-l, xor-zero-r)))

@@ -1,0 +1,115 @@
+-- Laws of a group's members: a group that is not beyond recovery has four members in service (`enough`), and the first four are different, in
+-- rising order and in service (`first-four`). Assumes nothing.
+use mathlib.Core.Path.{_≡_, refl, ap, _∙_}
+use mathlib.Core.Bool.{Bool, true, false, not}
+use mathlib.Core.List.{List, [], _∷_}
+use Prim.Native.Nat.{ℕ, zero, suc, _+_, _-_, _≤_, _<_}
+use native.Mathlib.Omega.{arith}
+use lib.Dec.{eqb, ltb}
+use lib.ListN.{length, getD}
+use borrow.Author.Tests.{lt-ltb, le-ltb, ltb-true, ltb-false}
+use Rattle.buffer.specs.Choice.{pick}
+use Rattle.buffer.specs.ChoiceLaws.{pick-true, pick-false}
+use Rattle.buffer.specs.Range.{count, first}
+use Rattle.buffer.specs.RangeLaws.{below-four, count-ext, count-append, count-parts, count-not, count-first, first-found, first-holds}
+use Rattle.group.specs.Members.{outs, checks, beyond, serves, next, firstFour}
+
+-- ---- who is in service
+pub serves-data : (d c : ℕ → ℕ) (p : ℕ) → p < 4 → serves d c p ≡ not (eqb (d p) 2)
+unfolding serves
+serves-data d c p l = pick-true (lt-ltb p 4 l) (not (eqb (d p) 2)) (eqb (c (p - 4)) 1)
+
+pub serves-check : (d c : ℕ → ℕ) (j : ℕ) → serves d c (4 + j) ≡ eqb (c j) 1
+unfolding serves
+serves-check d c j =
+    let e : 4 + j - 4 ≡ j = omega arith in
+    pick-false (le-ltb (4 + j) 4 (omega arith)) (not (eqb (d (4 + j)) 2)) (eqb (c (4 + j - 4)) 1) ∙ ap (λ i. eqb (c i) 1) e
+
+-- a check unit in place is in service or out
+in-place : (x : ℕ) → x ≤ 2 → pick (eqb x 1) 1 0 + pick (eqb x 2) 1 0 ≡ pick (ltb 0 x) 1 0
+unfolding pick
+in-place zero h = refl
+in-place (suc zero) h = refl
+in-place (suc (suc zero)) h = refl
+in-place (suc (suc (suc x))) h = absurd (omega arith)
+
+-- members in service and units out, together: the four places and the check units in place
+pub serving : (d c : ℕ → ℕ) → ((j : ℕ) → j < 3 → c j ≤ 2) → count 7 (serves d c) + outs d c ≡ 4 + checks c
+unfolding outs checks
+serving d c h =
+    let places : count 4 (serves d c) ≡ count 4 (λ p. not (eqb (d p) 2)) = count-ext 4 (serves d c) (λ p. not (eqb (d p) 2)) (serves-data d c) in
+    let check : count 3 (λ j. serves d c (4 + j)) ≡ count 3 (λ j. eqb (c j) 1) = count-ext 3 (λ j. serves d c (4 + j)) (λ j. eqb (c j) 1) (λ j l. serves-check d c j) in
+    omega
+    (arith, count-append 4 3 (serves d c), places, check, count-not 4 (λ p. eqb (d p) 2), count-parts 3 (λ j. eqb (c j) 1) (λ j. eqb (c j) 2) (λ j. ltb 0 (c j)) (λ j l. in-place (c j) (h j l)))
+
+pub enough : (d c : ℕ → ℕ) → ((j : ℕ) → j < 3 → c j ≤ 2) → beyond d c ≡ false → 4 ≤ count 7 (serves d c)
+unfolding beyond
+enough d c h e = omega (arith, serving d c h, ltb-false (checks c) (outs d c) e)
+
+pub too-few : (d c : ℕ → ℕ) → ((j : ℕ) → j < 3 → c j ≤ 2) → beyond d c ≡ true → count 7 (serves d c) < 4
+unfolding beyond
+too-few d c h e = omega (arith, serving d c h, ltb-true (checks c) (outs d c) e)
+
+-- ---- the first four in service
+pub record Members (on : ℕ → Bool) (l : List ℕ) : Type 0 where
+  pub long : length l ≡ 4
+  pub low : (i : ℕ) → i < 4 → getD l i 0 < 7
+  pub serving : (i : ℕ) → i < 4 → on (getD l i 0) ≡ true
+  pub rising : (i k : ℕ) → i < k → k < 4 → getD l i 0 < getD l k 0
+
+rises : (a b e f : ℕ) → a < b → b < e → e < f → (k : ℕ) → k < 4 → (i : ℕ) → i < k → getD (a ∷ b ∷ e ∷ f ∷ []) i 0 < getD (a ∷ b ∷ e ∷ f ∷ []) k 0
+rises a b e f p q r =
+    let l : List ℕ = a ∷ b ∷ e ∷ f ∷ [] in
+    below-four
+    (λ k. (i : ℕ) → i < k → getD l i 0 < getD l k 0)
+    (λ i h. omega arith)
+    (λ i h. below-four (λ i. i < 1 → getD l i 0 < b) (λ z. p) (λ z. omega arith) (λ z. omega arith) (λ z. omega arith) i (omega arith) h)
+    (λ i h. below-four (λ i. i < 2 → getD l i 0 < e) (λ z. omega arith) (λ z. q) (λ z. omega arith) (λ z. omega arith) i (omega arith) h)
+    (λ i h. below-four (λ i. i < 3 → getD l i 0 < f) (λ z. omega arith) (λ z. omega arith) (λ z. r) (λ z. omega arith) i (omega arith) h)
+
+module _ (on : ℕ → Bool) where
+  -- how many serve from a on
+  from : ℕ → ℕ
+  from a = count (7 - a) (λ k. on (a + k))
+
+  -- n is the first from a on, and m more serve behind it
+  record Next (a m n : ℕ) : Type 0 where
+    late : a ≤ n
+    low : n < 7
+    serves : on n ≡ true
+    more : m ≤ from (suc n)
+
+  next-is : (a m : ℕ) → suc m ≤ from a → Next a m (next on a)
+  unfolding from next
+  next-is a m l =
+      let f : ℕ → Bool = λ k. on (a + k) in
+      let i : ℕ = first (7 - a) f in
+      let lt : i < 7 - a = first-found (7 - a) f (omega arith) in
+      let e : 7 - a - suc i ≡ 7 - suc (a + i) = omega arith in
+      let behind : count (7 - a - suc i) (λ k. on (a + (suc i + k))) ≡ count (7 - suc (a + i)) (λ k. on (suc (a + i) + k)) =
+      ap (λ j. count j (λ k. on (a + (suc i + k)))) e
+      ∙ count-ext (7 - suc (a + i)) (λ k. on (a + (suc i + k))) (λ k. on (suc (a + i) + k)) (λ k q. let d : a + (suc i + k) ≡ suc (a + i) + k = omega arith in ap on d) in
+      record { late = omega arith; low = omega arith; serves = first-holds (7 - a) f lt; more = omega (arith, count-first (7 - a) f lt, behind) }
+
+  start : 4 ≤ count 7 on → 4 ≤ from 0
+  unfolding from
+  start h = omega (arith, count-ext 7 on (λ k. on (0 + k)) (λ k q. let d : k ≡ 0 + k = omega arith in ap on d))
+
+  pub first-four : 4 ≤ count 7 on → Members on (firstFour on)
+  unfolding firstFour
+  first-four h =
+      let a : ℕ = next on 0 in
+      let b : ℕ = next on (suc a) in
+      let e : ℕ = next on (suc b) in
+      let f : ℕ = next on (suc e) in
+      let na : Next 0 3 a = next-is 0 3 (start h) in
+      let nb : Next (suc a) 2 b = next-is (suc a) 2 (na .more) in
+      let ne : Next (suc b) 1 e = next-is (suc b) 1 (nb .more) in
+      let nf : Next (suc e) 0 f = next-is (suc e) 0 (ne .more) in
+      let l : List ℕ = a ∷ b ∷ e ∷ f ∷ [] in
+      record {
+        long = refl;
+        low = below-four (λ i. getD l i 0 < 7) (na .low) (nb .low) (ne .low) (nf .low);
+        serving = below-four (λ i. on (getD l i 0) ≡ true) (na .serves) (nb .serves) (ne .serves) (nf .serves);
+        rising = λ i k q r. rises a b e f (nb .late) (ne .late) (nf .late) k r i q;
+      }
