@@ -9,3 +9,4 @@ pub mod Numbers
 pub mod Changes
 pub mod Perform
 pub mod ChangeLaws
+pub mod PerformLaws
