@@ -7,7 +7,7 @@ use native.Mathlib.Omega.{arith}
 use native.Mathlib.Nat.{mul-one, mul-le-mul-right, one-mul}
 use native.Mathlib.Numerals.{add-one}
 use lib.ListN.{length, take, drop, getD, set, length-set}
-use lib.Seq.{drop-drop, set-split}
+use lib.Seq.{drop-drop, set-split, getD-take}
 use lib.Dec.{eqb}
 use Rattle.buffer.specs.Choice.{pick}
 use Rattle.buffer.specs.Bytes.{byte, zeros, part, splice}
@@ -15,7 +15,7 @@ use Rattle.buffer.specs.SpliceLaws.{splice-left, splice-right}
 use Rattle.buffer.specs.Table.{tab, upd}
 use Rattle.buffer.specs.TableLaws.{tab-ext, tab-one, tab-zeros, splice-chunk, upd-map}
 use Rattle.group.specs.Widths.{slotBytes, checkBytes}
-use Rattle.model.specs.Layout.{Store, bytes, view, storeBytes, slotAt, checkAt, withSlots, withChecks}
+use Rattle.model.specs.Layout.{Store, bytes, view, storeBytes, unitsIn, levelIn, slotAt, checkAt, withSlots, withChecks}
 use Rattle.model.specs.LayoutLaws.{Shaped, Same, bytes-ext, bytes-view, view-shaped, view-bytes, length-bytes, byte-front, view-dstate, view-cstate, slot-read, check-read, len-ds, len-cs, len-slots, len-checks}
 use Rattle.model.specs.RunLaws.{upd2, run, run-one, run-unit, length-upd2, splice-run}
 
@@ -238,6 +238,14 @@ check-end {x} {c} {r} p = check-within (byte x 5) c r (length x) (p .unit) (p .r
 pub size-of : (x : List ℕ) → byte x 5 ≡ view x .size
 unfolding view
 size-of x = refl
+
+pub units-of : (x : List ℕ) → byte x 6 ≡ unitsIn (view x)
+unfolding view unitsIn
+units-of x = sym (getD-take 8 x 6 0 (omega arith))
+
+pub level-of : (x : List ℕ) → byte x 7 ≡ levelIn (view x)
+unfolding view levelIn
+level-of x = sym (getD-take 8 x 7 0 (omega arith))
 
 -- a slot, and a check record, as the part that code lends
 module _ (s : List ℕ) (b at u r : ℕ) (eb : b ≡ byte s 5) where

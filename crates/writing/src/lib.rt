@@ -12,10 +12,21 @@ ghost use Rattle.model.specs.StoreLaws.{SlotIn};
 ghost use Rattle.model.specs.LayoutLaws.{Long};
 ghost use Rattle.model.specs.Reads.{outsIn};
 ghost use Rattle.model.specs.Numbers.{Call, teach, correct, erase, unitOut, firstOf, refusalsIn};
+ghost use Rattle.model.specs.Perform.{plain, outcome, perform};
 ghost use Rattle.model.specs.Changes.{written, erased, unitLost};
 ghost use Rattle.lookup.specs.Sized.{Sized};
 ghost use Rattle.writing.specs.Following.{followed};
 ghost use Rattle.writing.specs.Homes.{Homed};
+
+// How many units of group g are out.
+fn outs(s: &[u8], g: u8) -> u8
+    requires { ⌜ Sized (now s) × (g < 4) ⌝ }
+    ensures { λ r. ⌜ (r ≡ outsIn (view (now (s .entry))) g) × (r ≤ 7) ⌝ }
+{
+    let d = 8 + 4 * buffer::wide(g);
+    let c = 24 + 3 * buffer::wide(g);
+    group::outs(&s[d..d + 4], &s[c..c + 3])
+}
 
 // Each check unit in service of u's group follows, at rank r, the new key and the change of body of the record there.
 fn follow_checks(s: &mut [u8], u: u8, r: u8, key: &[u8], change: &[u8], table: &[u8; 256])
@@ -143,6 +154,90 @@ fn home_of(s: &[u8], key: u32) -> Home
     Home { unit, fill, rank }
 }
 
+// The number of a teach, for a store that is sound or not.
+fn teach_number(s: &[u8], ok: bool, key: u32, body: &[u8]) -> u8
+    requires { ⌜ (ok ≡ true → Sized (now s)) ⌝ }
+    ensures { λ r. ⌜ r ≡ firstOf (refusalsIn ok (view (now (s .entry))) (Call.teach key (now (body .entry)))) ⌝ }
+{
+    let no_key = key == 0;
+    if no_key {
+        return 2;
+    }
+    let misfit = body.len() != 16;
+    if misfit {
+        return 2;
+    }
+    if !ok {
+        return 1;
+    }
+    let home = home_of(s, key);
+    let out = 0 < outs(s, home.unit / 4);
+    if out {
+        return 4;
+    }
+    let known = home.rank < home.fill;
+    if known {
+        return 5;
+    }
+    let full = buffer::byte_at(s, 5) <= home.fill;
+    if full {
+        return 7;
+    }
+    0
+}
+
+// The number of a correct.
+fn correct_number(s: &[u8], ok: bool, key: u32, body: &[u8]) -> u8
+    requires { ⌜ (ok ≡ true → Sized (now s)) ⌝ }
+    ensures { λ r. ⌜ r ≡ firstOf (refusalsIn ok (view (now (s .entry))) (Call.correct key (now (body .entry)))) ⌝ }
+{
+    let no_key = key == 0;
+    if no_key {
+        return 2;
+    }
+    let misfit = body.len() != 16;
+    if misfit {
+        return 2;
+    }
+    if !ok {
+        return 1;
+    }
+    let home = home_of(s, key);
+    let out = 0 < outs(s, home.unit / 4);
+    if out {
+        return 4;
+    }
+    let missing = home.fill <= home.rank;
+    if missing {
+        return 6;
+    }
+    0
+}
+
+// The number of an erase.
+fn erase_number(s: &[u8], ok: bool, key: u32) -> u8
+    requires { ⌜ (ok ≡ true → Sized (now s)) ⌝ }
+    ensures { λ r. ⌜ r ≡ firstOf (refusalsIn ok (view (now (s .entry))) (Call.erase key)) ⌝ }
+{
+    let no_key = key == 0;
+    if no_key {
+        return 2;
+    }
+    if !ok {
+        return 1;
+    }
+    let home = home_of(s, key);
+    let out = 0 < outs(s, home.unit / 4);
+    if out {
+        return 4;
+    }
+    let missing = home.fill <= home.rank;
+    if missing {
+        return 6;
+    }
+    0
+}
+
 // The number of a unit out.
 fn out_number(s: &[u8], ok: bool, unit: u32) -> u8
     ensures { λ r. ⌜ r ≡ firstOf (refusalsIn ok (view (now (s .entry))) (Call.unitOut unit)) ⌝ }
@@ -163,5 +258,65 @@ fn out_number(s: &[u8], ok: bool, unit: u32) -> u8
     if out {
         return 4;
     }
+    0
+}
+
+// Teaches a new key.
+pub fn teach(s: &mut [u8], key: u32, body: &[u8]) -> u8
+    ensures { λ r. ⌜ outcome (plain r) (now (s .exit)) ≡ perform (now (s .entry)) (Call.teach key (now (body .entry))) ⌝ }
+{
+    let ok = soundness::is_sound(s);
+    let number = teach_number(s, ok, key, body);
+    if number != 0 {
+        return number;
+    }
+    let home = home_of(s, key);
+    let slot = slot_of(key, body);
+    let table = field::table();
+    write_slot(s, home.unit, home.fill, &slot, &table);
+    0
+}
+
+// Gives a key a new body.
+pub fn correct(s: &mut [u8], key: u32, body: &[u8]) -> u8
+    ensures { λ r. ⌜ outcome (plain r) (now (s .exit)) ≡ perform (now (s .entry)) (Call.correct key (now (body .entry))) ⌝ }
+{
+    let ok = soundness::is_sound(s);
+    let number = correct_number(s, ok, key, body);
+    if number != 0 {
+        return number;
+    }
+    let home = home_of(s, key);
+    let slot = slot_of(key, body);
+    let table = field::table();
+    write_slot(s, home.unit, home.rank, &slot, &table);
+    0
+}
+
+// Erases a key: the last record of its unit takes the freed rank.
+pub fn erase(s: &mut [u8], key: u32) -> u8
+    ensures { λ r. ⌜ outcome (plain r) (now (s .exit)) ≡ perform (now (s .entry)) (Call.erase key) ⌝ }
+{
+    let ok = soundness::is_sound(s);
+    let number = erase_number(s, ok, key);
+    if number != 0 {
+        return number;
+    }
+    let home = home_of(s, key);
+    let table = field::table();
+    erase_at(s, home.unit, home.rank, home.fill - 1, &table);
+    0
+}
+
+// A unit is lost: its bytes become zero, and it is out.
+pub fn unit_out(s: &mut [u8], unit: u32) -> u8
+    ensures { λ r. ⌜ outcome (plain r) (now (s .exit)) ≡ perform (now (s .entry)) (Call.unitOut unit) ⌝ }
+{
+    let ok = soundness::is_sound(s);
+    let number = out_number(s, ok, unit);
+    if number != 0 {
+        return number;
+    }
+    clear_unit(s, unit as u8);
     0
 }

@@ -11,11 +11,6 @@ use Rattle.model.specs.StoreLaws.{check-within}
 use Rattle.writing.proofs.Following.{Following, following-start, following-on, following-off, following-end}
 use Rattle.writing.proofs.follow_checks.Statement.{statement}
 use Rattle.writing.proofs.follow_checks.Tie as tie
-use Rattle.writing.proofs.follow_checks.Reads as reads
-use Rattle.writing.proofs.follow_checks.Lts as lts
-use Rattle.buffer.proofs.wide.Reads as wide-reads
-use Rattle.lookup.proofs.check_at.Reads as check-at-reads
-use Rattle.group.proofs.follow.Reads as follow-reads
 
 abbrev Inv-loop : tie.InvT-loop
 Inv-loop s₀ u r key change table b place first j₀ s j = Following s₀ u r key change s j
@@ -23,40 +18,10 @@ Inv-loop s₀ u r key change table b place first j₀ s j = Following s₀ u r k
 abbrev μ-loop : tie.MeasureT-loop
 μ-loop s₀ u r key change table b place first j₀ s j = 3 - j
 
-slice-read-b : tie.Need-slice-read-b Inv-loop μ-loop
-slice-read-b c = search needs
-
-mul-first : tie.Need-mul-first Inv-loop μ-loop
-mul-first c = search needs
-
 loop-holds : tie.Need-loop-holds Inv-loop μ-loop
 loop-holds c =
     let e = c .before .before .before .before in
     following-start _ _ _ _ _ (e .pre .0) (e .pre .1) (e .pre .2)
-
-add-c : tie.Need-add-c Inv-loop μ-loop
-add-c c = search needs
-
-wide-requires : tie.Need-wide-requires Inv-loop μ-loop
-wide-requires c κs = search needs
-
-add-if1 : tie.Need-add-if1 Inv-loop μ-loop
-add-if1 c = search needs
-
-slice-read-if1 : tie.Need-slice-read-if1 Inv-loop μ-loop
-slice-read-if1 c = search needs
-
-check-at-requires : tie.Need-check-at-requires Inv-loop μ-loop
-check-at-requires c κs = search needs
-
-add-follow : tie.Need-add-follow Inv-loop μ-loop
-add-follow c = search needs
-
-sub-follow : tie.Need-sub-follow Inv-loop μ-loop
-sub-follow c = search needs
-
-part-follow-start : tie.Need-part-follow-start Inv-loop μ-loop
-part-follow-start c = search needs
 
 part-follow-end : tie.Need-part-follow-end Inv-loop μ-loop
 part-follow-end c =
@@ -67,12 +32,6 @@ part-follow-end c =
 
 follow-requires : tie.Need-follow-requires Inv-loop μ-loop
 follow-requires c κs = (search needs, search needs, search needs, search needs, search needs)
-
-add-j : tie.Need-add-j Inv-loop μ-loop
-add-j c = search needs
-
-loop-less : tie.Need-loop-less Inv-loop μ-loop
-loop-less c = search needs
 
 loop-again : tie.Need-loop-again Inv-loop μ-loop
 unfolding part splice
@@ -86,9 +45,6 @@ loop-again c =
     (λ w. rw (w .1) (following-off _ _ _ _ _ (e .pre .0) (e .pre .1) (e .pre .2) _ _ (l .loop .inv) (search needs) (rw (c .before .before .wide .ensures .0) at (w .0 .left))))
     (c .if1 .came)
 
-same-length : tie.Need-same-length Inv-loop μ-loop
-same-length c = search needs
-
 returns : tie.Need-returns Inv-loop μ-loop
 returns c =
     let e = c .before .before .before .before .before .before in
@@ -100,21 +56,21 @@ follow-checks-spec =
     (tie.spec
     Inv-loop
     μ-loop
-    slice-read-b
-    mul-first
+    (λ c. search needs)
+    (λ c. search needs)
     loop-holds
-    add-c
-    wide-requires
-    add-if1
-    slice-read-if1
-    check-at-requires
-    add-follow
-    sub-follow
-    part-follow-start
+    (λ c. search needs)
+    (λ c κs. search needs)
+    (λ c. search needs)
+    (λ c. search needs)
+    (λ c κs. search needs)
+    (λ c. search needs)
+    (λ c. search needs)
+    (λ c. search needs)
     part-follow-end
     follow-requires
-    add-j
-    loop-less
+    (λ c. search needs)
+    (λ c. search needs)
     loop-again
-    same-length
+    (λ c. search needs)
     returns)

@@ -4,9 +4,6 @@ use Rattle.model.specs.Numbers.{firstOf, refusalsIn}
 use borrow.Author.Needs.{needs}
 use Rattle.writing.proofs.out_number.Statement.{statement}
 use Rattle.writing.proofs.out_number.Tie as tie
-use Rattle.writing.proofs.out_number.Reads as reads
-use Rattle.writing.proofs.out_number.Lts as lts
-use Rattle.lookup.proofs.state.Reads as state-reads
 
 returns : tie.Need-returns
 unfolding firstOf refusalsIn pick
@@ -17,12 +14,6 @@ returns-2 : tie.Need-returns-2
 unfolding firstOf refusalsIn pick
 returns-2 c =
     simp (c .before .if1 .left, c .if2 .taken)
-
-cast-state : tie.Need-cast-state
-cast-state c = search needs
-
-state-requires : tie.Need-state-requires
-state-requires c κs = search needs
 
 returns-3 : tie.Need-returns-3
 unfolding firstOf refusalsIn pick
@@ -44,4 +35,4 @@ returns-5 c =
 
 pub out-number-spec : {M : Type 1} → statement M
 out-number-spec =
-    tie.close (tie.spec returns returns-2 cast-state state-requires returns-3 returns-4 returns-5)
+    tie.close (tie.spec returns returns-2 (λ c. search needs) (λ c κs. search needs) returns-3 returns-4 returns-5)
