@@ -1,8 +1,11 @@
 pub mod Units
+pub mod UnitLaws
 pub mod Layout
 pub mod LayoutLaws
 pub mod Reads
 pub mod Sound
 pub mod Numbers
+pub mod RowLaws
 pub mod Changes
 pub mod Perform
+pub mod Demand1
