@@ -5,3 +5,6 @@ pub mod Places
 pub mod DealLoop
 pub mod MergeLoop
 pub mod CheckLoops
+pub mod Added
+pub mod Removed
+pub mod Rows

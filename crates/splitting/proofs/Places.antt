@@ -139,7 +139,7 @@ set-marks s at m u state l ea hu =
     dstate-set t shaped (set s 6 m) (front-set v h s (sym (bytes-view s l)) (set s 6 m) 6 m (omega arith) refl) _ at u state ea hu refl
 
 -- ---- first the check units that one test picks, then those that another picks
-pick-or : {A : Type 0} (a b : Bool) (x y : A) → pick b x (pick a x y) ≡ pick (a || b) x y
+pub pick-or : {A : Type 0} (a b : Bool) (x y : A) → pick b x (pick a x y) ≡ pick (a || b) x y
 unfolding pick
 pick-or true true x y = refl
 pick-or true false x y = refl

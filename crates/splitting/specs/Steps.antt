@@ -23,6 +23,10 @@ pub record Split (s : List ℕ) (n m : ℕ) : Type 0 where
   pub apart : n < m
   pub unit : m < 16
 
+-- check units that aren't in service are zero
+abbrev pub Blank : List ℕ → Type 0
+Blank s = (c r : ℕ) → c < 12 → r < byte s 5 → (byte s (24 + c) ≡ 1 → ⊥) → view s .check c r ≡ zeros checkBytes
+
 -- the slots of unit u from rank q on are empty
 unfoldable pub cleared : Store → ℕ → ℕ → Store
 cleared v u q = withSlots v (λ w r. pick (eqb w u && leb q r) (zeros slotBytes) (v .slot w r))
