@@ -6,22 +6,22 @@ use mathlib.Core.List.{List, _++_}
 use Prim.Native.Nat.{ℕ, zero, suc, _+_, _*_, _≤_, _<_}
 use native.Mathlib.Omega.{arith}
 use lib.Dec.{eqb, ltb}
-use lib.ListN.{length, take, drop, length-append, length-drop}
+use lib.ListN.{length, take, drop, length-append, length-drop, take-append-drop}
 use lib.Seq.{take-at, drop-at, length-take-le}
 use borrow.Author.Tests.{lt-ltb, le-ltb, eqb-true, eqb-false}
 use Rattle.buffer.specs.Choice.{pick}
 use Rattle.buffer.specs.ChoiceLaws.{by-pick, pick-true, pick-false}
 use Rattle.buffer.specs.TestLaws.{ltb-suc}
-use Rattle.buffer.specs.Bytes.{zeros, splice}
+use Rattle.buffer.specs.Bytes.{zeros, part, splice}
 use Rattle.buffer.specs.ByteLaws.{length-zeros, zeros-append}
-use Rattle.buffer.specs.SpliceLaws.{length-splice}
+use Rattle.buffer.specs.SpliceLaws.{length-splice, splice-left, splice-right, splice-whole, part-right, part-whole}
 use Rattle.buffer.specs.Range.{iter}
 use Rattle.buffer.specs.Table.{tab, upd}
 use Rattle.buffer.specs.TableLaws.{Wide, length-tab, tab-ext, tab-zeros, splice-chunk, upd-map}
 use Rattle.group.specs.Widths.{keyBytes, keysBytes}
-use Rattle.group.specs.Body.{addBody}
+use Rattle.group.specs.Body.{addBody, scaleBody}
 use Rattle.group.specs.BodyLaws.{zeros-add}
-use Rattle.group.specs.Parity.{parity, adjusted}
+use Rattle.group.specs.Parity.{coefficient, parity, adjusted}
 use Rattle.group.specs.ParityLaws.{parity-ext, length-parity, parity-zeros, length-adjusted, parity-upd, parity-error}
 use Rattle.group.specs.CheckRecord.{checkRecord, patched}
 
@@ -124,6 +124,43 @@ module _ (n j p : ℕ) (j3 : j < 3) (p4 : p < 4) (slots : ℕ → List ℕ) (h :
       long =
           let whole : length (take keysBytes old) ≡ keysBytes = length-take-le keysBytes old (omega arith) in
           length-splice (keyBytes * p) keyBytes (take keyBytes new) (take keysBytes old) (omega arith) (length-key n new e) ∙ whole
+
+-- in two steps, as code does it: the key into its place, then the change into the parity behind the keys
+module _ (n j p : ℕ) (p4 : p < 4) (key change old : List ℕ) (k : length key ≡ keyBytes) (e : length old ≡ keysBytes + n) where
+  keyed : List ℕ
+  keyed = splice (keyBytes * p) keyBytes key (take keysBytes old)
+
+  keyed-long : length keyed ≡ keysBytes
+  unfolding keyed
+  keyed-long =
+      let whole : length (take keysBytes old) ≡ keysBytes = length-take-le keysBytes old (omega arith) in
+      length-splice (keyBytes * p) keyBytes key (take keysBytes old) (omega arith) k ∙ whole
+
+  behind-long : length (drop keysBytes old) ≡ n
+  behind-long = simp length-drop (omega arith)
+
+  first-step : splice (keyBytes * p) keyBytes key old ≡ keyed ++ drop keysBytes old
+  unfolding keyed
+  first-step =
+      let whole : length (take keysBytes old) ≡ keysBytes = length-take-le keysBytes old (omega arith) in
+      ap (splice (keyBytes * p) keyBytes key) (sym (take-append-drop keysBytes old))
+      ∙ splice-left (keyBytes * p) keyBytes key (take keysBytes old) (drop keysBytes old) (omega arith)
+
+  second-step : splice keysBytes n (addBody (part keysBytes n (keyed ++ drop keysBytes old)) (scaleBody (coefficient p j) change)) (keyed ++ drop keysBytes old)
+      ≡ patched j p key change old
+  unfolding keyed patched adjusted
+  second-step =
+      ap
+      (λ x. splice keysBytes n (addBody x (scaleBody (coefficient p j) change)) (keyed ++ drop keysBytes old))
+      (part-right keysBytes 0 n keyed (drop keysBytes old) keyed-long ∙ part-whole n (drop keysBytes old) (omega (arith, behind-long)))
+      ∙ splice-right keysBytes 0 n (adjusted j p change (drop keysBytes old)) keyed (drop keysBytes old) keyed-long
+      ∙ ap (λ x. keyed ++ x) (splice-whole n (adjusted j p change (drop keysBytes old)) (drop keysBytes old) (omega (arith, behind-long)))
+
+  -- the places, widths and parts as the code has them
+  pub patched-steps : (at w m : ℕ) (x y : List ℕ) → at ≡ keyBytes * p → w ≡ keyBytes → m ≡ n → x ≡ key
+      → y ≡ addBody (part keysBytes m (splice at w x old)) (scaleBody (coefficient p j) change)
+      → splice keysBytes m y (splice at w x old) ≡ patched j p key change old
+  patched-steps at w m x y ea ew em ex ey = rw (ey, ea, ew, em, ex, first-step) second-step
 
 -- ---- a record made anew
 -- the two parts of an empty slot

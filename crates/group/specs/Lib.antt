@@ -1,11 +1,12 @@
 pub mod Widths
 pub mod Body
-pub mod Parity
-pub mod CheckRecord
-pub mod Members
-pub mod Rebuilding
 pub mod BodyLaws
+pub mod Parity
 pub mod ParityLaws
+pub mod CheckRecord
 pub mod CheckRecordLaws
+pub mod Members
 pub mod MembersLaws
+pub mod Rebuilding
 pub mod RebuildingLaws
+pub mod Values

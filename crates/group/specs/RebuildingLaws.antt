@@ -14,8 +14,8 @@ use Rattle.algebra.specs.Xor.{xor-assoc}
 use Rattle.buffer.specs.Bytes.{byte}
 use Rattle.buffer.specs.ByteLaws.{bytes-ext}
 use Rattle.buffer.specs.ChoiceLaws.{by-test}
-use Rattle.buffer.specs.Range.{count}
-use Rattle.buffer.specs.RangeLaws.{below-four}
+use Rattle.buffer.specs.Range.{count, entries}
+use Rattle.buffer.specs.RangeLaws.{below-four, entries-of}
 use Rattle.field.specs.Byte.{scale}
 use Rattle.code.specs.Matrix.{entry, column, within, different}
 use Rattle.code.specs.Lists.{four, within-four}
@@ -59,6 +59,16 @@ pub byte-weighed : (n : ℕ) (ws : List ℕ) → length ws ≡ 4 → (bodies : �
 unfolding across
 byte-weighed n ws e bodies h k l =
     four (λ ws. byte (weighed ws bodies) k ≡ mixed ws (across bodies k)) (weighed-four n bodies h k l) ws e
+
+-- the sum as code writes it, byte by byte
+pub weighed-entries : (n : ℕ) (ws : List ℕ) → length ws ≡ 4 → (bodies : ℕ → List ℕ) → ((i : ℕ) → i < 4 → length (bodies i) ≡ n)
+    → weighed ws bodies ≡ entries n (λ k. mixed ws (byte (bodies 0) k ∷ byte (bodies 1) k ∷ byte (bodies 2) k ∷ byte (bodies 3) k ∷ []))
+weighed-entries n ws e bodies h =
+    entries-of (weighed ws bodies) n (λ k. mixed ws (byte (bodies 0) k ∷ byte (bodies 1) k ∷ byte (bodies 2) k ∷ byte (bodies 3) k ∷ [])) (length-weighed n ws bodies h) (λ k l. byte-weighed n ws e bodies h k l)
+
+pub weighed-ext : (ws : List ℕ) (f g : ℕ → List ℕ) → ((i : ℕ) → i < 4 → f i ≡ g i) → weighed ws f ≡ weighed ws g
+unfolding weighed
+weighed-ext ws f g h = sum4-ext (λ i. scaleBody (getD ws i 0) (f i)) (λ i. scaleBody (getD ws i 0) (g i)) (λ i l. ap (scaleBody (getD ws i 0)) (h i l))
 
 -- a parity's byte is the code's byte at the check place's column
 parity-weighed : (j : ℕ) (f : ℕ → List ℕ) → parity j f ≡ weighed (column (4 + j)) f

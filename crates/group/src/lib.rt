@@ -1,1 +1,161 @@
-// One group.
+// Layer 3, group: the four data units of a group and its check units. Bodies, parity and check records of one rank, who is in service, and rebuilding.
+// The product table is taken once by the caller and lent.
+ghost use mathlib.Core.Path.{_≡_};
+ghost use mathlib.Core.Bool.{true};
+ghost use Prim.Native.Nat.{_+_, _≤_, _<_};
+ghost use lib.ListN.{length};
+ghost use Rattle.buffer.specs.Bytes.{byte};
+ghost use Rattle.buffer.specs.Range.{count};
+ghost use Rattle.field.specs.Table.{products};
+ghost use Rattle.code.specs.Matrix.{within};
+ghost use lib.Dec.{eqb, ltb};
+ghost use Rattle.group.specs.Widths.{keyBytes, keysBytes};
+ghost use Rattle.group.specs.Body.{addBody, scaleBody};
+ghost use Rattle.group.specs.Parity.{coefficient};
+ghost use Rattle.group.specs.CheckRecord.{patched};
+ghost use Rattle.group.specs.Members.{outs, checks, beyond, serves, next, firstFour};
+ghost use Rattle.group.specs.Rebuilding.{weighed, fourBodies};
+
+// The coefficient of the data unit at a place in the check unit at a check place.
+pub fn coefficient(place: u8, check: u8) -> u8
+    requires { ⌜ (place < 4) × (check < 3) ⌝ }
+    ensures { λ r. ⌜ (r ≡ coefficient place check) × (r < 16) ⌝ }
+{
+    code::coefficient(buffer::wide(place), 4 + buffer::wide(check))
+}
+
+// Adds a body to another.
+pub fn add(into: &mut [u8], x: &[u8])
+    requires { ⌜ length (now into) ≡ length (now x) ⌝ }
+    ensures { λ _. ⌜ now (into .exit) ≡ addBody (now (into .entry)) (now (x .entry)) ⌝ }
+{
+    let mut i = 0;
+    while i < into.len() {
+        into[i] = into[i] ^ x[i];
+        i += 1;
+    }
+}
+
+// Adds a body, times a symbol, to a parity.
+pub fn add_scaled(parity: &mut [u8], body: &[u8], symbol: u8, table: &[u8; 256])
+    requires { ⌜ (length (now parity) ≡ length (now body)) × (symbol < 16) × (now table ≡ products) ⌝ }
+    ensures { λ _. ⌜ now (parity .exit) ≡ addBody (now (parity .entry)) (scaleBody symbol (now (body .entry))) ⌝ }
+{
+    let mut i = 0;
+    while i < parity.len() {
+        parity[i] = parity[i] ^ field::scale_in(table, symbol, body[i]);
+        i += 1;
+    }
+}
+
+// A check record follows: the record at a place got this key, and its body this change.
+pub fn follow(into: &mut [u8], check: u8, place: u8, key: &[u8], change: &[u8], table: &[u8; 256])
+    requires { ⌜ (length (now into) ≡ keysBytes + length (now change)) × (length (now key) ≡ keyBytes) × (check < 3) × (place < 4) × (now table ≡ products) ⌝ }
+    ensures { λ _. ⌜ now (into .exit) ≡ patched check place (now (key .entry)) (now (change .entry)) (now (into .entry)) ⌝ }
+{
+    let n = into.len();
+    let at = 4 * buffer::wide(place);
+    buffer::copy(&mut into[at..at + 4], key);
+    add_scaled(&mut into[16..n], change, coefficient(place, check), table);
+}
+
+// How many of the first states are 2, out.
+fn out_of(states: &[u8], many: u8) -> u8
+    ensures { λ r. ⌜ (r ≡ count many (λ k. eqb (byte (now (states .entry)) k) 2)) × (r ≤ many) ⌝ }
+{
+    let mut n: u8 = 0;
+    let mut i: u8 = 0;
+    while i < many {
+        if buffer::byte_at(states, buffer::wide(i)) == 2 {
+            n += 1;
+        }
+        i += 1;
+    }
+    n
+}
+
+// How many units of the group are out, by the states d of the data units and c of the check units.
+pub fn outs(d: &[u8], c: &[u8]) -> u8
+    ensures { λ r. ⌜ (r ≡ outs (byte (now (d .entry))) (byte (now (c .entry)))) × (r ≤ 7) ⌝ }
+{
+    out_of(d, 4) + out_of(c, 3)
+}
+
+// How many check units are in place, out ones counted too.
+pub fn checks_in_place(c: &[u8]) -> u8
+    ensures { λ r. ⌜ (r ≡ checks (byte (now (c .entry)))) × (r ≤ 3) ⌝ }
+{
+    let mut n: u8 = 0;
+    let mut i: u8 = 0;
+    while i < 3 {
+        if 0 < buffer::byte_at(c, buffer::wide(i)) {
+            n += 1;
+        }
+        i += 1;
+    }
+    n
+}
+
+// Whether more units are out than the group has check units.
+pub fn beyond_recovery(d: &[u8], c: &[u8]) -> bool
+    ensures { λ r. ⌜ r ≡ beyond (byte (now (d .entry))) (byte (now (c .entry))) ⌝ }
+{
+    checks_in_place(c) < outs(d, c)
+}
+
+// Whether a member is in service, by the states d of the data units and c of the check units: 0 to 3 the data units, 4 to 6 the check units.
+pub fn serving(d: &[u8], c: &[u8], member: u8) -> bool
+    ensures { λ r. ⌜ r ≡ serves (byte (now (d .entry))) (byte (now (c .entry))) member ⌝ }
+{
+    if member < 4 {
+        buffer::byte_at(d, buffer::wide(member)) != 2
+    } else {
+        buffer::byte_at(c, buffer::wide(member - 4)) == 1
+    }
+}
+
+// The first member in service from one on, or 7.
+fn next_serving(d: &[u8], c: &[u8], from: u8) -> u8
+    requires { ⌜ from < 100 ⌝ }
+    ensures { λ r. ⌜ (r ≡ next (serves (byte (now (d .entry))) (byte (now (c .entry)))) from) × (r ≤ from + 7) ⌝ }
+{
+    let mut k: u8 = 0;
+    while from + k < 7 {
+        if serving(d, c, from + k) {
+            return from + k;
+        }
+        k += 1;
+    }
+    from + k
+}
+
+// The first four members in service, in number order.
+pub fn first_four(d: &[u8], c: &[u8]) -> [u8; 4]
+    ensures { λ r. ⌜ r ≡ firstFour (serves (byte (now (d .entry))) (byte (now (c .entry)))) ⌝ }
+{
+    let a = next_serving(d, c, 0);
+    let b = next_serving(d, c, a + 1);
+    let e = next_serving(d, c, b + 1);
+    let f = next_serving(d, c, e + 1);
+    [a, b, e, f]
+}
+
+// Four bodies, each times its weight, added up.
+pub fn rebuild_body(
+    out: &mut [u8],
+    weights: [u8; 4],
+    a: &[u8],
+    b: &[u8],
+    c: &[u8],
+    d: &[u8],
+    table: &[u8; 256],
+)
+    requires { ⌜ (length (now a) ≡ length (now out)) × (length (now b) ≡ length (now out)) × (length (now c) ≡ length (now out)) × (length (now d) ≡ length (now out)) × (within 15 weights ≡ true) × (now table ≡ products) ⌝ }
+    ensures { λ _. ⌜ now (out .exit) ≡ weighed weights (fourBodies (now (a .entry)) (now (b .entry)) (now (c .entry)) (now (d .entry))) ⌝ }
+{
+    let mut i = 0;
+    while i < out.len() {
+        out[i] = code::mix(table, weights, [a[i], b[i], c[i], d[i]]);
+        i += 1;
+    }
+}
