@@ -2,6 +2,8 @@ pub mod Units
 pub mod UnitLaws
 pub mod Layout
 pub mod LayoutLaws
+pub mod RunLaws
+pub mod StoreLaws
 pub mod Reads
 pub mod Sound
 pub mod Numbers
@@ -9,3 +11,4 @@ pub mod RowLaws
 pub mod Changes
 pub mod Perform
 pub mod Demand1
+pub mod ChangeLaws
