@@ -4,6 +4,7 @@ use Prim.Native.Nat.{ℕ, _+_, _*_, _-_, _≤_, _<_}
 use mathlib.Core.Path.{_≡_, refl, sym, ap, _∙_}
 use mathlib.Core.List.{List, _++_}
 use mathlib.Core.Bool.{Bool, true, false, _&&_}
+use mathlib.Core.Bool as bool
 use native.Mathlib.Omega.{arith}
 use native.Mathlib.Nat.{add-zero, mul-le-mul-left}
 use lib.Dec.{eqb, ltb, leb}
@@ -55,14 +56,11 @@ run-one f u r z v q = ap (λ t. pick t z (f v q)) (and-ext (eqb v u) (leb r q &&
         eq-eqb q r (omega arith))
         (λ e. let d : q ≡ r = eqb-true q r e in and-true (le-leb r q (omega arith)) (lt-ltb q (r + 1) (omega arith)))
 
-pub run-unit : (f : ℕ → ℕ → List ℕ) (u b : ℕ) (g : ℕ → List ℕ) (v r : ℕ) → r < b → run f u 0 b g v r ≡ upd f u g v r
-unfolding run upd
+pub run-unit : (f : ℕ → ℕ → List ℕ) (u b : ℕ) (g : ℕ → List ℕ) (v r : ℕ) → r < b → run f u 0 b g v r ≡ pick (eqb v u) (g r) (f v r)
+unfolding run
 run-unit f u b g v r h =
-    by-test
-    (λ t. pick (t && (leb 0 r && ltb r (0 + b))) (g r) (f v r) ≡ pick t g (f v) r)
-    (eqb v u)
-    (λ _. pick-true (and-true (le-leb 0 r (omega arith)) (lt-ltb r (0 + b) (omega arith))) (g r) (f v r) ∙ ap (λ k. k r) (sym (pick-true refl g (f v))))
-    (λ _. pick-false refl (g r) (f v r) ∙ ap (λ k. k r) (sym (pick-false refl g (f v))))
+    let whole : (leb 0 r && ltb r (0 + b)) ≡ true = and-true (le-leb 0 r (omega arith)) (lt-ltb r (0 + b) (omega arith)) in
+    ap (λ t. pick t (g r) (f v r)) (ap (λ t. eqb v u && t) whole ∙ bool.and-true (eqb v u))
 
 -- ---- the run replaced in one unit
 splice-chunks : (b w : ℕ) (f g : ℕ → List ℕ) → Wide b w f → (q m : ℕ) → q + m ≤ b

@@ -8,6 +8,8 @@ use native.Mathlib.Nat.{mul-one, mul-le-mul-right, one-mul}
 use native.Mathlib.Numerals.{add-one}
 use lib.ListN.{length, take, drop, getD, set, length-set}
 use lib.Seq.{drop-drop, set-split}
+use lib.Dec.{eqb}
+use Rattle.buffer.specs.Choice.{pick}
 use Rattle.buffer.specs.Bytes.{byte, zeros, part, splice}
 use Rattle.buffer.specs.SpliceLaws.{splice-left, splice-right}
 use Rattle.buffer.specs.Table.{tab, upd}
@@ -159,18 +161,18 @@ module _ (s : Store) (h : Shaped s) where
       ∙ checks-ext s (run (s .check) c r 1 (λ _. z)) (upd2 (s .check) c r z) (λ v q d e. run-one (s .check) c r z v q)
 
   -- the slots, or check records, of a whole unit
-  pub splice-unit : (u : ℕ) (g : ℕ → List ℕ) → u < 16 → splice (slotAt (s .size) u 0) (slotBytes * s .size) (tab (s .size) g) (bytes s) ≡ bytes (withSlots s (upd (s .slot) u g))
+  pub splice-unit : (u : ℕ) (g : ℕ → List ℕ) → u < 16 → splice (slotAt (s .size) u 0) (slotBytes * s .size) (tab (s .size) g) (bytes s) ≡ bytes (withSlots s (λ v r. pick (eqb v u) (g r) (s .slot v r)))
   splice-unit u g a =
       ap (λ x. splice (slotAt (s .size) u 0) (slotBytes * s .size) x (bytes s)) (tab-ext (s .size) g (λ k. g (0 + k)) (λ k d. ap g (omega arith)))
       ∙ splice-slots u 0 (s .size) g a (omega arith)
-      ∙ slots-ext s (run (s .slot) u 0 (s .size) g) (upd (s .slot) u g) (λ v r d e. run-unit (s .slot) u (s .size) g v r e)
+      ∙ slots-ext s (run (s .slot) u 0 (s .size) g) (λ v r. pick (eqb v u) (g r) (s .slot v r)) (λ v r d e. run-unit (s .slot) u (s .size) g v r e)
 
   pub splice-check-unit : (c : ℕ) (g : ℕ → List ℕ) → c < 12
-      → splice (checkAt (s .size) c 0) (checkBytes * s .size) (tab (s .size) g) (bytes s) ≡ bytes (withChecks s (upd (s .check) c g))
+      → splice (checkAt (s .size) c 0) (checkBytes * s .size) (tab (s .size) g) (bytes s) ≡ bytes (withChecks s (λ v r. pick (eqb v c) (g r) (s .check v r)))
   splice-check-unit c g a =
       ap (λ x. splice (checkAt (s .size) c 0) (checkBytes * s .size) x (bytes s)) (tab-ext (s .size) g (λ k. g (0 + k)) (λ k d. ap g (omega arith)))
       ∙ splice-checks c 0 (s .size) g a (omega arith)
-      ∙ checks-ext s (run (s .check) c 0 (s .size) g) (upd (s .check) c g) (λ v r d e. run-unit (s .check) c (s .size) g v r e)
+      ∙ checks-ext s (run (s .check) c 0 (s .size) g) (λ v r. pick (eqb v c) (g r) (s .check v r)) (λ v r d e. run-unit (s .check) c (s .size) g v r e)
 
   -- one byte: of the front, the state of a data unit, the state of a check unit
   byte-splice : (i z : ℕ) → i < 36 → set (bytes s) i z ≡ splice i 1 (z ∷ []) (bytes s)
@@ -237,6 +239,16 @@ pub size-of : (x : List ℕ) → byte x 5 ≡ view x .size
 unfolding view
 size-of x = refl
 
+-- a slot, and a check record, as the part that code lends
+module _ (s : List ℕ) (b at u r : ℕ) (eb : b ≡ byte s 5) where
+  pub slot-lent : at ≡ slotAt b u r → part at slotBytes s ≡ view s .slot u r
+  unfolding view
+  slot-lent ea = ap (λ k. part k slotBytes s) (ea ∙ ap (λ k. slotAt k u r) eb)
+
+  pub check-lent : at ≡ checkAt b u r → part at checkBytes s ≡ view s .check u r
+  unfolding view
+  check-lent ea = ap (λ k. part k checkBytes s) (ea ∙ ap (λ k. checkAt k u r) eb)
+
 -- a store of the same b and the same rest fills as many bytes
 pub same-long : (t : Store) (x : List ℕ) → Shaped t → storeBytes (byte x 5) ≤ length x → t .size ≡ view x .size → t .rest ≡ view x .rest → length (bytes t) ≡ length x
 same-long t x h l e f = length-bytes t h ∙ rw (e, f) (sym (length-bytes (view x) (view-shaped x l))) ∙ ap length (bytes-view x l)
@@ -248,6 +260,12 @@ module _ (t : Store) (h : Shaped t) (s : List ℕ) (e : s ≡ bytes t) where
   pub long-at : storeBytes (byte s 5) ≤ length s
   long-at = rw (size-at, e) (omega (arith, length-bytes t h))
 
+  pub slot-in : (u r : ℕ) → u < 16 → r < t .size → SlotIn s u r
+  slot-in u r hu hr = record { long = long-at; unit = hu; rank = rw size-at hr }
+
+  pub check-in : (c r : ℕ) → c < 12 → r < t .size → CheckIn s c r
+  check-in c r hc hr = record { long = long-at; unit = hc; rank = rw size-at hr }
+
   pub dstate-at : (u : ℕ) → u < 16 → byte s (8 + u) ≡ t .dstate u
   unfolding view
   dstate-at u l = ap (λ x. byte x (8 + u)) e ∙ view-dstate t h u l
@@ -255,6 +273,15 @@ module _ (t : Store) (h : Shaped t) (s : List ℕ) (e : s ≡ bytes t) where
   pub cstate-at : (c : ℕ) → c < 12 → byte s (24 + c) ≡ t .cstate c
   unfolding view
   cstate-at c l = ap (λ x. byte x (24 + c)) e ∙ view-cstate t h c l
+
+  pub front-set : (s′ : List ℕ) (i z : ℕ) → i < 8 → s′ ≡ set s i z → s′ ≡ bytes (withFront t (set (t .front) i z))
+  front-set s′ i z l es = es ∙ rw e (set-front t h i z l)
+
+  pub dstate-set : (s′ : List ℕ) (at u z : ℕ) → at ≡ 8 + u → u < 16 → s′ ≡ set s at z → s′ ≡ bytes (withDstates t (upd (t .dstate) u z))
+  dstate-set s′ at u z ea l es = es ∙ rw (e, ea) (set-dstate t h u z l)
+
+  pub cstate-set : (s′ : List ℕ) (at c z : ℕ) → at ≡ 24 + c → c < 12 → s′ ≡ set s at z → s′ ≡ bytes (withCstates t (upd (t .cstate) c z))
+  cstate-set s′ at c z ea l es = es ∙ rw (e, ea) (set-cstate t h c z l)
 
   module _ (b : ℕ) (eb : b ≡ t .size) where
     pub slot-at : (at u r : ℕ) → at ≡ slotAt b u r → u < 16 → r < b → part at slotBytes s ≡ t .slot u r

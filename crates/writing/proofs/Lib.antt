@@ -1,0 +1,4 @@
+pub mod Following
+pub mod Written
+pub mod Lost
+pub mod Verdicts
