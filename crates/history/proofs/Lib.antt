@@ -36,3 +36,13 @@ pub mod Opened
 pub mod History
 pub mod Unlost
 pub mod Demand3
+pub mod SoundSays
+pub mod Alike
+pub mod AlikeSound
+pub mod AlikeNumbers
+pub mod AlikeWritten
+pub mod AlikeRepaired
+pub mod AlikeDealt
+pub mod LedgerOf
+pub mod LedgerAlike
+pub mod StaysSound
