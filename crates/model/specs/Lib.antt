@@ -3,6 +3,7 @@ pub mod UnitLaws
 pub mod Layout
 pub mod LayoutLaws
 pub mod RunLaws
+pub mod RunTurns
 pub mod StoreLaws
 pub mod Reads
 pub mod Sound
