@@ -11,6 +11,7 @@ pub mod RowLaws
 pub mod Changes
 pub mod ChangeLaws
 pub mod Perform
+pub mod PerformLaws
 pub mod Demand1
 pub mod history
-pub mod PerformLaws
+pub mod RunTurns
