@@ -25,7 +25,7 @@ use Rattle.group.specs.ParityLaws.{sum4-ext}
 use Rattle.group.specs.Members.{firstFour}
 use Rattle.group.specs.MembersLaws.{Members}
 use Rattle.group.specs.Rebuilding.{fourBodies, weighed, rebuilt}
-use Rattle.group.specs.RebuildingLaws.{length-weighed}
+use Rattle.group.specs.WeighedLaws.{length-weighed}
 use Rattle.model.specs.Layout.{view, slotAt, checkAt, keyOf}
 use Rattle.model.specs.Reads.{servesIn, holds, keeper, listedKey, wholeSlot}
 use Rattle.lookup.specs.Sized.{Sized, slot-fits, check-fits}
