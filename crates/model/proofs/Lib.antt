@@ -1,3 +1,4 @@
 pub mod Refusals
 pub mod InPlace
 pub mod Demand1
+pub mod history

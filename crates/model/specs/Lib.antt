@@ -2,10 +2,16 @@ pub mod Units
 pub mod UnitLaws
 pub mod Layout
 pub mod LayoutLaws
+pub mod StoreLaws
+pub mod RunLaws
 pub mod Reads
 pub mod Sound
 pub mod Numbers
 pub mod RowLaws
 pub mod Changes
+pub mod ChangeLaws
 pub mod Perform
+pub mod PerformLaws
 pub mod Demand1
+pub mod history
+pub mod RunTurns

@@ -1,1 +1,0 @@
-// Definitions and theorems only: see specs/ and proofs/.

@@ -1,0 +1,47 @@
+-- `lookup::keys_of` meets its contract. Assumes nothing.
+use mathlib.Core.Path.{_≡_, sym, _∙_}
+use native.Mathlib.Omega.{arith}
+use borrow.Author.Needs.{needs}
+use Rattle.lookup.specs.States.{state-byte}
+use Rattle.lookup.specs.Keys.{lists-own, lists-out}
+use Rattle.lookup.proofs.keys_of.Statement.{statement}
+use Rattle.lookup.proofs.keys_of.Tie as tie
+
+returns : tie.Need-returns
+returns c =
+    let kept = c .before .before .before in
+    let test = kept .before .before in
+    let start = test .before .before in
+    lists-out
+    (start .pre)
+    _
+    (state-byte (start .args .s .now) (start .args .u) ∙ sym (test .state .ensures) ∙ kept .before .if1 .taken)
+    (rw (← kept .keeper .ensures .0) (omega arith))
+    (omega arith)
+
+returns-2 : tie.Need-returns-2
+returns-2 c =
+    let test = c .before .before .before in
+    let start = test .before .before in
+    lists-own
+    (start .pre)
+    _
+    (λ h. c .before .before .if1 .left (test .state .ensures ∙ sym (state-byte (start .args .s .now) (start .args .u)) ∙ h))
+    (c .slot-at .ensures .0)
+    (omega arith)
+
+pub keys-of-spec : {M : Type 1} → statement M
+keys-of-spec =
+    tie.close
+    (tie.spec
+    (λ c κs. search needs)
+    (λ c κs. search needs)
+    (λ c. search needs)
+    (λ c κs. search needs)
+    (λ c κs. search needs)
+    (λ c. search needs)
+    (λ c. search needs)
+    returns
+    (λ c. search needs)
+    (λ c κs. search needs)
+    returns-2)

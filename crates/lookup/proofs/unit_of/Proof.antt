@@ -1,0 +1,55 @@
+-- `lookup::unit_of` meets its contract. Assumes nothing.
+use mathlib.Core.Path.{_∙_}
+use Prim.Native.Nat.{_*_}
+use native.Mathlib.Omega.{arith}
+use native.Mathlib.Nat.{mod-lt}
+use borrow.Author.Needs.{needs}
+use Rattle.lookup.specs.UnitLaws.{unit-split, unit-whole, unit-below}
+use Rattle.lookup.proofs.unit_of.Statement.{statement}
+use Rattle.lookup.proofs.unit_of.Tie as tie
+
+add-if1 : tie.Need-add-if1
+add-if1 c = omega (arith, mod-lt (c .before .before .args .key) {m = c .wide32 .result} (omega arith))
+
+low-requires : tie.Need-low-requires
+low-requires c κs =
+    let a = c .before .before in
+    omega (arith, mod-lt (a .before .before .args .key) {m = 2 * a .wide32 .result} (omega arith))
+
+returns : tie.Need-returns
+returns c =
+    let b = c .before .before in
+    let a = b .before in
+    let start = a .before .before in
+    let unit = unit-split _ _ _ _ (a .wide32 .ensures ∙ a .before .power-below .ensures .0) (rw (b .wide322 .ensures) at (c .before .if1 .taken)) (c .low .ensures) in
+    (unit, rw unit (unit-below (start .args .m) (start .args .key) (start .pre)))
+
+low-requires-2 : tie.Need-low-requires-2
+low-requires-2 c κs =
+    let a = c .before .before in
+    omega (arith, mod-lt (a .before .before .args .key) {m = a .wide32 .result} (omega arith))
+
+returns-2 : tie.Need-returns-2
+returns-2 c =
+    let b = c .before .before in
+    let a = b .before in
+    let start = a .before .before in
+    let unit = unit-whole _ _ _ _ (a .wide32 .ensures ∙ a .before .power-below .ensures .0) (rw (b .wide322 .ensures) at (c .before .if1 .left)) (c .low2 .ensures) in
+    (unit, rw unit (unit-below (start .args .m) (start .args .key) (start .pre)))
+
+pub unit-of-spec : {M : Type 1} → statement M
+unit-of-spec =
+    tie.close
+    (tie.spec
+    (λ c κs. search needs)
+    (λ c κs. search needs)
+    (λ c. search needs)
+    add-if1
+    (λ c κs. search needs)
+    (λ c. search needs)
+    (λ c. search needs)
+    low-requires
+    returns
+    (λ c. search needs)
+    low-requires-2
+    returns-2)

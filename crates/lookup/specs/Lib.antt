@@ -1,0 +1,6 @@
+pub mod UnitLaws
+pub mod Sized
+pub mod States
+pub mod Keys
+pub mod Groups
+pub mod Slots

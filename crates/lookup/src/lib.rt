@@ -1,0 +1,394 @@
+// Reading a lent store: where its parts stand, and what the calls look up in it.
+ghost use mathlib.Core.Path.{_≡_};
+ghost use Prim.Native.Nat.{_+_, _*_, _≤_, _<_};
+ghost use Rattle.model.specs.Units.{powerBelow, splitPointer, unitOf};
+ghost use Rattle.model.specs.Layout.{view, slotAt, checkAt, keyOf};
+ghost use Rattle.model.specs.Reads.{fillIn, stateIn, outsIn, beyondIn, servesIn, holds, keeper, listedKey, listedFill, listedRank, wholeSlot, lostIn, totalIn};
+ghost use Rattle.lookup.specs.Sized.{Sized};
+ghost use Rattle.lookup.specs.Keys.{keyIn, Within, Known, Lists};
+ghost use Rattle.lookup.specs.Groups.{Recoverable, Whole};
+ghost use Rattle.lookup.specs.Slots.{heldAt, Recipe};
+ghost use Rattle.buffer.specs.Bytes.{byte, part};
+ghost use Rattle.buffer.specs.Range.{first};
+ghost use Prim.Native.Nat.{ℕ, _/_};
+ghost use mathlib.Core.Bool.{true, _&&_};
+ghost use lib.Dec.{eqb};
+ghost use lib.ListN.{length, getD};
+ghost use Rattle.field.specs.Table.{products};
+ghost use Rattle.code.specs.Matrix.{within};
+ghost use Rattle.group.specs.Widths.{bodyBytes, slotBytes};
+ghost use Rattle.group.specs.Members.{firstFour};
+ghost use Rattle.group.specs.Rebuilding.{weighed};
+
+// The product of two bytes.
+fn product(a: u8, b: u8) -> usize
+    ensures { λ r. ⌜ (r ≡ a * b) × (r ≤ 65025) ⌝ }
+{
+    buffer::wide(a) * buffer::wide(b)
+}
+
+// Where the slot of rank r in data unit u stands, with b ranks to a unit.
+pub fn slot_at(b: u8, u: u8, r: u8) -> usize
+    ensures { λ at. ⌜ (at ≡ slotAt b u r) × (at < 2000000) ⌝ }
+{
+    36 + (product(u, b) + buffer::wide(r)) * 20
+}
+
+// Where the check record of rank r in check unit c stands.
+pub fn check_at(b: u8, c: u8, r: u8) -> usize
+    ensures { λ at. ⌜ (at ≡ checkAt b c r) × (at < 3000000) ⌝ }
+{
+    36 + 320 * buffer::wide(b) + (product(c, b) + buffer::wide(r)) * 32
+}
+
+// The largest power of two that is at most m, for m from 1 to 16.
+pub fn power_below(m: u8) -> u8
+    ensures { λ p. ⌜ (p ≡ powerBelow m) × (1 ≤ p) × (p ≤ 16) ⌝ }
+{
+    if m < 2 {
+        return 1;
+    }
+    if m < 4 {
+        return 2;
+    }
+    if m < 8 {
+        return 4;
+    }
+    if m < 16 {
+        return 8;
+    }
+    16
+}
+
+// The unit that is split next, of m units.
+pub fn split_pointer(m: u8) -> u8
+    requires { ⌜ 1 ≤ m ⌝ }
+    ensures { λ n. ⌜ (n ≡ splitPointer m) × (n < m) ⌝ }
+{
+    m - power_below(m)
+}
+
+fn wide32(x: u8) -> u32
+    ensures { λ r. ⌜ r ≡ x ⌝ }
+{
+    x as u32
+}
+
+fn low(x: u32) -> u8
+    requires { ⌜ x < 256 ⌝ }
+    ensures { λ r. ⌜ r ≡ x ⌝ }
+{
+    x as u8
+}
+
+// The unit of a key among m units.
+pub fn unit_of(m: u8, key: u32) -> u8
+    requires { ⌜ 1 ≤ m ⌝ }
+    ensures { λ u. ⌜ (u ≡ unitOf m key) × (u < m) ⌝ }
+{
+    let p = wide32(power_below(m));
+    if key % p + p < wide32(m) {
+        return low(key % (2 * p));
+    }
+    low(key % p)
+}
+
+// The state of a unit: 0 to 15 data, 16 + 3g + j check.
+pub fn state(s: &[u8], w: u8) -> u8
+    ensures { λ r. ⌜ r ≡ stateIn (view (now (s .entry))) w ⌝ }
+{
+    buffer::byte_at(s, 8 + buffer::wide(w))
+}
+
+// The first of n keys, one every step bytes from base on, that is the given one; n where there is none.
+fn find(s: &[u8], base: usize, step: usize, n: u8, key: u32) -> u8
+    requires { ⌜ Within (now s) base step n ⌝ }
+    ensures { λ r. ⌜ (r ≡ first n (λ i. eqb (keyIn (now (s .entry)) base step i) key)) × (r ≤ n) ⌝ }
+{
+    let mut at = base;
+    let mut i: u8 = 0;
+    while i < n {
+        if buffer::load32(s, at) == key {
+            return i;
+        }
+        at += step;
+        i += 1;
+    }
+    n
+}
+
+// The key of the slot of rank r in data unit u.
+pub fn key_at(s: &[u8], u: u8, r: u8) -> u32
+    requires { ⌜ Sized (now s) × (u < 16) × (r < byte (now s) 5) ⌝ }
+    ensures { λ k. ⌜ k ≡ keyOf (view (now (s .entry)) .slot u r) ⌝ }
+{
+    buffer::load32(s, slot_at(s[5], u, r))
+}
+
+// How many records data unit u has.
+pub fn fill(s: &[u8], u: u8) -> u8
+    requires { ⌜ Sized (now s) × (u < 16) ⌝ }
+    ensures { λ n. ⌜ (n ≡ fillIn (view (now (s .entry))) u) × (n ≤ byte (now (s .entry)) 5) ⌝ }
+{
+    find(s, slot_at(s[5], u, 0), 20, s[5], 0)
+}
+
+// The rank of a key among the first n slots of data unit u; n where it is not there.
+pub fn rank(s: &[u8], u: u8, n: u8, key: u32) -> u8
+    requires { ⌜ Sized (now s) × (u < 16) × (n ≤ byte (now s) 5) ⌝ }
+    ensures { λ r. ⌜ (r ≡ first n (λ q. eqb (keyOf (view (now (s .entry)) .slot u q)) key)) × (r ≤ n) ⌝ }
+{
+    find(s, slot_at(s[5], u, 0), 20, n, key)
+}
+
+// The first check unit in service of group g.
+pub fn keeper(s: &[u8], g: u8) -> u8
+    requires { ⌜ g < 4 ⌝ }
+    ensures { λ c. ⌜ (c ≡ keeper (view (now (s .entry))) g) × (c ≤ 12) ⌝ }
+{
+    let from = 24 + 3 * buffer::wide(g);
+    let mut j: u8 = 0;
+    while j < 3 {
+        if buffer::byte_at(s, from + buffer::wide(j)) == 1 {
+            return 3 * g + j;
+        }
+        j += 1;
+    }
+    3 * g + 3
+}
+
+// Where the keys of a unit stand: the first, and how far each is from the one before.
+pub struct Keys {
+    pub base: usize,
+    pub step: usize,
+}
+
+// The keys of data unit u: its own, or for a unit that is out those that a check unit lists.
+pub fn keys_of(s: &[u8], u: u8) -> Keys
+    requires { ⌜ Known (now s) u ⌝ }
+    ensures { λ k. ⌜ Lists (now (s .entry)) u (k .base) (k .step) ⌝ }
+{
+    if state(s, u) == 2 {
+        let c = keeper(s, u / 4);
+        return Keys {
+            base: check_at(s[5], c, 0) + 4 * buffer::wide(u % 4),
+            step: 32,
+        };
+    }
+    Keys {
+        base: slot_at(s[5], u, 0),
+        step: 20,
+    }
+}
+
+// How many keys are listed for data unit u.
+pub fn listed_fill(s: &[u8], u: u8) -> u8
+    requires { ⌜ Known (now s) u ⌝ }
+    ensures { λ n. ⌜ (n ≡ listedFill (view (now (s .entry))) u) × (n ≤ byte (now (s .entry)) 5) ⌝ }
+{
+    let keys = keys_of(s, u);
+    find(s, keys.base, keys.step, s[5], 0)
+}
+
+// The rank of a key among the n that are listed for data unit u; n where it is not there.
+pub fn listed_rank(s: &[u8], u: u8, n: u8, key: u32) -> u8
+    requires { ⌜ Known (now s) u × (n ≡ listedFill (view (now s)) u) × (n ≤ byte (now s) 5) ⌝ }
+    ensures { λ r. ⌜ (r ≡ listedRank (view (now (s .entry))) u key) × (r ≤ n) ⌝ }
+{
+    let keys = keys_of(s, u);
+    find(s, keys.base, keys.step, n, key)
+}
+
+// The states of the four data units of group g.
+fn data_states(s: &[u8], g: u8) -> &[u8]
+    requires { ⌜ Sized (now s) × (g < 4) ⌝ }
+    ensures { λ x. ⌜ now x ≡ part (8 + 4 * g) 4 (now (s .entry)) ⌝ }
+{
+    let at = 8 + 4 * buffer::wide(g);
+    &s[at..at + 4]
+}
+
+// The states of the three check units of group g.
+fn check_states(s: &[u8], g: u8) -> &[u8]
+    requires { ⌜ Sized (now s) × (g < 4) ⌝ }
+    ensures { λ x. ⌜ now x ≡ part (24 + 3 * g) 3 (now (s .entry)) ⌝ }
+{
+    let at = 24 + 3 * buffer::wide(g);
+    &s[at..at + 3]
+}
+
+// How many units of group g are out.
+pub fn outs(s: &[u8], g: u8) -> u8
+    requires { ⌜ Sized (now s) × (g < 4) ⌝ }
+    ensures { λ r. ⌜ (r ≡ outsIn (view (now (s .entry))) g) × (r ≤ 7) ⌝ }
+{
+    group::outs(data_states(s, g), check_states(s, g))
+}
+
+// Whether group g is beyond recovery: more units out than check units.
+pub fn beyond(s: &[u8], g: u8) -> bool
+    requires { ⌜ Sized (now s) × (g < 4) ⌝ }
+    ensures { λ r. ⌜ r ≡ beyondIn (view (now (s .entry))) g ⌝ }
+{
+    group::beyond_recovery(data_states(s, g), check_states(s, g))
+}
+
+// The first four members in service of group g.
+pub fn members(s: &[u8], g: u8) -> [u8; 4]
+    requires { ⌜ Sized (now s) × (g < 4) ⌝ }
+    ensures { λ r. ⌜ r ≡ firstFour (servesIn (view (now (s .entry))) g) ⌝ }
+{
+    group::first_four(data_states(s, g), check_states(s, g))
+}
+
+// Whether data unit u is out and its group beyond recovery.
+pub fn gone(s: &[u8], u: u8) -> bool
+    requires { ⌜ Sized (now s) × (u < 16) ⌝ }
+    ensures { λ r. ⌜ r ≡ (eqb (view (now (s .entry)) .dstate u) 2 && beyondIn (view (now (s .entry))) (u / 4)) ⌝ }
+{
+    if state(s, u) == 2 {
+        return beyond(s, u / 4);
+    }
+    false
+}
+
+// Whether a data unit is out in a group beyond recovery.
+pub fn lost(s: &[u8]) -> bool
+    requires { ⌜ Sized (now s) ⌝ }
+    ensures { λ r. ⌜ r ≡ lostIn (view (now (s .entry))) ⌝ }
+{
+    let mut u: u8 = 0;
+    while u < 16 {
+        if gone(s, u) {
+            return true;
+        }
+        u += 1;
+    }
+    false
+}
+
+// How many records a store has of which nothing is lost.
+pub fn total(s: &[u8]) -> usize
+    requires { ⌜ Whole (now s) ⌝ }
+    ensures { λ n. ⌜ (n ≡ totalIn (view (now (s .entry)))) × (n ≤ 1024) ⌝ }
+{
+    let mut n = 0;
+    let mut u: u8 = 0;
+    while u < 16 {
+        n += buffer::wide(listed_fill(s, u));
+        u += 1;
+    }
+    n
+}
+
+// The slot of rank r of data unit u.
+pub fn slot(s: &[u8], u: u8, r: u8) -> &[u8]
+    requires { ⌜ Sized (now s) × (u < 16) × (r < byte (now s) 5) ⌝ }
+    ensures { λ x. ⌜ now x ≡ view (now (s .entry)) .slot u r ⌝ }
+{
+    let at = slot_at(s[5], u, r);
+    &s[at..at + 20]
+}
+
+// The check record of rank r of check unit c.
+pub fn check(s: &[u8], c: u8, r: u8) -> &[u8]
+    requires { ⌜ Sized (now s) × (c < 12) × (r < byte (now s) 5) ⌝ }
+    ensures { λ x. ⌜ now x ≡ view (now (s .entry)) .check c r ⌝ }
+{
+    let at = check_at(s[5], c, r);
+    &s[at..at + 32]
+}
+
+// The key of rank r of data unit u, its own or for a unit that is out the one that a check unit lists.
+pub fn listed_key(s: &[u8], u: u8, r: u8) -> &[u8]
+    requires { ⌜ Known (now s) u × (r < byte (now s) 5) ⌝ }
+    ensures { λ x. ⌜ now x ≡ listedKey (view (now (s .entry))) u r ⌝ }
+{
+    let keys = keys_of(s, u);
+    let at = keys.base + keys.step * buffer::wide(r);
+    &s[at..at + 4]
+}
+
+// Where member m of group g holds the body or the parity of rank r.
+fn held_at(b: u8, g: u8, r: u8, m: u8) -> usize
+    requires { ⌜ (g < 4) × (m < 7) ⌝ }
+    ensures { λ at. ⌜ (at ≡ heldAt b g r m) × (at < 4000000) ⌝ }
+{
+    if m < 4 {
+        return slot_at(b, 4 * g + m, r) + 4;
+    }
+    check_at(b, 3 * g + (m - 4), r) + 16
+}
+
+// The body or the parity that member m of group g holds at rank r.
+pub fn held(s: &[u8], g: u8, r: u8, m: u8) -> &[u8]
+    requires { ⌜ Sized (now s) × (g < 4) × (r < byte (now s) 5) × (m < 7) ⌝ }
+    ensures { λ x. ⌜ now x ≡ holds (view (now (s .entry))) g r m ⌝ }
+{
+    let at = held_at(s[5], g, r, m);
+    &s[at..at + 16]
+}
+
+// The weights with which the slots of data unit u, which is out, are rebuilt from the first four members in service: the same for every rank.
+pub fn weights(s: &[u8], u: u8, members: [u8; 4], table: &[u8; 256]) -> [u8; 4]
+    requires { ⌜ Recoverable (now s) u × (byte (now s) (8 + u) ≡ 2) × (members ≡ firstFour (servesIn (view (now s)) (u / 4))) × (now table ≡ products) ⌝ }
+    ensures { λ r. ⌜ Recipe (now (s .entry)) u members r ⌝ }
+{
+    code::weights(table, members, u % 4)
+}
+
+// Rebuilds a body of rank r from what four members of group g hold, each times its weight.
+pub fn rebuild_body(
+    out: &mut [u8],
+    s: &[u8],
+    g: u8,
+    r: u8,
+    members: [u8; 4],
+    weights: [u8; 4],
+    table: &[u8; 256],
+)
+    requires { ⌜ (length (now out) ≡ bodyBytes) × Sized (now s) × (g < 4) × (r < byte (now s) 5) × ((i : ℕ) → i < 4 → getD members i 0 < 7) × (within 15 weights ≡ true) × (now table ≡ products) ⌝ }
+    ensures { λ _. ⌜ now (out .exit) ≡ weighed weights (λ i. holds (view (now (s .entry))) g r (getD members i 0)) ⌝ }
+{
+    let a = held(s, g, r, members[0]);
+    let b = held(s, g, r, members[1]);
+    let c = held(s, g, r, members[2]);
+    let d = held(s, g, r, members[3]);
+    group::rebuild_body(out, weights, a, b, c, d, table)
+}
+
+// Rebuilds the slot of rank r of data unit u, which is out; zeros where no key is listed.
+pub fn rebuild_slot(
+    out: &mut [u8],
+    s: &[u8],
+    u: u8,
+    r: u8,
+    members: [u8; 4],
+    weights: [u8; 4],
+    table: &[u8; 256],
+)
+    requires { ⌜ (length (now out) ≡ slotBytes) × Recipe (now s) u members weights × (r < byte (now s) 5) × (now table ≡ products) ⌝ }
+    ensures { λ _. ⌜ now (out .exit) ≡ wholeSlot (view (now (s .entry))) u r ⌝ }
+{
+    let key = listed_key(s, u, r);
+    if buffer::load32(key, 0) == 0 {
+        buffer::clear(out);
+    } else {
+        buffer::copy(&mut out[0..4], key);
+        rebuild_body(&mut out[4..20], s, u / 4, r, members, weights, table);
+    }
+}
+
+// The slot of rank r of data unit u, rebuilt where the unit is out.
+pub fn whole_slot(out: &mut [u8], s: &[u8], u: u8, r: u8, table: &[u8; 256])
+    requires { ⌜ (length (now out) ≡ slotBytes) × Recoverable (now s) u × (r < byte (now s) 5) × (now table ≡ products) ⌝ }
+    ensures { λ _. ⌜ now (out .exit) ≡ wholeSlot (view (now (s .entry))) u r ⌝ }
+{
+    if state(s, u) == 2 {
+        let members = members(s, u / 4);
+        let weights = weights(s, u, members, table);
+        rebuild_slot(out, s, u, r, members, weights, table);
+    } else {
+        buffer::copy(out, slot(s, u, r));
+    }
+}

@@ -1,0 +1,132 @@
+-- Parts of a table of units replaced: a run of chunks of one unit, one chunk, a whole unit. A table has n units of b chunks of w bytes; chunk r
+-- of unit u starts at (u * b + r) * w. Assumes nothing.
+use Prim.Native.Nat.{ℕ, _+_, _*_, _-_, _≤_, _<_}
+use mathlib.Core.Path.{_≡_, refl, sym, ap, _∙_}
+use mathlib.Core.List.{List, _++_}
+use mathlib.Core.Bool.{Bool, true, false, _&&_}
+use mathlib.Core.Bool as bool
+use native.Mathlib.Omega.{arith}
+use native.Mathlib.Nat.{add-zero, mul-le-mul-left}
+use lib.Dec.{eqb, ltb, leb}
+use lib.ListN.{length}
+use borrow.Author.Tests.{eqb-true, eq-eqb, lt-ltb, le-ltb, ltb-true, le-leb, lt-leb, leb-true}
+use Rattle.buffer.specs.Choice.{pick}
+use Rattle.buffer.specs.ChoiceLaws.{by-test, by-pick, pick-true, pick-false}
+use Rattle.buffer.specs.TestLaws.{and-true, and-first, and-second, and-false-first, and-false-second, and-ext, same-test}
+use Rattle.buffer.specs.Bytes.{splice}
+use Rattle.buffer.specs.SpliceLaws.{splice-left, splice-right, splice-whole}
+use Rattle.buffer.specs.Table.{tab, upd}
+use Rattle.buffer.specs.TableLaws.{Wide, tab-ext, tab-append, length-tab, splice-tab}
+
+-- f, a chunk for each unit and rank, with z at rank r of unit u
+unfoldable pub upd2 : (ℕ → ℕ → List ℕ) → ℕ → ℕ → List ℕ → ℕ → ℕ → List ℕ
+upd2 f u r z v q = pick (eqb v u && eqb q r) z (f v q)
+
+-- f with those of g at the m ranks from q on of unit u
+unfoldable pub run : (ℕ → ℕ → List ℕ) → ℕ → ℕ → ℕ → (ℕ → List ℕ) → ℕ → ℕ → List ℕ
+run f u q m g v r = pick (eqb v u && (leb q r && ltb r (q + m))) (g r) (f v r)
+
+-- ---- what a run holds
+module _ (f : ℕ → ℕ → List ℕ) (u q m : ℕ) (g : ℕ → List ℕ) where
+  pub run-inside : (r : ℕ) → q ≤ r → r < q + m → run f u q m g u r ≡ g r
+  unfolding run
+  run-inside r a b = pick-true (and-true (eq-eqb u u refl) (and-true (le-leb q r a) (lt-ltb r (q + m) b))) (g r) (f u r)
+
+  pub length-run : (w v r : ℕ) → length (g r) ≡ w → length (f v r) ≡ w → length (run f u q m g v r) ≡ w
+  unfolding run
+  length-run w v r a b = by-pick (λ x. length x ≡ w) (eqb v u && (leb q r && ltb r (q + m))) (g r) (f v r) (λ _. a) (λ _. b)
+
+pub length-upd2 : (f : ℕ → ℕ → List ℕ) (u r : ℕ) (z : List ℕ) (w v q : ℕ) → length z ≡ w → length (f v q) ≡ w → length (upd2 f u r z v q) ≡ w
+unfolding upd2
+length-upd2 f u r z w v q a b = by-pick (λ x. length x ≡ w) (eqb v u && eqb q r) z (f v q) (λ _. a) (λ _. b)
+
+-- a run of one chunk, and of a whole unit
+pub run-one : (f : ℕ → ℕ → List ℕ) (u r : ℕ) (z : List ℕ) (v q : ℕ) → run f u r 1 (λ _. z) v q ≡ upd2 f u r z v q
+unfolding run upd2
+run-one f u r z v q = ap (λ t. pick t z (f v q)) (and-ext (eqb v u) (leb r q && ltb q (r + 1)) (eqb q r) (λ _. one))
+  where
+    one : (leb r q && ltb q (r + 1)) ≡ eqb q r
+    one =
+        same-test
+        (leb r q && ltb q (r + 1))
+        (eqb q r)
+        (λ e.
+        let a : r ≤ q = leb-true r q (and-first (leb r q) (ltb q (r + 1)) e) in
+        let b : q < r + 1 = ltb-true q (r + 1) (and-second (leb r q) (ltb q (r + 1)) e) in
+        eq-eqb q r (omega arith))
+        (λ e. let d : q ≡ r = eqb-true q r e in and-true (le-leb r q (omega arith)) (lt-ltb q (r + 1) (omega arith)))
+
+pub run-unit : (f : ℕ → ℕ → List ℕ) (u b : ℕ) (g : ℕ → List ℕ) (v r : ℕ) → r < b → run f u 0 b g v r ≡ pick (eqb v u) (g r) (f v r)
+unfolding run
+run-unit f u b g v r h =
+    let whole : (leb 0 r && ltb r (0 + b)) ≡ true = and-true (le-leb 0 r (omega arith)) (lt-ltb r (0 + b) (omega arith)) in
+    ap (λ t. pick t (g r) (f v r)) (ap (λ t. eqb v u && t) whole ∙ bool.and-true (eqb v u))
+
+-- ---- the run replaced in one unit
+splice-chunks : (b w : ℕ) (f g : ℕ → List ℕ) → Wide b w f → (q m : ℕ) → q + m ≤ b
+    → splice (w * q) (w * m) (tab m (λ k. g (q + k))) (tab b f) ≡ tab b (λ r. pick (leb q r && ltb r (q + m)) (g r) (f r))
+splice-chunks b w f g h q m l =
+    ap (λ n. splice (w * q) (w * m) new (tab n f)) whole
+    ∙ ap (splice (w * q) (w * m) new) (three f)
+    ∙ ap (λ o. splice o (w * m) new (tab q f ++ (tab m (λ i. f (q + i)) ++ tab k (λ i. f (q + (m + i)))))) (sym (add-zero (w * q)))
+    ∙ splice-right (w * q) 0 (w * m) new (tab q f) _ (length-tab q w f (λ i d. h i (omega arith)))
+    ∙ ap (λ x. tab q f ++ x) (splice-left 0 (w * m) new (tab m (λ i. f (q + i))) (tab k (λ i. f (q + (m + i)))) (omega (arith, mid)))
+    ∙ ap (λ x. tab q f ++ (x ++ tab k (λ i. f (q + (m + i))))) (splice-whole (w * m) new (tab m (λ i. f (q + i))) (omega (arith, mid)))
+    ∙ ap (λ x. x ++ (new ++ tab k (λ i. f (q + (m + i))))) (tab-ext q f over before)
+    ∙ ap (λ x. tab q over ++ (x ++ tab k (λ i. f (q + (m + i))))) (tab-ext m (λ i. g (q + i)) (λ i. over (q + i)) inside)
+    ∙ ap (λ x. tab q over ++ (tab m (λ i. over (q + i)) ++ x)) (tab-ext k (λ i. f (q + (m + i))) (λ i. over (q + (m + i))) behind)
+    ∙ sym (three over)
+    ∙ ap (λ n. tab n over) (sym whole)
+  where
+    k : ℕ
+    k = b - (q + m)
+
+    whole : b ≡ q + (m + k)
+    whole = omega arith
+
+    new : List ℕ
+    new = tab m (λ k. g (q + k))
+
+    over : ℕ → List ℕ
+    over r = pick (leb q r && ltb r (q + m)) (g r) (f r)
+
+    three : (f : ℕ → List ℕ) → tab (q + (m + k)) f ≡ tab q f ++ (tab m (λ i. f (q + i)) ++ tab k (λ i. f (q + (m + i))))
+    three f = tab-append q (m + k) f ∙ ap (λ x. tab q f ++ x) (tab-append m k (λ i. f (q + i)))
+
+    mid : length (tab m (λ i. f (q + i))) ≡ w * m
+    mid = length-tab m w (λ i. f (q + i)) (λ i d. h (q + i) (omega arith))
+
+    before : (r : ℕ) → r < q → f r ≡ over r
+    before r d = sym (pick-false (and-false-first (lt-leb q r d) (ltb r (q + m))) (g r) (f r))
+
+    inside : (i : ℕ) → i < m → g (q + i) ≡ over (q + i)
+    inside i d = sym (pick-true (and-true (le-leb q (q + i) (omega arith)) (lt-ltb (q + i) (q + m) (omega arith))) (g (q + i)) (f (q + i)))
+
+    behind : (i : ℕ) → i < k → f (q + (m + i)) ≡ over (q + (m + i))
+    behind i d = sym (pick-false (and-false-second (leb q (q + (m + i))) (le-ltb (q + (m + i)) (q + m) (omega arith))) (g (q + (m + i))) (f (q + (m + i))))
+
+-- ---- the run replaced in a table of units
+module _ (n b w : ℕ) (f : ℕ → ℕ → List ℕ) (h : (u r : ℕ) → u < n → r < b → length (f u r) ≡ w) where
+  run-in : (u q m : ℕ) (g : ℕ → List ℕ) (v : ℕ) → upd (λ v. tab b (f v)) u (tab b (λ r. pick (leb q r && ltb r (q + m)) (g r) (f u r))) v ≡ tab b (run f u q m g v)
+  unfolding upd run
+  run-in u q m g v =
+      by-test
+      (λ t. pick t (tab b (λ r. pick (leb q r && ltb r (q + m)) (g r) (f u r))) (tab b (f v)) ≡ tab b (λ r. pick (t && (leb q r && ltb r (q + m))) (g r) (f v r)))
+      (eqb v u)
+      (λ e.
+      pick-true refl (tab b (λ r. pick (leb q r && ltb r (q + m)) (g r) (f u r))) (tab b (f v))
+      ∙ ap (λ k. tab b (λ r. pick (leb q r && ltb r (q + m)) (g r) (f k r))) (sym (eqb-true v u e)))
+      (λ e.
+      pick-false refl (tab b (λ r. pick (leb q r && ltb r (q + m)) (g r) (f u r))) (tab b (f v))
+      ∙ tab-ext b (f v) (λ r. pick false (g r) (f v r)) (λ r d. sym (pick-false refl (g r) (f v r))))
+
+  pub splice-run : (u q m : ℕ) (g : ℕ → List ℕ) → u < n → q + m ≤ b
+      → splice ((u * b + q) * w) (w * m) (tab m (λ k. g (q + k))) (tab n (λ v. tab b (f v))) ≡ tab n (λ v. tab b (run f u q m g v))
+  splice-run u q m g a l =
+      let place : (u * b + q) * w ≡ w * b * u + w * q = omega arith in
+      let room : w * (q + m) ≤ w * b = mul-le-mul-left w l in
+      let new : List ℕ = tab m (λ k. g (q + k)) in
+      ap (λ o. splice o (w * m) new (tab n (λ v. tab b (f v)))) place
+      ∙ splice-tab n (w * b) (λ v. tab b (f v)) (λ v d. length-tab b w (f v) (λ r e. h v r d e)) u (w * q) (w * m) new a (omega arith)
+      ∙ ap (λ x. tab n (upd (λ v. tab b (f v)) u x)) (splice-chunks b w (f u) g (λ r e. h u r a e) q m l)
+      ∙ tab-ext n _ (λ v. tab b (run f u q m g v)) (λ v d. run-in u q m g v)

@@ -1,0 +1,53 @@
+-- The ledger's answers: numbers, a granted read's body, the part read in place (body or empty), list's count and written bytes; and the ledger
+-- after each call. Assumes nothing.
+use Prim.Native.Nat.{ℕ}
+use mathlib.Core.List.{List, [], _∷_}
+use mathlib.Core.Bool.{Bool, not, _&&_}
+use lib.Dec.{eqb}
+use lib.ListN.{length}
+use Rattle.buffer.specs.Choice.{pick}
+use Rattle.buffer.specs.Bytes.{zeros}
+use Rattle.buffer.specs.Table.{tab}
+use Rattle.group.specs.Widths.{bodyBytes}
+use Rattle.model.specs.Numbers.{Call, teach, correct, erase, read, readInPlace, list, unitOut, repair, grow, shrink, raise}
+use Rattle.model.specs.Perform.{Answer, reply}
+use Rattle.model.specs.history.Ledger.{Ledger, home, recordAt, rankOf, isOut, total, granted}
+use Rattle.model.specs.history.Picture.{recordBytes}
+use Rattle.model.specs.history.Table.{number}
+
+-- the body of a key, and key and body of all records by unit and then rank
+unfoldable pub bodyOf : Ledger → ℕ → List ℕ
+bodyOf l k = recordAt l (home l k) (rankOf (l .records (home l k)) k) .body
+
+unfoldable pub listing : Ledger → List ℕ
+listing l = tab 16 (λ u. tab (length (l .records u)) (λ r. recordBytes (recordAt l u r)))
+
+-- the bytes that a granted call hands back
+unfoldable pub given : Ledger → Call → List ℕ
+given l (teach k x) = []
+given l (correct k x) = []
+given l (erase k) = []
+given l (read k out) = bodyOf l k
+given l (readInPlace k) = pick (eqb (number l (read k (zeros bodyBytes))) 0 && not (isOut l (home l k))) (bodyOf l k) []
+given l (list out) = listing l
+given l (unitOut w) = []
+given l (repair g) = []
+given l grow = []
+given l shrink = []
+given l raise = []
+
+unfoldable pub answer : Ledger → Call → Answer
+answer l c = reply c (number l c) (given l c) (total l)
+
+-- a refused call changes nothing
+unfoldable pub after : Ledger → Call → Ledger
+after l c = pick (eqb (number l c) 0) (granted l c) l
+
+-- a list of calls: the answers, and the ledger at the end
+unfoldable pub answers : Ledger → List Call → List Answer
+answers l [] = []
+answers l (c ∷ cs) = answer l c ∷ answers (after l c) cs
+
+unfoldable pub final : Ledger → List Call → Ledger
+final l [] = l
+final l (c ∷ cs) = final (after l c) cs

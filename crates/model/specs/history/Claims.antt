@@ -1,0 +1,84 @@
+-- Demand 3: the statements, over every list of calls after one granted layout. What the types give (a key has 32 bits, a slice holds bytes) is
+-- the only side condition. Assumes nothing.
+use Prim.Native.Nat.{ℕ, _*_, _/_, _<_, _≤_}
+use mathlib.Core.Path.{_≡_}
+use mathlib.Core.List.{List, [], _∷_}
+use mathlib.Core.Bool.{Bool, true, _&&_}
+use lib.Dec.{eqb, ltb, leb}
+use lib.ListN.{length, drop}
+use Rattle.buffer.specs.Choice.{pick}
+use Rattle.buffer.specs.Bytes.{byte}
+use Rattle.group.specs.Widths.{bodyBytes}
+use Rattle.model.specs.Layout.{Store, view, storeBytes, unitsIn}
+use Rattle.model.specs.Reads.{homeIn, stateIn, beyondIn}
+use Rattle.model.specs.Numbers.{Call, teach, correct, erase, read, readInPlace, list, unitOut, repair, grow, shrink, raise, numberIn}
+use Rattle.model.specs.Perform.{Answer, copied, perform, layOut}
+use Rattle.model.specs.history.Ledger.{opened}
+use Rattle.model.specs.history.Picture.{picture}
+use Rattle.model.specs.history.Answers.{answers, final}
+use Rattle.model.specs.history.Runs.{answersIn, finalIn, aloneIn, allGranted, unitIn, Taught, absent, present, lastTaught}
+
+abbrev pub Bytes : List ℕ → Type 0
+Bytes x = (i : ℕ) → byte x i < 256
+
+abbrev pub Typed : Call → Type 0
+Typed (teach k x) = (k < 4294967296) × Bytes x
+Typed (correct k x) = (k < 4294967296) × Bytes x
+Typed (erase k) = (k < 4294967296) × Unit {0}
+Typed (read k out) = (k < 4294967296) × Unit {0}
+Typed (readInPlace k) = (k < 4294967296) × Unit {0}
+Typed (list out) = Unit {0} × Unit {0}
+Typed (unitOut w) = Unit {0} × Unit {0}
+Typed (repair g) = Unit {0} × Unit {0}
+Typed grow = Unit {0} × Unit {0}
+Typed shrink = Unit {0} × Unit {0}
+Typed raise = Unit {0} × Unit {0}
+
+abbrev pub AllTyped : List Call → Type 0
+AllTyped [] = Unit {0}
+AllTyped (c ∷ cs) = Typed c × AllTyped cs
+
+-- what read, given a buffer that fits, owes of a key: its body, or 6 and the buffer as it was
+unfoldable pub told : List ℕ → Taught → Answer
+told out absent = copied 6 out
+told out (present x) = copied 0 x
+
+module _ (s : List ℕ) (b : ℕ) (cs : List Call) where
+  -- the store as laid out, and as the list leaves it
+  abbrev pub laid : List ℕ
+  laid = layOut s b .store
+
+  abbrev pub left : List ℕ
+  left = finalIn (layOut s b .store) cs
+
+  -- all answers are those of the ledger, and the store ends, byte for byte, as the ledger pictures it; behind it nothing is touched
+  pub record Histories : Type 0 where
+    pub answered : answersIn laid cs ≡ answers (opened b) cs
+    pub pictured : left ≡ picture (final (opened b) cs) (drop (storeBytes b) s)
+
+  -- each unit in service holds what the granted calls other than losses and repairs alone would have left there: run alone, from the same
+  -- start, they are granted again, and the unit is in service there with the same bytes
+  pub record Unlost : Type 0 where
+    pub again : allGranted laid (aloneIn laid cs) ≡ true
+    pub serves : (w : ℕ) → w < 28 → stateIn (view left) w ≡ 1 → stateIn (view (finalIn laid (aloneIn laid cs))) w ≡ 1
+    pub holds : (w : ℕ) → w < 28 → stateIn (view left) w ≡ 1 → unitIn (view left) w ≡ unitIn (view (finalIn laid (aloneIn laid cs))) w
+
+  -- with a buffer that fits, a key from 1 up reads as last taught or corrected, or as not taught, where its unit is in service or its group has
+  -- no more units out than it has check units; otherwise the read is refused as beyond recovery
+  abbrev pub ReadsAsTaught : Type 0
+  ReadsAsTaught = (k : ℕ) → 1 ≤ k → (out : List ℕ) → length out ≡ bodyBytes
+      → perform left (read k out) .answer
+      ≡ pick (eqb (view left .dstate (homeIn (view left) k)) 2 && beyondIn (view left) (homeIn (view left) k / 4)) (copied 8 out)
+      (told out (lastTaught k laid cs absent))
+
+  -- the repair of a group in place is refused as beyond recovery exactly where it has more units out than check units, and else granted
+  abbrev pub BeyondRecovery : Type 0
+  BeyondRecovery = (g : ℕ) → numberIn left (repair g)
+      ≡ pick (ltb 3 g) 2 (pick (leb (unitsIn (view left)) (4 * g)) 3 (pick (beyondIn (view left) g) 8 0))
+
+  -- DEMAND 3: a taught position outlives its unit. One claim about the whole list.
+  pub record Outlives : Type 0 where
+    pub histories : Histories
+    pub unlost : Unlost
+    pub reads-as-taught : ReadsAsTaught
+    pub beyond-recovery : BeyondRecovery

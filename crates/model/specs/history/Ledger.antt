@@ -1,0 +1,137 @@
+-- Document 01, "The ledger": lists of records, fed by the calls' arguments alone, never by an answer or a byte of the store. With the store it
+-- shares what document 01 itself shares: the unit of a key, the split unit, and the calls. Assumes nothing.
+use Prim.Native.Nat.{ℕ, suc, pred, _+_, _*_, _-_, _/_, _%_}
+use mathlib.Core.List.{List, [], _∷_, _++_}
+use mathlib.Core.Bool.{Bool, true, false, not, _&&_, _||_}
+use lib.Dec.{eqb, ltb}
+use lib.ListN.{length, take, getD, set}
+use Rattle.buffer.specs.Choice.{pick}
+use Rattle.buffer.specs.Range.{first, count, sum}
+use Rattle.buffer.specs.Bytes.{zeros}
+use Rattle.buffer.specs.Table.{upd}
+use Rattle.group.specs.Widths.{bodyBytes}
+use Rattle.model.specs.Units.{unitOf, splitPointer}
+use Rattle.model.specs.Numbers.{Call, teach, correct, erase, read, readInPlace, list, unitOut, repair, grow, shrink, raise}
+use Rattle.model.specs.Changes.{keep}
+
+pub record Rec : Type 0 where
+  pub key : ℕ
+  pub body : List ℕ
+
+-- what a missing record counts as
+unfoldable pub empty : Rec
+empty = record { key = 0; body = zeros bodyBytes }
+
+pub record Ledger : Type 0 where
+  pub size : ℕ  -- b, the ranks of a unit
+  pub units : ℕ  -- M, the data units
+  pub level : ℕ  -- K
+  pub records : ℕ → List Rec  -- data unit → its records; the rank is the place in the list
+  pub checks : ℕ → ℕ  -- group → its check units
+  pub out : ℕ → Bool  -- the units marked out: data units 0 to 15, check units 16 + 3g + j
+
+-- a granted layout opens it: b as given, M = 1, K = 1, an empty list of records per data unit, one check unit in group 0, none out
+unfoldable pub opened : ℕ → Ledger
+opened b = record { size = b; units = 1; level = 1; records = λ u. []; checks = λ g. pick (eqb g 0) 1 0; out = λ w. false }
+
+-- the unit of a key; the record at a rank; the place of a key in a list, or the list's length
+unfoldable pub home : Ledger → ℕ → ℕ
+home l k = unitOf (l .units) k
+
+unfoldable pub recordAt : Ledger → ℕ → ℕ → Rec
+recordAt l u r = getD (l .records u) r empty
+
+unfoldable pub rankOf : List Rec → ℕ → ℕ
+rankOf rs k = first (length rs) (λ r. eqb (getD rs r empty .key) k)
+
+-- a unit in place, one out, and its state as a number: 0 not in place, 1 in service, 2 out
+unfoldable pub placed : Ledger → ℕ → Bool
+placed l w = pick (ltb w 16) (ltb w (l .units)) (ltb ((w - 16) % 3) (l .checks ((w - 16) / 3)))
+
+unfoldable pub isOut : Ledger → ℕ → Bool
+isOut l w = placed l w && l .out w
+
+unfoldable pub state : Ledger → ℕ → ℕ
+state l w = pick (placed l w) (pick (l .out w) 2 1) 0
+
+-- the units of a group that are out; more of them than the group has check units; a data unit out in such a group
+unfoldable pub outsOf : Ledger → ℕ → ℕ
+outsOf l g = count 4 (λ p. isOut l (4 * g + p)) + count 3 (λ j. isOut l (16 + (3 * g + j)))
+
+unfoldable pub beyondOf : Ledger → ℕ → Bool
+beyondOf l g = ltb (count 3 (λ j. placed l (16 + (3 * g + j)))) (outsOf l g)
+
+unfoldable pub lost : Ledger → Bool
+lost l = ltb 0 (count 16 (λ u. isOut l u && beyondOf l (u / 4)))
+
+-- all records
+unfoldable pub total : Ledger → ℕ
+total l = sum 16 (λ u. length (l .records u))
+
+-- ---- the changes
+
+unfoldable pub withRecords : Ledger → ℕ → List Rec → Ledger
+withRecords l u rs = record { size = l .size; units = l .units; level = l .level; records = upd (l .records) u rs; checks = l .checks; out = l .out }
+
+-- unit out marks a unit out, repair unmarks its group's; neither touches a list
+unfoldable pub withOut : Ledger → ℕ → Ledger
+withOut l w = record { size = l .size; units = l .units; level = l .level; records = l .records; checks = l .checks; out = upd (l .out) w true }
+
+unfoldable pub groupOf : ℕ → ℕ
+groupOf w = pick (ltb w 16) (w / 4) ((w - 16) / 3)
+
+unfoldable pub withIn : Ledger → ℕ → Ledger
+withIn l g = record {
+  size = l .size;
+  units = l .units;
+  level = l .level;
+  records = l .records;
+  checks = l .checks;
+  out = λ w. not (eqb (groupOf w) g) && l .out w;
+}
+
+-- grow deals list n out again, in order, by the new M; a group whose first unit is the new one or the split one then has K check units
+unfoldable pub grownLedger : Ledger → Ledger
+grownLedger l =
+    let m : ℕ = l .units in
+    let n : ℕ = splitPointer m in
+    record {
+      size = l .size;
+      units = suc m;
+      level = l .level;
+      records = λ u. pick (eqb u m || eqb u n) (keep (λ x. eqb (unitOf (suc m) (x .key)) u) (l .records n)) (l .records u);
+      checks = λ g. pick (eqb (4 * g) m || eqb (4 * g) n) (l .level) (l .checks g);
+      out = l .out;
+    }
+
+-- shrink puts the last list, of unit m, behind that of the unit it was split from; a group with no unit below m loses its check units
+unfoldable pub shrunkLedger : Ledger → ℕ → Ledger
+shrunkLedger l m =
+    let n : ℕ = splitPointer m in
+    record {
+      size = l .size;
+      units = m;
+      level = l .level;
+      records = λ u. pick (eqb u m) [] (pick (eqb u n) (l .records n ++ l .records m) (l .records u));
+      checks = λ g. pick (ltb (4 * g) m) (l .checks g) 0;
+      out = l .out;
+    }
+
+unfoldable pub raisedLedger : Ledger → Ledger
+raisedLedger l = record { size = l .size; units = l .units; level = suc (l .level); records = l .records; checks = l .checks; out = l .out }
+
+-- the ledger after a granted call
+unfoldable pub granted : Ledger → Call → Ledger
+granted l (teach k x) = withRecords l (home l k) (l .records (home l k) ++ (record { key = k; body = x } ∷ []))
+granted l (correct k x) = withRecords l (home l k) (set (l .records (home l k)) (rankOf (l .records (home l k)) k) (record { key = k; body = x }))
+granted l (erase k) =
+    let rs : List Rec = l .records (home l k) in
+    withRecords l (home l k) (take (pred (length rs)) (set rs (rankOf rs k) (getD rs (pred (length rs)) empty)))
+granted l (read k out) = l
+granted l (readInPlace k) = l
+granted l (list out) = l
+granted l (unitOut w) = withOut l w
+granted l (repair g) = withIn l g
+granted l grow = grownLedger l
+granted l shrink = shrunkLedger l (pred (l .units))
+granted l raise = raisedLedger l

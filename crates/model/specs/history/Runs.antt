@@ -1,0 +1,71 @@
+-- Runs of the store: a list of calls, each getting the store as the one before left it; and what a list of calls says of a key. Assumes nothing.
+use Prim.Native.Nat.{ℕ, _-_}
+use mathlib.Core.List.{List, [], _∷_}
+use mathlib.Core.Bool.{Bool, true, false, _&&_}
+use lib.Dec.{eqb, ltb}
+use Rattle.buffer.specs.Choice.{pick}
+use Rattle.buffer.specs.Table.{tab}
+use Rattle.model.specs.Layout.{Store}
+use Rattle.model.specs.Numbers.{Call, teach, correct, erase, read, readInPlace, list, unitOut, repair, grow, shrink, raise, numberIn}
+use Rattle.model.specs.Perform.{Answer, perform}
+
+-- the answers of a list of calls, and the bytes at its end
+unfoldable pub answersIn : List ℕ → List Call → List Answer
+answersIn s [] = []
+answersIn s (c ∷ cs) = perform s c .answer ∷ answersIn (perform s c .store) cs
+
+unfoldable pub finalIn : List ℕ → List Call → List ℕ
+finalIn s [] = s
+finalIn s (c ∷ cs) = finalIn (perform s c .store) cs
+
+-- all calls but losses and repairs
+unfoldable pub lasting : Call → Bool
+lasting (teach k x) = true
+lasting (correct k x) = true
+lasting (erase k) = true
+lasting (read k out) = true
+lasting (readInPlace k) = true
+lasting (list out) = true
+lasting (unitOut w) = false
+lasting (repair g) = false
+lasting grow = true
+lasting shrink = true
+lasting raise = true
+
+-- the granted calls of a run other than losses and repairs
+unfoldable pub aloneIn : List ℕ → List Call → List Call
+aloneIn s [] = []
+aloneIn s (c ∷ cs) = pick (eqb (numberIn s c) 0 && lasting c) (c ∷ aloneIn (perform s c .store) cs) (aloneIn (perform s c .store) cs)
+
+-- every call of a run is granted
+unfoldable pub allGranted : List ℕ → List Call → Bool
+allGranted s [] = true
+allGranted s (c ∷ cs) = eqb (numberIn s c) 0 && allGranted (perform s c .store) cs
+
+-- the bytes of a unit: 0 to 15 data, 16 + 3g + j check
+unfoldable pub unitIn : Store → ℕ → List ℕ
+unitIn v w = pick (ltb w 16) (tab (v .size) (v .slot w)) (tab (v .size) (v .check (w - 16)))
+
+-- ---- what is known of a key: its body, or none
+pub data Taught : Type 0 where
+  absent : Taught
+  present : List ℕ → Taught
+
+-- after a call that returned the number n
+unfoldable pub taughtBy : ℕ → Call → ℕ → Taught → Taught
+taughtBy k (teach j x) n t = pick (eqb n 0 && eqb j k) (present x) t
+taughtBy k (correct j x) n t = pick (eqb n 0 && eqb j k) (present x) t
+taughtBy k (erase j) n t = pick (eqb n 0 && eqb j k) absent t
+taughtBy k (read j out) n t = t
+taughtBy k (readInPlace j) n t = t
+taughtBy k (list out) n t = t
+taughtBy k (unitOut w) n t = t
+taughtBy k (repair g) n t = t
+taughtBy k grow n t = t
+taughtBy k shrink n t = t
+taughtBy k raise n t = t
+
+-- by the key's last granted teach or correct; absent where there is none or a granted erase follows
+unfoldable pub lastTaught : ℕ → List ℕ → List Call → Taught → Taught
+lastTaught k s [] t = t
+lastTaught k s (c ∷ cs) t = lastTaught k (perform s c .store) cs (taughtBy k c (numberIn s c) t)

@@ -1,0 +1,70 @@
+-- The ways out of read, read in place and list are what `perform` says. Assumes nothing.
+use Prim.Native.Nat.{ℕ, _+_, _*_, _/_, _≤_, _<_}
+use mathlib.Core.Path.{_≡_, refl, sym, ap, ap₂, _∙_}
+use mathlib.Core.Bool.{Bool, true, false, not, _&&_}
+use mathlib.Core.List.{List, _++_, append-nil}
+use native.Mathlib.Omega.{arith}
+use lib.Dec.{eqb}
+use lib.ListN.{length, drop, drop-of-length-le}
+use borrow.Author.Tests.{eq-eqb, ne-eqb}
+use Rattle.buffer.specs.Choice.{pick}
+use Rattle.buffer.specs.ChoiceLaws.{pick-true, pick-false}
+use Rattle.buffer.specs.TestLaws.{and-true, and-false-first, and-false-second}
+use Rattle.buffer.specs.Bytes.{byte, zeros, part}
+use Rattle.group.specs.Widths.{keyBytes, bodyBytes}
+use Rattle.lookup.specs.Keys.{own-rank}
+use Rattle.model.specs.Layout.{view, slotAt}
+use Rattle.model.specs.Reads.{homeIn, rankIn, bodyIn, listedRank, wholeSlot, totalIn, listingIn}
+use Rattle.model.specs.Numbers.{Call, numberIn, refusalsIn, firstOf}
+use Rattle.model.specs.Perform.{Answer, copied, lent, listed, output, reply, Place, placeIn, givenIn, grantedIn, outcome, answerIn, afterIn, perform}
+
+-- ---- read
+pub read-refused : (s : List ℕ) (k : ℕ) (out : List ℕ) (r : ℕ) → r ≡ numberIn s (Call.read k out) → (r ≡ 0 → ⊥) → outcome (copied r out) s ≡ perform s (Call.read k out)
+unfolding perform answerIn afterIn reply output pick
+read-refused s k out r e h = rw (← e, ne-eqb r 0 h)
+
+pub read-granted : (s : List ℕ) (k : ℕ) (out new : List ℕ) → 0 ≡ numberIn s (Call.read k out) → new ≡ bodyIn (view s) k → length new ≡ length out
+    → outcome (copied 0 new) s ≡ perform s (Call.read k out)
+unfolding perform answerIn afterIn reply output givenIn grantedIn pick
+read-granted s k out new e f l = rw (← e, ← f, drop-of-length-le out {i = length new} (omega arith), append-nil new)
+
+pub body-is : (s : List ℕ) (k u r : ℕ) (x : List ℕ) → u ≡ homeIn (view s) k → r ≡ listedRank (view s) u k → x ≡ drop keyBytes (wholeSlot (view s) u r) → x ≡ bodyIn (view s) k
+unfolding bodyIn
+body-is s k u r x eu er ex = ex ∙ rw (er, eu)
+
+-- ---- list
+pub list-refused : (s out : List ℕ) (r n : ℕ) → r ≡ numberIn s (Call.list out) → (r ≡ 0 → ⊥) → n ≡ pick (eqb r 0) (totalIn (view s)) 0 → outcome (listed r n out) s ≡ perform s (Call.list out)
+unfolding perform answerIn afterIn reply output pick
+list-refused s out r n e h f = rw (f, ← e, ne-eqb r 0 h)
+
+pub list-granted : (s out new : List ℕ) (n : ℕ) → 0 ≡ numberIn s (Call.list out) → n ≡ totalIn (view s) → new ≡ listingIn (view s) ++ drop (length (listingIn (view s))) out
+    → outcome (listed 0 n new) s ≡ perform s (Call.list out)
+unfolding perform answerIn afterIn reply output givenIn grantedIn pick
+list-granted s out new n e f g = rw (f, g, ← e)
+
+-- ---- read in place
+module _ (s : List ℕ) (k : ℕ) where
+  -- refused as read into a buffer that fits
+  pub nowhere : (n : ℕ) → n ≡ numberIn s (Call.read k (zeros bodyBytes)) → (n ≡ 0 → ⊥) → placeIn s k ≡ record { at = 0; size = 0 }
+  unfolding placeIn
+  nowhere n e h =
+      let no = and-false-first (ap (λ x. eqb x 0) (sym e) ∙ ne-eqb n 0 h) (not (eqb (view s .dstate (homeIn (view s) k)) 2)) in
+      pick-false no _ _
+
+  pub out-unit : (u : ℕ) → u ≡ homeIn (view s) k → byte s (8 + u) ≡ 2 → placeIn s k ≡ record { at = 0; size = 0 }
+  unfolding placeIn
+  out-unit u e h =
+      let here : view s .dstate (homeIn (view s) k) ≡ 2 = rw (← e) (unfold view in h) in
+      pick-false (and-false-second (eqb (numberIn s (Call.read k (zeros bodyBytes))) 0) (ap not (eq-eqb _ 2 here))) _ _
+
+  pub stands : (u r : ℕ) → 0 ≡ numberIn s (Call.read k (zeros bodyBytes)) → u ≡ homeIn (view s) k → r ≡ listedRank (view s) u k → (byte s (8 + u) ≡ 2 → ⊥)
+      → placeIn s k ≡ record { at = slotAt (byte s 5) u r + keyBytes; size = bodyBytes }
+  unfolding placeIn
+  stands u r e eu er h =
+      let here : (view s .dstate (homeIn (view s) k) ≡ 2 → ⊥) = rw (← eu) (unfold view in h) in
+      pick-true (and-true (ap (λ x. eqb x 0) (sym e)) (ap not (ne-eqb _ 2 here))) _ _
+      ∙ rw (← eu, own-rank s u h k, ← er) (unfold view in refl)
+
+  pub lent-part : (x : List ℕ) → x ≡ part (placeIn s k .at) (placeIn s k .size) s → outcome (lent x) s ≡ perform s (Call.readInPlace k)
+  unfolding perform answerIn afterIn reply givenIn grantedIn numberIn refusalsIn firstOf pick
+  lent-part x e = rw e

@@ -1,0 +1,22 @@
+-- What a verdict on read hands on: its number, and where it is 0 the key's place. Assumes nothing.
+use Prim.Native.Nat.{ℕ, _<_}
+use mathlib.Core.Path.{_≡_}
+use mathlib.Core.Bool.{Bool}
+use mathlib.Core.List.{List}
+use Rattle.buffer.specs.Bytes.{byte}
+use Rattle.model.specs.Layout.{view}
+use Rattle.model.specs.Reads.{homeIn, listedFill, listedRank}
+use Rattle.lookup.specs.Groups.{Recoverable}
+use Rattle.reading.specs.Rows.{readNumber}
+
+-- key k stands, or is listed, at a rank of a unit that can be read or rebuilt
+pub record Placed (s : List ℕ) (k unit rank : ℕ) : Type 0 where
+  pub there : Recoverable s unit
+  pub home : unit ≡ homeIn (view s) k
+  pub found : rank ≡ listedRank (view s) unit k
+  pub listed : rank < listedFill (view s) unit
+  pub small : rank < byte s 5
+
+pub record Verdict (s : List ℕ) (ok : Bool) (k n number unit rank : ℕ) : Type 0 where
+  pub given : number ≡ readNumber ok (view s) k n
+  pub placed : number ≡ 0 → Placed s k unit rank

@@ -1,0 +1,73 @@
+-- What is asked of the keys of one list, as one test of each rank, is what the loop over the keys and the test behind them find. Assumes nothing.
+use mathlib.Core.Path.{_≡_, refl, sym, ap, _∙_}
+use mathlib.Core.Bool.{Bool, true, _||_}
+use Prim.Native.Nat.{ℕ, _≤_, _<_}
+use native.Mathlib.Omega.{arith}
+use lib.Dec.{eqb, ltb, leb}
+use borrow.Author.Tests.{eqb-true, eq-eqb, lt-ltb, le-ltb, le-leb, ltb-true, ltb-false}
+use Rattle.buffer.specs.Choice.{pick}
+use Rattle.buffer.specs.ChoiceLaws.{by-test, by-pick, pick-true, pick-false}
+use Rattle.buffer.specs.TestLaws.{not-both}
+use Rattle.buffer.specs.Range.{all}
+use Rattle.buffer.specs.RangeLaws.{all-true, all-holds, first-le}
+use Rattle.soundness.specs.Keys.{fillOf, ownAndNew, reached, noKeys}
+
+-- keys are dense, different and in their own unit: the test of each rank
+unfoldable pub keysGood : ℕ → ℕ → ℕ → (ℕ → ℕ) → Bool
+keysGood b m u key = all b (λ r. pick (ltb r (fillOf b key)) (ownAndNew m u key r) (eqb (key r) 0))
+
+module _ (b m u : ℕ) (key : ℕ → ℕ) where
+  pub fill-le : fillOf b key ≤ b
+  unfolding fillOf
+  fill-le = first-le b (λ r. eqb (key r) 0)
+
+  -- where the keys before the first 0 are good the loop reaches them all, and nowhere else
+  pub reached-fill : all (fillOf b key) (ownAndNew m u key) ≡ true → reached b m u key ≡ fillOf b key
+  unfolding reached
+  reached-fill h = pick-true h (fillOf b key) 65
+
+  pub reached-front : leb (reached b m u key) 64 ≡ true → all (fillOf b key) (ownAndNew m u key) ≡ true
+  unfolding reached
+  reached-front h =
+      by-test
+      (λ t. t ≡ true)
+      (all (fillOf b key) (ownAndNew m u key))
+      (λ _. refl)
+      (λ e. not-both (ap (λ n. leb n 64) (sym (pick-false e (fillOf b key) 65)) ∙ h) refl)
+
+  pub front-reached : b ≤ 64 → all (fillOf b key) (ownAndNew m u key) ≡ true → leb (reached b m u key) 64 ≡ true
+  front-reached few h = let l : fillOf b key ≤ b = fill-le in rw (reached-fill h) (le-leb (fillOf b key) 64 (omega arith))
+
+  -- the keys behind are 0
+  pub good-parts : keysGood b m u key ≡ true → (all (fillOf b key) (ownAndNew m u key) ≡ true) × ((r : ℕ) → fillOf b key ≤ r → r < b → key r ≡ 0)
+  unfolding keysGood
+  good-parts h =
+      let at = all-true b (λ r. pick (ltb r (fillOf b key)) (ownAndNew m u key r) (eqb (key r) 0)) h in (
+        all-holds (fillOf b key) (ownAndNew m u key) (λ r l.
+            sym (pick-true (lt-ltb r (fillOf b key) l) _ _) ∙ at r (let w : fillOf b key ≤ b = fill-le in omega arith)),
+        λ r l k. eqb-true (key r) 0 (sym (pick-false (le-ltb r (fillOf b key) l) _ _) ∙ at r k),
+      )
+
+  pub parts-good : all (fillOf b key) (ownAndNew m u key) ≡ true → ((r : ℕ) → fillOf b key ≤ r → r < b → key r ≡ 0) → keysGood b m u key ≡ true
+  unfolding keysGood
+  parts-good f z =
+      all-holds b (λ r. pick (ltb r (fillOf b key)) (ownAndNew m u key r) (eqb (key r) 0)) (λ r k.
+      by-pick
+      (λ t. t ≡ true)
+      (ltb r (fillOf b key))
+      (ownAndNew m u key r)
+      (eqb (key r) 0)
+      (λ e. all-true (fillOf b key) (ownAndNew m u key) f r (ltb-true r (fillOf b key) e))
+      (λ e. eq-eqb (key r) 0 (z r (ltb-false r (fillOf b key) e) k)))
+
+-- no key from rank n on
+pub no-keys-true : (n b : ℕ) (key : ℕ → ℕ) → noKeys n b key ≡ true → (r : ℕ) → n ≤ r → r < b → key r ≡ 0
+unfolding noKeys
+no-keys-true n b key h r l k =
+    eqb-true (key r) 0 (ap (λ t. t || eqb (key r) 0) (sym (le-ltb r n l)) ∙ all-true b (λ r. ltb r n || eqb (key r) 0) h r k)
+
+pub no-keys-holds : (n b : ℕ) (key : ℕ → ℕ) → ((r : ℕ) → n ≤ r → r < b → key r ≡ 0) → noKeys n b key ≡ true
+unfolding noKeys
+no-keys-holds n b key z =
+    all-holds b (λ r. ltb r n || eqb (key r) 0) (λ r k.
+    by-test (λ t. (t || eqb (key r) 0) ≡ true) (ltb r n) (λ _. refl) (λ e. eq-eqb (key r) 0 (z r (ltb-false r n e) k)))

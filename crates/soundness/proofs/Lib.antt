@@ -1,0 +1,13 @@
+pub mod Runs
+pub mod Joined
+pub mod Places
+pub mod Words
+pub mod Masks
+pub mod Reaching
+pub mod Endings
+pub mod Listed
+pub mod Zeros
+pub mod Good
+pub mod Units
+pub mod Checks
+pub mod Theorem

@@ -1,0 +1,45 @@
+-- The keys that the test reads from the bytes are those of the definitions: a slot's own, and the one that a check unit lists. Assumes nothing.
+use mathlib.Core.Path.{_≡_, ap, _∙_, fun-ext}
+use mathlib.Core.List.{List}
+use Prim.Native.Nat.{ℕ, _+_, _*_, _/_, _%_, _<_}
+use native.Mathlib.Omega.{arith}
+use lib.ListN.{take}
+use borrow.Author.Tests.{eq-eqb, ne-eqb}
+use Rattle.buffer.specs.ChoiceLaws.{pick-true, pick-false}
+use Rattle.buffer.specs.Bytes.{byte, be32, part}
+use Rattle.buffer.specs.ByteLaws.{be32-part}
+use Rattle.model.specs.Layout.{view, keyOf, slotAt, checkAt}
+use Rattle.model.specs.Reads.{keeper, listedKey}
+use Rattle.soundness.specs.Keys.{keyFrom}
+use Rattle.soundness.specs.Pieces.{dataKeys, columnAt, columnKeys}
+
+-- the key of a list's first four bytes
+key-take : (x : List ℕ) → keyOf (take 4 x) ≡ keyOf x
+unfolding keyOf
+key-take x = unfold part in be32-part 0 4 x 0 (omega arith)
+
+module _ (s : List ℕ) where
+  -- a slot's key
+  pub slot-key : (u r : ℕ) → keyOf (view s .slot u r) ≡ dataKeys s u r
+  unfolding keyOf view dataKeys keyFrom
+  slot-key u r =
+      let at : slotAt (byte s 5) u r + 0 ≡ slotAt (byte s 5) u 0 + 20 * r = omega arith in
+      be32-part (slotAt (byte s 5) u r) 20 s 0 (omega arith) ∙ ap (be32 s) at
+
+  -- the key at a place of a check record
+  pub check-key : (c p r : ℕ) → p < 4 → keyOf (part (4 * p) 4 (view s .check c r)) ≡ keyFrom s (checkAt (byte s 5) c 0 + 4 * p) 32 r
+  unfolding keyOf view keyFrom
+  check-key c p r h =
+      let at : checkAt (byte s 5) c r + (4 * p + 0) ≡ checkAt (byte s 5) c 0 + 4 * p + 32 * r = omega arith in
+      be32-part (4 * p) 4 (part (checkAt (byte s 5) c r) 32 s) 0 (omega arith)
+      ∙ be32-part (checkAt (byte s 5) c r) 32 s (4 * p + 0) (omega arith)
+      ∙ ap (be32 s) at
+
+  -- the keys listed for a unit: its own, or, where it is out, those of the first check unit in service
+  pub listed-own : (u : ℕ) → (byte s (8 + u) ≡ 2 → ⊥) → (λ r. keyOf (listedKey (view s) u r)) ≡ dataKeys s u
+  unfolding listedKey view
+  listed-own u h = fun-ext (λ r. ap keyOf (pick-false (ne-eqb (byte s (8 + u)) 2 h) _ _) ∙ key-take (view s .slot u r) ∙ slot-key u r)
+
+  pub listed-out : (u : ℕ) → byte s (8 + u) ≡ 2 → (λ r. keyOf (listedKey (view s) u r)) ≡ columnKeys s u
+  unfolding listedKey view columnKeys columnAt
+  listed-out u h = fun-ext (λ r. ap keyOf (pick-true (eq-eqb (byte s (8 + u)) 2 h) _ _) ∙ check-key (keeper (view s) (u / 4)) (u % 4) r (omega arith))

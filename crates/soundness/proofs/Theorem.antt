@@ -1,0 +1,228 @@
+-- The pieces of the test together say what document 01 calls sound. Assumes nothing.
+use mathlib.Core.Path.{_≡_, refl, sym, ap, ap₂, _∙_}
+use mathlib.Core.Bool.{Bool, true, false, not, _&&_, _||_}
+use mathlib.Core.List.{List}
+use Prim.Native.Nat.{ℕ, _+_, _*_, _/_, _%_, _≤_, _<_}
+use native.Mathlib.Omega.{arith}
+use lib.Dec.{eqb, ltb, leb}
+use lib.ListN.{length}
+use lib.Seq.{getD-take}
+use borrow.Author.Tests.{eqb-true, eqb-false, eq-eqb, ne-eqb, ltb-true, ltb-false, leb-true, not-false}
+use Rattle.buffer.specs.ChoiceLaws.{by-test}
+use Rattle.buffer.specs.TestLaws.{and-true, and-first, and-second, and-ext, same-test}
+use Rattle.buffer.specs.Range.{all, first}
+use Rattle.buffer.specs.RangeLaws.{all-true, all-holds, first-le, first-holds}
+use Rattle.buffer.specs.Bytes.{byte, be32, part, zeros}
+use Rattle.model.specs.Layout.{view, version, storeBytes, keyOf, unitsIn, levelIn, checkAt}
+use Rattle.model.specs.Reads.{fillIn, keeper, listedKey, listedFill}
+use Rattle.model.specs.Sound.{same, ranges, unitsPlaced, groupsPlaced, zeroed, keysKnown, keysPlaced, listsAgree, sound}
+use Rattle.soundness.specs.Keys.{keyFrom, fillOf, isNew, ownAndNew}
+use Rattle.soundness.specs.Pieces.{Ranged, placed, groupPlaced, columnAt, columnKeys, unkept, unitGood, checkGood, pieces}
+use Rattle.soundness.proofs.Joined.{second, unless, and-assoc}
+use Rattle.soundness.proofs.Endings.{keeper-before}
+use Rattle.soundness.proofs.Listed.{check-key}
+use Rattle.soundness.proofs.Good.{keysGood}
+use Rattle.soundness.proofs.Units.{Unit, good-unit, unit-good}
+use Rattle.soundness.proofs.Checks.{checkKey, Check, good-check, check-good}
+
+-- ---- M and K, and the states
+module _ (s : List ℕ) where
+  units-in : unitsIn (view s) ≡ byte s 6
+  unfolding unitsIn view
+  units-in = getD-take 8 s 6 0 (omega arith)
+
+  level-in : levelIn (view s) ≡ byte s 7
+  unfolding levelIn view
+  level-in = getD-take 8 s 7 0 (omega arith)
+
+  pub units-placed : all 16 (λ u. placed (ltb u (byte s 6)) (byte s (8 + u))) ≡ unitsPlaced (view s)
+  unfolding unitsPlaced placed
+  units-placed = rw units-in (unfold view in refl)
+
+  pub groups-placed : all 4 (groupPlaced s) ≡ groupsPlaced (view s)
+  unfolding groupsPlaced
+  groups-placed = rw (units-in, level-in) (unfold groupPlaced placed view in refl)
+
+-- ---- the ranges, as the later pieces use them
+pub ranged : (s : List ℕ) → ranges s ≡ true → Ranged s
+unfolding ranges
+ranged s h =
+    let h7 = and-first (a0 && a1 && a2 && a3 && a4 && a5 && a6 && a7) a8 h in
+    let h6 = and-first (a0 && a1 && a2 && a3 && a4 && a5 && a6) a7 h7 in
+    let h5 = and-first (a0 && a1 && a2 && a3 && a4 && a5) a6 h6 in
+    let h4 = and-first (a0 && a1 && a2 && a3 && a4) a5 h5 in
+    let h3 = and-first (a0 && a1 && a2 && a3) a4 h4 in
+    record {
+      few = leb-true _ _ (and-second (a0 && a1 && a2) a3 h3);
+      some = leb-true _ _ (and-second (a0 && a1 && a2 && a3) a4 h4);
+      most = leb-true _ _ (and-second (a0 && a1 && a2 && a3 && a4) a5 h5);
+      long = leb-true _ _ (and-second (a0 && a1 && a2 && a3 && a4 && a5 && a6 && a7) a8 h);
+    }
+  where
+    a0 : Bool
+    a0 = eqb (byte s 0) version
+
+    a1 : Bool
+    a1 = eqb (be32 s 1) (storeBytes (byte s 5))
+
+    a2 : Bool
+    a2 = leb 1 (byte s 5)
+
+    a3 : Bool
+    a3 = leb (byte s 5) 64
+
+    a4 : Bool
+    a4 = leb 1 (byte s 6)
+
+    a5 : Bool
+    a5 = leb (byte s 6) 16
+
+    a6 : Bool
+    a6 = leb 1 (byte s 7)
+
+    a7 : Bool
+    a7 = leb (byte s 7) 3
+
+    a8 : Bool
+    a8 = leb (storeBytes (byte s 5)) (length s)
+
+-- ---- the clauses about each unit, and the clauses of soundness
+module _ (s : List ℕ) where
+  -- a place of a group, and the unit that stands there
+  place-column : (g p r : ℕ) → g < 4 → p < 4 → columnKeys s (4 * g + p) r ≡ checkKey s (keeper (view s) g) p r
+  unfolding columnKeys columnAt
+  place-column g p r h k =
+      let e : (4 * g + p) / 4 ≡ g = omega arith in
+      let f : (4 * g + p) % 4 ≡ p = omega arith in
+      ap₂ (λ i j. keyFrom s (checkAt (byte s 5) (keeper (view s) i) 0 + 4 * j) 32 r) e f
+
+  -- check unit c in service lists, for each place of its group, the keys of the unit there
+  abbrev Agree : ℕ → Type 0
+  Agree c = byte s (24 + c) ≡ 1 → (r : ℕ) → r < byte s 5 → (p : ℕ) → p < 4 → checkKey s c p r ≡ keyOf (listedKey (view s) (4 * (c / 3) + p) r)
+
+  test : ℕ → ℕ → ℕ → Bool
+  test c r p = eqb (keyOf (part (4 * p) 4 (view s .check c r))) (keyOf (listedKey (view s) (4 * (c / 3) + p) r))
+
+  agreeing : listsAgree (view s) ≡ all 12 (λ c. not (eqb (byte s (24 + c)) 1) || all (byte s 5) (λ r. all 4 (test c r)))
+  unfolding listsAgree test view
+  agreeing = refl
+
+  agree-true : listsAgree (view s) ≡ true → (c : ℕ) → c < 12 → Agree c
+  unfolding test
+  agree-true h c l e r k p q =
+      let row = all-true 12 (λ c. not (eqb (byte s (24 + c)) 1) || all (byte s 5) (λ r. all 4 (test c r))) (sym agreeing ∙ h) c l in
+      let ranks = second (not (eqb (byte s (24 + c)) 1)) _ (ap not (eq-eqb _ _ e)) row in
+      sym (check-key s c p r q) ∙ eqb-true _ _ (all-true 4 (test c r) (all-true (byte s 5) (λ r. all 4 (test c r)) ranks r k) p q)
+
+  agree-holds : ((c : ℕ) → c < 12 → Agree c) → listsAgree (view s) ≡ true
+  unfolding test
+  agree-holds h =
+      agreeing
+      ∙ all-holds 12 (λ c. not (eqb (byte s (24 + c)) 1) || all (byte s 5) (λ r. all 4 (test c r))) (λ c l.
+      unless (not (eqb (byte s (24 + c)) 1)) _ (λ e.
+      all-holds (byte s 5) (λ r. all 4 (test c r)) (λ r k.
+      all-holds 4 (test c r) (λ p q. eq-eqb _ _ (check-key s c p r q ∙ h c l (eqb-true _ _ (not-false (eqb (byte s (24 + c)) 1) e)) r k p q)))))
+
+  -- comparing each check unit with the keeper, and the keeper with the units, compares each check unit with the units
+  kept : (c : ℕ) → byte s (24 + c) ≡ 1 → unkept s (c / 3) ≡ false
+  unfolding unkept
+  kept c e = let l : keeper (view s) (c / 3) ≤ c = keeper-before s c e in ne-eqb (keeper (view s) (c / 3)) (3 * (c / 3) + 3) (λ q. omega arith)
+
+  agree-from : ((u : ℕ) → u < 16 → Unit s u) → ((c : ℕ) → c < 12 → Check s c) → (c : ℕ) → c < 12 → Agree c
+  agree-from us cs c l e r k p q =
+      let g : (4 * (c / 3) + p) / 4 ≡ c / 3 = omega arith in
+      cs c l .lists e r k p q
+      ∙ sym (place-column (c / 3) p r (omega arith) q)
+      ∙ us (4 * (c / 3) + p) (omega arith) .lists (ap (unkept s) g ∙ kept c e) r k
+
+  -- the keeper of a group in which a check unit is in service
+  keeper-serves : (g : ℕ) → unkept s g ≡ false → (keeper (view s) g < 3 * g + 3) × (3 * g ≤ keeper (view s) g) × (byte s (24 + keeper (view s) g) ≡ 1)
+  unfolding unkept keeper view
+  keeper-serves g h =
+      let p : ℕ → Bool = λ j. eqb (byte s (24 + (3 * g + j))) 1 in
+      let n : ℕ = first 3 p in
+      let w : n ≤ 3 = first-le 3 p in
+      let l : n < 3 = by-test (λ _. n < 3) (ltb n 3) (λ e. ltb-true n 3 e) (λ e. absurd (eqb-false (3 * g + n) (3 * g + 3) h (let v : 3 ≤ n = ltb-false n 3 e in omega arith))) in
+      (omega arith, omega arith, eqb-true _ _ (first-holds 3 p l))
+
+  keeper-agrees : ((c : ℕ) → c < 12 → Agree c) → (g : ℕ) → g < 4 → unkept s g ≡ false → (r : ℕ) → r < byte s 5 → (p : ℕ) → p < 4
+      → checkKey s (keeper (view s) g) p r ≡ keyOf (listedKey (view s) (4 * g + p) r)
+  keeper-agrees h g l e r k p q =
+      let c : ℕ = keeper (view s) g in
+      let w = keeper-serves g e in
+      let f : c / 3 ≡ g = omega arith in
+      h c (omega arith) (w .2) r k p q ∙ ap (λ i. keyOf (listedKey (view s) (4 * i + p) r)) f
+
+  -- ---- the keys
+  keys-placed : all 16 (λ u. not (keysKnown (view s) u) || keysGood (byte s 5) (byte s 6) u (λ r. keyOf (listedKey (view s) u r))) ≡ keysPlaced (view s)
+  unfolding keysPlaced
+  keys-placed = rw (units-in s) (unfold keysGood ownAndNew isNew fillOf listedFill view in refl)
+
+  -- ---- the zeros
+  slotsZero : ℕ → Bool
+  slotsZero u = all (byte s 5) (λ r. (eqb (byte s (8 + u)) 1 && ltb r (fillIn (view s) u)) || same (view s .slot u r) (zeros 20))
+
+  checksZero : ℕ → Bool
+  checksZero c = all (byte s 5) (λ r. eqb (byte s (24 + c)) 1 || same (view s .check c r) (zeros 32))
+
+  zeroing : zeroed (view s) ≡ (all 16 slotsZero && all 12 checksZero)
+  unfolding zeroed slotsZero checksZero view
+  zeroing = refl
+
+  -- ---- both ways
+  module _ (ok : Ranged s) (states : all 16 (λ u. placed (ltb u (byte s 6)) (byte s (8 + u))) ≡ true) where
+    state : (u : ℕ) → u < 16 → placed (ltb u (byte s 6)) (byte s (8 + u)) ≡ true
+    state = all-true 16 (λ u. placed (ltb u (byte s 6)) (byte s (8 + u))) states
+
+    from-pieces : (all 16 (unitGood s) && all 12 (checkGood s)) ≡ true → (zeroed (view s) && keysPlaced (view s) && listsAgree (view s)) ≡ true
+    unfolding slotsZero checksZero
+    from-pieces h =
+        let us : (u : ℕ) → u < 16 → Unit s u = λ u l. good-unit s ok u l (state u l) (all-true 16 (unitGood s) (and-first (all 16 (unitGood s)) _ h) u l) in
+        let cs : (c : ℕ) → c < 12 → Check s c = λ c l. good-check s ok c l (all-true 12 (checkGood s) (and-second (all 16 (unitGood s)) _ h) c l) in
+        and-true
+        (and-true
+        (zeroing ∙ and-true (all-holds 16 slotsZero (λ u l. all-holds (byte s 5) _ (us u l .zero))) (all-holds 12 checksZero (λ c l. all-holds (byte s 5) _ (cs c l .zero))))
+        (sym keys-placed ∙ all-holds 16 _ (λ u l. us u l .keys)))
+        (agree-holds (agree-from us cs))
+
+    to-pieces : (zeroed (view s) && keysPlaced (view s) && listsAgree (view s)) ≡ true → (all 16 (unitGood s) && all 12 (checkGood s)) ≡ true
+    unfolding slotsZero checksZero
+    to-pieces h =
+        let zk = and-first (zeroed (view s) && keysPlaced (view s)) _ h in
+        let z = sym zeroing ∙ and-first (zeroed (view s)) _ zk in
+        let k = all-true 16 (λ u. not (keysKnown (view s) u) || keysGood (byte s 5) (byte s 6) u (λ r. keyOf (listedKey (view s) u r))) (keys-placed ∙ and-second (zeroed (view s)) _ zk) in
+        let a = agree-true (and-second (zeroed (view s) && keysPlaced (view s)) _ h) in
+        and-true
+        (all-holds 16 (unitGood s) (λ u l.
+        unit-good s ok u l (state u l) (record {
+          zero = all-true (byte s 5) _ (all-true 16 slotsZero (and-first (all 16 slotsZero) _ z) u l);
+          keys = k u l;
+          lists = λ e r w.
+              let same : 4 * (u / 4) + u % 4 ≡ u = omega arith in
+              ap (λ v. columnKeys s v r) (sym same)
+              ∙ place-column (u / 4) (u % 4) r (omega arith) (omega arith)
+              ∙ keeper-agrees a (u / 4) (omega arith) e r w (u % 4) (omega arith)
+              ∙ ap (λ v. keyOf (listedKey (view s) v r)) same;
+        })))
+        (all-holds 12 (checkGood s) (λ c l.
+        check-good s ok c l (record {
+          zero = all-true (byte s 5) _ (all-true 12 checksZero (and-second (all 16 slotsZero) _ z) c l);
+          lists = λ e r w p q. a c l e r w p q ∙ sym (keeper-agrees a (c / 3) (omega arith) (kept c e) r w p q);
+        })))
+
+    pieces-clauses : (all 16 (unitGood s) && all 12 (checkGood s)) ≡ (zeroed (view s) && keysPlaced (view s) && listsAgree (view s))
+    pieces-clauses = same-test _ _ from-pieces to-pieces
+
+pub pieces-sound : (s : List ℕ) → pieces s ≡ sound s
+unfolding pieces sound
+pieces-sound s =
+    rw (units-placed s, groups-placed s)
+    (and-assoc front (all 16 (unitGood s)) (all 12 (checkGood s))
+    ∙ and-ext front _ _ (λ h.
+    let both = and-first (ranges s && unitsPlaced (view s)) _ h in
+    pieces-clauses s (ranged s (and-first (ranges s) _ both)) (units-placed s ∙ and-second (ranges s) _ both))
+    ∙ sym (and-assoc front (zeroed (view s) && keysPlaced (view s)) (listsAgree (view s)))
+    ∙ ap (λ t. t && listsAgree (view s)) (sym (and-assoc front (zeroed (view s)) (keysPlaced (view s)))))
+  where
+    front : Bool
+    front = ranges s && unitsPlaced (view s) && groupsPlaced (view s)

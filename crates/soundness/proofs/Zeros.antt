@@ -1,0 +1,94 @@
+-- A range of zero bytes, and the slots or check records in it that are zero. Assumes nothing.
+use mathlib.Core.Path.{_≡_, refl, sym, ap, _∙_}
+use mathlib.Core.Bool.{true}
+use mathlib.Core.List.{List, [], _∷_}
+use Prim.Native.Nat.{ℕ, _+_, _*_, _-_, _/_, _≤_, _<_}
+use native.Mathlib.Omega.{arith}
+use lib.Dec.{eqb}
+use lib.ListN.{length}
+use borrow.Author.Tests.{eqb-true, eq-eqb}
+use Rattle.buffer.specs.TestLaws.{and-true, and-first, and-second, not-both}
+use Rattle.buffer.specs.RangeLaws.{all-true, all-holds}
+use Rattle.buffer.specs.Bytes.{byte, zeros, part, allZero}
+use Rattle.buffer.specs.SpliceLaws.{length-part}
+use Rattle.buffer.specs.ByteLaws.{byte-part, byte-zeros, zeros-of}
+use Rattle.model.specs.Layout.{view, slotAt, checkAt}
+use Rattle.model.specs.Sound.{same}
+use Rattle.soundness.specs.Pieces.{zeroBetween}
+
+-- ---- lists that are the same
+same-true : (x y : List ℕ) → same x y ≡ true → x ≡ y
+unfolding same
+same-true [] [] h = refl
+same-true [] (b ∷ y) h = not-both h refl
+same-true (a ∷ x) [] h = not-both h refl
+same-true (a ∷ x) (b ∷ y) h = rw (eqb-true a b (and-first (eqb a b) (same x y) h), same-true x y (and-second (eqb a b) (same x y) h))
+
+same-refl : (x : List ℕ) → same x x ≡ true
+unfolding same
+same-refl [] = refl
+same-refl (a ∷ x) = and-true (eq-eqb a a refl) (same-refl x)
+
+-- ---- a range of zeros
+abbrev pub Zero : List ℕ → ℕ → ℕ → Type 0
+Zero s at end = (i : ℕ) → at ≤ i → i < end → byte s i ≡ 0
+
+module _ (s : List ℕ) where
+  module _ (at end : ℕ) (start : at ≤ end) (fits : end ≤ length s) where
+    long : length (part at (end - at) s) ≡ end - at
+    long = length-part at (end - at) s (omega arith)
+
+    here : (i : ℕ) → at ≤ i → i < end → byte (part at (end - at) s) (i - at) ≡ byte s i
+    here i l h = let e : at + (i - at) ≡ i = omega arith in byte-part at (end - at) s (i - at) (omega arith) ∙ ap (λ j. byte s j) e
+
+    pub zero-range : zeroBetween s at end ≡ true → Zero s at end
+    unfolding zeroBetween allZero
+    zero-range h i l k =
+        let x : List ℕ = part at (end - at) s in
+        sym (here i l k) ∙ eqb-true _ 0 (all-true (length x) (λ j. eqb (byte x j) 0) h (i - at) (omega (arith, long)))
+
+    pub range-zero : Zero s at end → zeroBetween s at end ≡ true
+    unfolding zeroBetween allZero
+    range-zero z =
+        let x : List ℕ = part at (end - at) s in
+        all-holds (length x) (λ j. eqb (byte x j) 0) (λ j k.
+        let l : j < end - at = omega (arith, long) in
+        eq-eqb _ 0 (byte-part at (end - at) s j l ∙ z (at + j) (omega arith) (omega arith)))
+
+  -- one part
+  part-zero : (at n : ℕ) → same (part at n s) (zeros n) ≡ true → Zero s at (at + n)
+  part-zero at n h i l k =
+      let e : at + (i - at) ≡ i = omega arith in
+      ap (λ j. byte s j) (sym e) ∙ sym (byte-part at n s (i - at) (omega arith)) ∙ ap (λ x. byte x (i - at)) (same-true (part at n s) (zeros n) h) ∙ byte-zeros n (i - at)
+
+  zero-part : (at n : ℕ) → at + n ≤ length s → Zero s at (at + n) → same (part at n s) (zeros n) ≡ true
+  zero-part at n l z =
+      rw (zeros-of n (part at n s) (length-part at n s l) (λ i k. byte-part at n s i k ∙ z (at + i) (omega arith) (omega arith))) (same-refl (zeros n))
+
+  -- ---- the slots of a unit from rank n on
+  module _ (u : ℕ) (fits : slotAt (byte s 5) u 0 + 20 * byte s 5 ≤ length s) where
+    pub slot-zero : (n : ℕ) → Zero s (slotAt (byte s 5) u 0 + 20 * n) (slotAt (byte s 5) u 0 + 20 * byte s 5)
+        → (r : ℕ) → n ≤ r → r < byte s 5 → same (view s .slot u r) (zeros 20) ≡ true
+    unfolding view
+    slot-zero n z r l k = zero-part (slotAt (byte s 5) u r) 20 (omega arith) (λ i p q. z i (omega arith) (omega arith))
+
+    pub zero-slots : (n : ℕ) → ((r : ℕ) → n ≤ r → r < byte s 5 → same (view s .slot u r) (zeros 20) ≡ true)
+        → Zero s (slotAt (byte s 5) u 0 + 20 * n) (slotAt (byte s 5) u 0 + 20 * byte s 5)
+    unfolding view
+    zero-slots n h i l k =
+        let r : ℕ = (i - slotAt (byte s 5) u 0) / 20 in
+        part-zero (slotAt (byte s 5) u r) 20 (h r (omega arith) (omega arith)) i (omega arith) (omega arith)
+
+  -- ---- the records of a check unit
+  module _ (c : ℕ) (fits : checkAt (byte s 5) c 0 + 32 * byte s 5 ≤ length s) where
+    pub check-zero : Zero s (checkAt (byte s 5) c 0) (checkAt (byte s 5) c 0 + 32 * byte s 5)
+        → (r : ℕ) → r < byte s 5 → same (view s .check c r) (zeros 32) ≡ true
+    unfolding view
+    check-zero z r k = zero-part (checkAt (byte s 5) c r) 32 (omega arith) (λ i p q. z i (omega arith) (omega arith))
+
+    pub zero-checks : ((r : ℕ) → r < byte s 5 → same (view s .check c r) (zeros 32) ≡ true)
+        → Zero s (checkAt (byte s 5) c 0) (checkAt (byte s 5) c 0 + 32 * byte s 5)
+    unfolding view
+    zero-checks h i l k =
+        let r : ℕ = (i - checkAt (byte s 5) c 0) / 32 in
+        part-zero (checkAt (byte s 5) c r) 32 (h r (omega arith)) i (omega arith) (omega arith)

@@ -1,0 +1,12 @@
+-- `soundness::key` meets its contract. Assumes nothing.
+use borrow.Author.Needs.{needs}
+use Rattle.soundness.specs.Keys.{keyFrom}
+use Rattle.soundness.proofs.key.Statement.{statement}
+use Rattle.soundness.proofs.key.Tie as tie
+
+returns : tie.Need-returns
+unfolding keyFrom
+returns c = c .load32 .ensures
+
+pub key-spec : {M : Type 1} → statement M
+key-spec = tie.close (tie.spec (λ c. search needs) (λ c. search needs) (λ c κs. search needs) returns)

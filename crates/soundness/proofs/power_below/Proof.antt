@@ -1,0 +1,29 @@
+-- `soundness::power_below` meets its contract. Assumes nothing.
+use borrow.Author.Tests.{lt-ltb, le-ltb}
+use Rattle.buffer.specs.Choice.{pick}
+use Rattle.model.specs.Units.{powerBelow}
+use Rattle.soundness.proofs.power_below.Statement.{statement}
+use Rattle.soundness.proofs.power_below.Tie as tie
+
+returns : tie.Need-returns
+unfolding powerBelow pick
+returns c = simp (lt-ltb _ _ (c .if1 .taken))
+
+returns-2 : tie.Need-returns-2
+unfolding powerBelow pick
+returns-2 c = simp (le-ltb _ _ (c .before .if1 .left), lt-ltb _ _ (c .if2 .taken))
+
+returns-3 : tie.Need-returns-3
+unfolding powerBelow pick
+returns-3 c = simp (le-ltb _ _ (c .before .before .if1 .left), le-ltb _ _ (c .before .if2 .left), lt-ltb _ _ (c .if3 .taken))
+
+returns-4 : tie.Need-returns-4
+unfolding powerBelow pick
+returns-4 c = simp (le-ltb _ _ (c .before .before .before .if1 .left), le-ltb _ _ (c .before .before .if2 .left), le-ltb _ _ (c .before .if3 .left), lt-ltb _ _ (c .if4 .taken))
+
+returns-5 : tie.Need-returns-5
+unfolding powerBelow pick
+returns-5 c = simp (le-ltb _ _ (c .before .before .before .if1 .left), le-ltb _ _ (c .before .before .if2 .left), le-ltb _ _ (c .before .if3 .left), le-ltb _ _ (c .if4 .left))
+
+pub power-below-spec : {M : Type 1} → statement M
+power-below-spec = tie.close (tie.spec returns returns-2 returns-3 returns-4 returns-5)

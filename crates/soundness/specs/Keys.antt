@@ -1,0 +1,60 @@
+-- Lists of keys within bytes, and what is asked of the keys of one unit. A list is a function, rank → key; ranks are counted from 0.
+-- Assumes nothing.
+use Prim.Native.Nat.{ℕ, _+_, _*_, _/_, _%_, _≤_, _<_}
+use mathlib.Core.List.{List}
+use mathlib.Core.Bool.{Bool, not, _&&_, _||_}
+use lib.Dec.{eqb, ltb}
+use lib.ListN.{length}
+use Rattle.buffer.specs.Choice.{pick}
+use Rattle.buffer.specs.Range.{all, first}
+use Rattle.buffer.specs.Bytes.{byte, be32}
+use Rattle.model.specs.Units.{unitOf}
+
+-- the key at a rank of a list whose keys stand `step` bytes apart, from `base` on
+unfoldable pub keyFrom : List ℕ → ℕ → ℕ → ℕ → ℕ
+keyFrom s base step r = be32 s (base + step * r)
+
+-- the bytes have such a list of b keys
+pub record Within (s : List ℕ) (base step b : ℕ) : Type 0 where
+  pub reach : (r : ℕ) → r < b → base + step * r + 4 ≤ length s
+  pub few : b ≤ 64
+
+-- the place of a key in the table of stamps
+unfoldable pub placeOf : ℕ → ℕ
+placeOf k = k * 2654435761 / 2097152 % 2048
+
+-- the ranks before the first key 0
+unfoldable pub fillOf : ℕ → (ℕ → ℕ) → ℕ
+fillOf b key = first b (λ r. eqb (key r) 0)
+
+-- a key is none of the first n
+unfoldable pub isNew : ℕ → (ℕ → ℕ) → ℕ → Bool
+isNew n key k = all n (λ q. not (eqb (key q) k))
+
+-- the key at a rank belongs to unit u of m, and is none of those before it
+unfoldable pub ownAndNew : ℕ → ℕ → (ℕ → ℕ) → ℕ → Bool
+ownAndNew m u key r = eqb (unitOf m (key r)) u && isNew r key (key r)
+
+-- how many keys there are before the first key 0; 65, which no unit has room for, where one of them is in another unit or there twice
+unfoldable pub reached : ℕ → ℕ → ℕ → (ℕ → ℕ) → ℕ
+reached b m u key = pick (all (fillOf b key) (ownAndNew m u key)) (fillOf b key) 65
+
+-- two lists have the same keys
+unfoldable pub sameKeys : ℕ → (ℕ → ℕ) → (ℕ → ℕ) → Bool
+sameKeys b key other = all b (λ r. eqb (key r) (other r))
+
+-- from rank n on there is no key
+unfoldable pub noKeys : ℕ → ℕ → (ℕ → ℕ) → Bool
+noKeys n b key = all b (λ r. ltb r n || eqb (key r) 0)
+
+-- four bytes as a number, low byte first
+unfoldable pub le32 : List ℕ → ℕ → ℕ
+le32 s at = byte s at + byte s (at + 1) * 256 + byte s (at + 2) * 65536 + byte s (at + 3) * 16777216
+
+-- the two keys at each of two places are the same
+unfoldable pub samePair : List ℕ → ℕ → ℕ → Bool
+samePair s x y = eqb (be32 s x) (be32 s y) && eqb (be32 s (x + 4)) (be32 s (y + 4))
+
+-- the four keys of each of b check records are the same in two check units
+unfoldable pub sameLists : List ℕ → ℕ → ℕ → ℕ → Bool
+sameLists s x y b = all b (λ r. samePair s (x + 32 * r) (y + 32 * r) && samePair s (x + 32 * r + 8) (y + 32 * r + 8))

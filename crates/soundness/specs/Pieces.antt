@@ -1,0 +1,94 @@
+-- The pieces that the soundness test is made of: one test for each data unit and one for each check unit, over the bytes. That they say what
+-- document 01 asks is the theorem `pieces-sound`. Assumes nothing.
+use Prim.Native.Nat.{ℕ, _+_, _*_, _-_, _/_, _%_, _≤_}
+use mathlib.Core.List.{List}
+use mathlib.Core.Bool.{Bool, _&&_, _||_}
+use lib.Dec.{eqb, ltb, leb}
+use lib.ListN.{length}
+use Rattle.buffer.specs.Choice.{pick}
+use Rattle.buffer.specs.Range.{all}
+use Rattle.buffer.specs.Bytes.{byte, part, allZero}
+use Rattle.model.specs.Layout.{view, storeBytes, slotAt, checkAt}
+use Rattle.model.specs.Reads.{keeper}
+use Rattle.model.specs.Sound.{ranges, checksIn, checksAllowed}
+use Rattle.soundness.specs.Keys.{keyFrom, reached, sameKeys, noKeys, sameLists}
+
+-- what the later pieces rely on: the store's units lie within the bytes
+pub record Ranged (s : List ℕ) : Type 0 where
+  pub few : byte s 5 ≤ 64
+  pub some : 1 ≤ byte s 6
+  pub most : byte s 6 ≤ 16
+  pub long : storeBytes (byte s 5) ≤ length s
+
+-- the bytes from a place up to an end are zero
+unfoldable pub zeroBetween : List ℕ → ℕ → ℕ → Bool
+zeroBetween s at end = allZero (part at (end - at) s)
+
+-- ---- the states of the units
+-- the state of a unit that is in place, or of one that is not
+unfoldable pub placed : Bool → ℕ → Bool
+placed inside x = pick inside (eqb x 1 || eqb x 2) (eqb x 0)
+
+-- the check units in place of a group, n of them, come first, and are as many as may be
+unfoldable pub groupPlaced : List ℕ → ℕ → Bool
+groupPlaced s g =
+    pick (ltb (4 * g) (byte s 6)) (checksAllowed (byte s 7) (checksIn (view s) g)) (eqb (checksIn (view s) g) 0)
+    && all 3 (λ j. placed (ltb j (checksIn (view s) g)) (byte s (24 + (3 * g + j))))
+
+-- ---- a data unit: its own keys, and those that the first check unit in service of its group lists for it
+unfoldable pub dataKeys : List ℕ → ℕ → ℕ → ℕ
+dataKeys s u = keyFrom s (slotAt (byte s 5) u 0) 20
+
+unfoldable pub columnAt : List ℕ → ℕ → ℕ
+columnAt s u = checkAt (byte s 5) (keeper (view s) (u / 4)) 0 + 4 * (u % 4)
+
+unfoldable pub columnKeys : List ℕ → ℕ → ℕ → ℕ
+columnKeys s u = keyFrom s (columnAt s u) 32
+
+-- no check unit of the group is in service
+unfoldable pub unkept : List ℕ → ℕ → Bool
+unkept s g = eqb (keeper (view s) g) (3 * g + 3)
+
+unfoldable pub dataFill : List ℕ → ℕ → ℕ
+dataFill s u = reached (byte s 5) (byte s 6) u (dataKeys s u)
+
+unfoldable pub columnFill : List ℕ → ℕ → ℕ
+columnFill s u = reached (byte s 5) (byte s 6) u (columnKeys s u)
+
+-- in service: its keys, zeros behind them, and the keys listed for it
+unfoldable pub served : List ℕ → ℕ → Bool
+served s u =
+    leb (dataFill s u) 64
+    && zeroBetween s (slotAt (byte s 5) u 0 + 20 * dataFill s u) (slotAt (byte s 5) u 0 + 20 * byte s 5)
+    && (unkept s (u / 4) || sameKeys (byte s 5) (dataKeys s u) (columnKeys s u))
+
+-- out: zeros, and the keys listed for it
+unfoldable pub lost : List ℕ → ℕ → Bool
+lost s u =
+    zeroBetween s (slotAt (byte s 5) u 0) (slotAt (byte s 5) u 0 + 20 * byte s 5)
+    && (unkept s (u / 4) || leb (columnFill s u) 64 && noKeys (columnFill s u) (byte s 5) (columnKeys s u))
+
+-- not in place: zeros, and no keys listed for it
+unfoldable pub absent : List ℕ → ℕ → Bool
+absent s u =
+    zeroBetween s (slotAt (byte s 5) u 0) (slotAt (byte s 5) u 0 + 20 * byte s 5)
+    && (unkept s (u / 4) || noKeys 0 (byte s 5) (columnKeys s u))
+
+unfoldable pub unitGood : List ℕ → ℕ → Bool
+unitGood s u = pick (ltb u (byte s 6)) (pick (eqb (byte s (8 + u)) 1) (served s u) (lost s u)) (absent s u)
+
+-- ---- a check unit: in service it lists the same keys as the first in service of its group, else it is zero
+unfoldable pub checkGood : List ℕ → ℕ → Bool
+checkGood s c =
+    pick
+    (eqb (byte s (24 + c)) 1)
+    (eqb (keeper (view s) (c / 3)) c || sameLists s (checkAt (byte s 5) (keeper (view s) (c / 3)) 0) (checkAt (byte s 5) c 0) (byte s 5))
+    (zeroBetween s (checkAt (byte s 5) c 0) (checkAt (byte s 5) c 0 + 32 * byte s 5))
+
+unfoldable pub pieces : List ℕ → Bool
+pieces s =
+    ranges s
+    && all 16 (λ u. placed (ltb u (byte s 6)) (byte s (8 + u)))
+    && all 4 (groupPlaced s)
+    && all 16 (unitGood s)
+    && all 12 (checkGood s)

@@ -1,0 +1,89 @@
+-- A unit's bytes cleared and its state set are the unit lost. Assumes nothing.
+use Prim.Native.Nat.{ℕ, suc, _+_, _*_, _-_, _≤_, _<_}
+use mathlib.Core.Path.{_≡_, refl, sym, ap, _∙_}
+use mathlib.Core.List.{List}
+use native.Mathlib.Omega.{arith}
+use lib.Dec.{eqb}
+use lib.ListN.{length, set}
+use borrow.Author.Tests.{ne-eqb, eqb-true, eqb-false, eq-eqb}
+use Rattle.buffer.specs.Choice.{pick}
+use Rattle.buffer.specs.ChoiceLaws.{pick-true, pick-false}
+use Rattle.buffer.specs.TestLaws.{same-test}
+use Rattle.buffer.specs.Bytes.{byte, zeros, part, splice}
+use Rattle.buffer.specs.ByteLaws.{length-zeros}
+use Rattle.buffer.specs.SpliceLaws.{length-part}
+use Rattle.buffer.specs.Table.{upd}
+use Rattle.group.specs.Widths.{slotBytes, checkBytes}
+use Rattle.model.specs.Layout.{Store, bytes, view, storeBytes, slotAt, checkAt, withSlots, withChecks}
+use Rattle.model.specs.LayoutLaws.{Shaped, Same, Long, bytes-ext, bytes-view, view-shaped}
+use Rattle.model.specs.RunLaws.{run, run-unit, length-run}
+use Rattle.model.specs.StoreLaws.{withDstates, withCstates, size-of, slots-shaped, checks-shaped, slots-clear, checks-clear, slots-within, checks-within, dstate-set, cstate-set}
+use Rattle.model.specs.Changes.{unitLost}
+
+lost-slots : (v : Store) (u b : ℕ) → u < 16 → b ≡ v .size
+    → Same (withDstates (withSlots v (run (v .slot) u 0 b (λ _. zeros slotBytes))) (upd (withSlots v (run (v .slot) u 0 b (λ _. zeros slotBytes)) .dstate) u 2)) (unitLost v u)
+unfolding withDstates withSlots unitLost
+lost-slots v u b hu eb = record {
+  front = refl;
+  size = refl;
+  dstate = λ w a. refl;
+  cstate = λ c a. sym (pick-false (ne-eqb (16 + c) u (omega arith)) 2 (v .cstate c));
+  slot = λ w r a l. run-unit (v .slot) u b (λ _. zeros slotBytes) w r (omega arith);
+  check = λ c r a l. sym (pick-false (ne-eqb (16 + c) u (omega arith)) (zeros checkBytes) (v .check c r));
+  rest = refl;
+}
+
+-- the number of a check unit among all units
+beyond-data : (c d : ℕ) → eqb d c ≡ eqb (16 + d) (16 + c)
+beyond-data c d =
+    same-test
+    (eqb d c)
+    (eqb (16 + d) (16 + c))
+    (λ e. let q : d ≡ c = eqb-true d c e in eq-eqb (16 + d) (16 + c) (omega arith))
+    (λ e. let q : 16 + d ≡ 16 + c = eqb-true (16 + d) (16 + c) e in eq-eqb d c (omega arith))
+
+lost-checks : (v : Store) (c b : ℕ) → b ≡ v .size
+    → Same (withCstates (withChecks v (run (v .check) c 0 b (λ _. zeros checkBytes))) (upd (withChecks v (run (v .check) c 0 b (λ _. zeros checkBytes)) .cstate) c 2)) (unitLost v (16 + c))
+unfolding withCstates withChecks unitLost upd
+lost-checks v c b eb = record {
+  front = refl;
+  size = refl;
+  dstate = λ w a. sym (pick-false (ne-eqb w (16 + c) (omega arith)) 2 (v .dstate w));
+  cstate = λ d a. ap (λ t. pick t 2 (v .cstate d)) (beyond-data c d);
+  slot = λ w r a l. sym (pick-false (ne-eqb w (16 + c) (omega arith)) (zeros slotBytes) (v .slot w r));
+  check = λ d r a l. run-unit (v .check) c b (λ _. zeros checkBytes) d r (omega arith) ∙ ap (λ t. pick t (zeros checkBytes) (v .check d r)) (beyond-data c d);
+  rest = refl;
+}
+
+-- from the code's facts: the unit's bytes stand from `from` to `to`
+module _ (s₀ s′ z : List ℕ) (b from to at : ℕ) (long : Long s₀) (eb : b ≡ byte s₀ 5) (cleared : z ≡ zeros (length (part from (to - from) s₀))) where
+  abbrev s : List ℕ
+  s = splice from (to - from) z s₀
+
+  size : b ≡ view s₀ .size
+  size = eb ∙ size-of s₀
+
+  within : (n : ℕ) → to - from ≡ n → from + n ≤ length s₀ → s ≡ splice from n (zeros n) s₀
+  within n e l = rw (cleared, e, length-part from n s₀ l)
+
+  pub lost-data : (u : ℕ) → u < 16 → from ≡ slotAt b u 0 → to ≡ slotAt b (u + 1) 0 → at ≡ 8 + u → s′ ≡ set s at 2 → s′ ≡ bytes (unitLost (view s₀) u)
+  lost-data u hu ef et ea es =
+      let n : to - from ≡ slotBytes * b = omega arith in
+      let h : Shaped (view s₀) = view-shaped s₀ long in
+      let room : from + slotBytes * b ≤ length s₀ = rw ef (slots-within b u 0 b (length s₀) hu (omega arith) (rw eb long)) in
+      let t : Store = withSlots (view s₀) (run (view s₀ .slot) u 0 b (λ _. zeros slotBytes)) in
+      let shaped : Shaped (withSlots (view s₀) (run (view s₀ .slot) u 0 b (λ _. zeros slotBytes))) =
+      slots-shaped (view s₀) _ h (λ w r a l. length-run (view s₀ .slot) u 0 b (λ _. zeros slotBytes) slotBytes w r (length-zeros slotBytes) (h .slot w r a l)) in
+      let state = slots-clear (view s₀) h s₀ (sym (bytes-view s₀ long)) b size s from (slotBytes * b) u 0 b ef refl hu (omega arith) (within (slotBytes * b) n room) in
+      dstate-set t shaped s state s′ at u 2 ea hu es ∙ bytes-ext _ (unitLost (view s₀) u) (lost-slots (view s₀) u b hu size)
+
+  pub lost-check : (c : ℕ) → c < 12 → from ≡ checkAt b c 0 → to ≡ checkAt b (c + 1) 0 → at ≡ 24 + c → s′ ≡ set s at 2 → s′ ≡ bytes (unitLost (view s₀) (16 + c))
+  lost-check c hc ef et ea es =
+      let n : to - from ≡ checkBytes * b = omega arith in
+      let h : Shaped (view s₀) = view-shaped s₀ long in
+      let room : from + checkBytes * b ≤ length s₀ = rw ef (checks-within b c 0 b (length s₀) hc (omega arith) (rw eb long)) in
+      let t : Store = withChecks (view s₀) (run (view s₀ .check) c 0 b (λ _. zeros checkBytes)) in
+      let shaped : Shaped (withChecks (view s₀) (run (view s₀ .check) c 0 b (λ _. zeros checkBytes))) =
+      checks-shaped (view s₀) _ h (λ w r a l. length-run (view s₀ .check) c 0 b (λ _. zeros checkBytes) checkBytes w r (length-zeros checkBytes) (h .check w r a l)) in
+      let state = checks-clear (view s₀) h s₀ (sym (bytes-view s₀ long)) b size s from (checkBytes * b) c 0 b ef refl hc (omega arith) (within (checkBytes * b) n room) in
+      cstate-set t shaped s state s′ at c 2 ea hc es ∙ bytes-ext _ (unitLost (view s₀) (16 + c)) (lost-checks (view s₀) c b size)

@@ -1,0 +1,322 @@
+// Teach, correct, erase and unit out: a slot is written and its group's check units follow; a unit's bytes are cleared.
+ghost use mathlib.Core.Path.{_≡_};
+ghost use Prim.Native.Nat.{_+_, _*_, _-_, _≤_, _<_};
+ghost use mathlib.Core.Bool.{true};
+ghost use lib.ListN.{length};
+ghost use Rattle.buffer.specs.Bytes.{byte};
+ghost use Rattle.field.specs.Table.{products};
+ghost use Rattle.group.specs.Body.{addBody};
+ghost use Rattle.group.specs.CheckRecord.{patched};
+ghost use Rattle.model.specs.Layout.{bytes, view, slotOf, withChecks};
+ghost use Rattle.model.specs.StoreLaws.{SlotIn};
+ghost use Rattle.model.specs.LayoutLaws.{Long};
+ghost use Rattle.model.specs.Reads.{outsIn};
+ghost use Rattle.model.specs.Numbers.{Call, teach, correct, erase, unitOut, firstOf, refusalsIn};
+ghost use Rattle.model.specs.Perform.{plain, outcome, perform};
+ghost use Rattle.model.specs.Changes.{written, erased, unitLost};
+ghost use Rattle.lookup.specs.Sized.{Sized};
+ghost use Rattle.writing.specs.Following.{followed};
+ghost use Rattle.writing.specs.Homes.{Homed};
+
+// How many units of group g are out.
+fn outs(s: &[u8], g: u8) -> u8
+    requires { ⌜ Sized (now s) × (g < 4) ⌝ }
+    ensures { λ r. ⌜ (r ≡ outsIn (view (now (s .entry))) g) × (r ≤ 7) ⌝ }
+{
+    let d = 8 + 4 * buffer::wide(g);
+    let c = 24 + 3 * buffer::wide(g);
+    group::outs(&s[d..d + 4], &s[c..c + 3])
+}
+
+// Each check unit in service of u's group follows, at rank r, the new key and the change of body of the record there.
+fn follow_checks(s: &mut [u8], u: u8, r: u8, key: &[u8], change: &[u8], table: &[u8; 256])
+    requires { ⌜ SlotIn (now s) u r × (length (now key) ≡ 4) × (length (now change) ≡ 16) × (now table ≡ products) ⌝ }
+    ensures { λ _. ⌜ now (s .exit) ≡ bytes (withChecks (view (now (s .entry))) (followed 3 (view (now (s .entry))) u r (now (key .entry)) (now (change .entry)))) ⌝ }
+{
+    let b = s[5];
+    let place = u % 4;
+    let first = 3 * (u / 4);
+    let mut j: u8 = 0;
+    while j < 3 {
+        let c = first + j;
+        if s[24 + buffer::wide(c)] == 1 {
+            let at = lookup::check_at(b, c, r);
+            group::follow(&mut s[at..at + 32], j, place, key, change, table);
+        }
+        j += 1;
+    }
+}
+
+// The sum of two bodies, which is the change from one to the other.
+fn change_of(old: &[u8], new: &[u8]) -> [u8; 16]
+    requires { ⌜ (length (now old) ≡ 16) × (length (now new) ≡ 16) ⌝ }
+    ensures { λ r. ⌜ r ≡ addBody (now (old .entry)) (now (new .entry)) ⌝ }
+{
+    let mut change = [0u8; 16];
+    buffer::copy(&mut change, old);
+    group::add(&mut change, new);
+    change
+}
+
+// Slot r of unit u becomes these bytes, and each check unit in service of its group follows.
+pub fn write_slot(s: &mut [u8], u: u8, r: u8, slot: &[u8], table: &[u8; 256])
+    requires { ⌜ SlotIn (now s) u r × (length (now slot) ≡ 20) × (now table ≡ products) ⌝ }
+    ensures { λ _. ⌜ now (s .exit) ≡ bytes (written (view (now (s .entry))) u r (now (slot .entry))) ⌝ }
+{
+    let at = lookup::slot_at(s[5], u, r);
+    let change = change_of(&s[at + 4..at + 20], &slot[4..20]);
+    follow_checks(s, u, r, &slot[0..4], &change, table);
+    buffer::copy(&mut s[at..at + 20], slot);
+}
+
+// The record of rank last moves into rank r of unit u, and its own slot becomes empty.
+pub fn erase_at(s: &mut [u8], u: u8, r: u8, last: u8, table: &[u8; 256])
+    requires { ⌜ SlotIn (now s) u r × SlotIn (now s) u last × (now table ≡ products) ⌝ }
+    ensures { λ _. ⌜ now (s .exit) ≡ bytes (erased (view (now (s .entry))) u r last) ⌝ }
+{
+    let from = lookup::slot_at(s[5], u, last);
+    let mut held = [0u8; 20];
+    buffer::copy(&mut held, &s[from..from + 20]);
+    write_slot(s, u, r, &held, table);
+    let empty = [0u8; 20];
+    write_slot(s, u, last, &empty, table);
+}
+
+// A slot becomes a key and a body.
+fn put_record(slot: &mut [u8], key: u32, body: &[u8])
+    requires { ⌜ (length (now slot) ≡ 20) × (length (now body) ≡ 16) ⌝ }
+    ensures { λ _. ⌜ now (slot .exit) ≡ slotOf key (now (body .entry)) ⌝ }
+{
+    buffer::put32(&mut slot[0..4], key);
+    buffer::copy(&mut slot[4..20], body);
+}
+
+// The bytes of a slot with a key and a body.
+fn slot_of(key: u32, body: &[u8]) -> [u8; 20]
+    requires { ⌜ length (now body) ≡ 16 ⌝ }
+    ensures { λ r. ⌜ r ≡ slotOf key (now (body .entry)) ⌝ }
+{
+    let mut slot = [0u8; 20];
+    put_record(&mut slot, key, body);
+    slot
+}
+
+// The bytes of data unit u become zero, and its state 2.
+fn clear_data(s: &mut [u8], u: u8)
+    requires { ⌜ Long (now s) × (u < 16) ⌝ }
+    ensures { λ _. ⌜ now (s .exit) ≡ bytes (unitLost (view (now (s .entry))) u) ⌝ }
+{
+    let b = s[5];
+    let from = lookup::slot_at(b, u, 0);
+    let to = lookup::slot_at(b, u + 1, 0);
+    buffer::clear(&mut s[from..to]);
+    s[8 + buffer::wide(u)] = 2;
+}
+
+// The bytes of check unit c become zero, and its state 2.
+fn clear_check(s: &mut [u8], c: u8)
+    requires { ⌜ Long (now s) × (c < 12) ⌝ }
+    ensures { λ _. ⌜ now (s .exit) ≡ bytes (unitLost (view (now (s .entry))) (16 + c)) ⌝ }
+{
+    let b = s[5];
+    let from = lookup::check_at(b, c, 0);
+    let to = lookup::check_at(b, c + 1, 0);
+    buffer::clear(&mut s[from..to]);
+    s[24 + buffer::wide(c)] = 2;
+}
+
+// The bytes of unit w become zero, and its state 2: 0 to 15 data, 16 + 3g + j check.
+pub fn clear_unit(s: &mut [u8], w: u8)
+    requires { ⌜ Long (now s) × (w < 28) ⌝ }
+    ensures { λ _. ⌜ now (s .exit) ≡ bytes (unitLost (view (now (s .entry))) w) ⌝ }
+{
+    if w < 16 {
+        clear_data(s, w);
+    } else {
+        clear_check(s, w - 16);
+    }
+}
+
+// Where a key belongs: its unit, how many records that unit has, and the key's rank among them.
+struct Home {
+    unit: u8,
+    fill: u8,
+    rank: u8,
+}
+
+fn home_of(s: &[u8], key: u32) -> Home
+    requires { ⌜ Sized (now s) ⌝ }
+    ensures { λ h. ⌜ Homed (now (s .entry)) key (h .unit) (h .fill) (h .rank) ⌝ }
+{
+    let unit = lookup::unit_of(buffer::byte_at(s, 6), key);
+    let fill = lookup::fill(s, unit);
+    let rank = lookup::rank(s, unit, fill, key);
+    Home { unit, fill, rank }
+}
+
+// The number of a teach, for a store that is sound or not.
+fn teach_number(s: &[u8], ok: bool, key: u32, body: &[u8]) -> u8
+    requires { ⌜ (ok ≡ true → Sized (now s)) ⌝ }
+    ensures { λ r. ⌜ r ≡ firstOf (refusalsIn ok (view (now (s .entry))) (Call.teach key (now (body .entry)))) ⌝ }
+{
+    let no_key = key == 0;
+    if no_key {
+        return 2;
+    }
+    let misfit = body.len() != 16;
+    if misfit {
+        return 2;
+    }
+    if !ok {
+        return 1;
+    }
+    let home = home_of(s, key);
+    let out = 0 < outs(s, home.unit / 4);
+    if out {
+        return 4;
+    }
+    let known = home.rank < home.fill;
+    if known {
+        return 5;
+    }
+    let full = buffer::byte_at(s, 5) <= home.fill;
+    if full {
+        return 7;
+    }
+    0
+}
+
+// The number of a correct.
+fn correct_number(s: &[u8], ok: bool, key: u32, body: &[u8]) -> u8
+    requires { ⌜ (ok ≡ true → Sized (now s)) ⌝ }
+    ensures { λ r. ⌜ r ≡ firstOf (refusalsIn ok (view (now (s .entry))) (Call.correct key (now (body .entry)))) ⌝ }
+{
+    let no_key = key == 0;
+    if no_key {
+        return 2;
+    }
+    let misfit = body.len() != 16;
+    if misfit {
+        return 2;
+    }
+    if !ok {
+        return 1;
+    }
+    let home = home_of(s, key);
+    let out = 0 < outs(s, home.unit / 4);
+    if out {
+        return 4;
+    }
+    let missing = home.fill <= home.rank;
+    if missing {
+        return 6;
+    }
+    0
+}
+
+// The number of an erase.
+fn erase_number(s: &[u8], ok: bool, key: u32) -> u8
+    requires { ⌜ (ok ≡ true → Sized (now s)) ⌝ }
+    ensures { λ r. ⌜ r ≡ firstOf (refusalsIn ok (view (now (s .entry))) (Call.erase key)) ⌝ }
+{
+    let no_key = key == 0;
+    if no_key {
+        return 2;
+    }
+    if !ok {
+        return 1;
+    }
+    let home = home_of(s, key);
+    let out = 0 < outs(s, home.unit / 4);
+    if out {
+        return 4;
+    }
+    let missing = home.fill <= home.rank;
+    if missing {
+        return 6;
+    }
+    0
+}
+
+// The number of a unit out.
+fn out_number(s: &[u8], ok: bool, unit: u32) -> u8
+    ensures { λ r. ⌜ r ≡ firstOf (refusalsIn ok (view (now (s .entry))) (Call.unitOut unit)) ⌝ }
+{
+    let above = 27 < unit;
+    if above {
+        return 2;
+    }
+    if !ok {
+        return 1;
+    }
+    let state = lookup::state(s, unit as u8);
+    let absent = state == 0;
+    if absent {
+        return 3;
+    }
+    let out = state == 2;
+    if out {
+        return 4;
+    }
+    0
+}
+
+// Teaches a new key.
+pub fn teach(s: &mut [u8], key: u32, body: &[u8]) -> u8
+    ensures { λ r. ⌜ outcome (plain r) (now (s .exit)) ≡ perform (now (s .entry)) (Call.teach key (now (body .entry))) ⌝ }
+{
+    let ok = soundness::is_sound(s);
+    let number = teach_number(s, ok, key, body);
+    if number != 0 {
+        return number;
+    }
+    let home = home_of(s, key);
+    let slot = slot_of(key, body);
+    let table = field::table();
+    write_slot(s, home.unit, home.fill, &slot, &table);
+    0
+}
+
+// Gives a key a new body.
+pub fn correct(s: &mut [u8], key: u32, body: &[u8]) -> u8
+    ensures { λ r. ⌜ outcome (plain r) (now (s .exit)) ≡ perform (now (s .entry)) (Call.correct key (now (body .entry))) ⌝ }
+{
+    let ok = soundness::is_sound(s);
+    let number = correct_number(s, ok, key, body);
+    if number != 0 {
+        return number;
+    }
+    let home = home_of(s, key);
+    let slot = slot_of(key, body);
+    let table = field::table();
+    write_slot(s, home.unit, home.rank, &slot, &table);
+    0
+}
+
+// Erases a key: the last record of its unit takes the freed rank.
+pub fn erase(s: &mut [u8], key: u32) -> u8
+    ensures { λ r. ⌜ outcome (plain r) (now (s .exit)) ≡ perform (now (s .entry)) (Call.erase key) ⌝ }
+{
+    let ok = soundness::is_sound(s);
+    let number = erase_number(s, ok, key);
+    if number != 0 {
+        return number;
+    }
+    let home = home_of(s, key);
+    let table = field::table();
+    erase_at(s, home.unit, home.rank, home.fill - 1, &table);
+    0
+}
+
+// A unit is lost: its bytes become zero, and it is out.
+pub fn unit_out(s: &mut [u8], unit: u32) -> u8
+    ensures { λ r. ⌜ outcome (plain r) (now (s .exit)) ≡ perform (now (s .entry)) (Call.unitOut unit) ⌝ }
+{
+    let ok = soundness::is_sound(s);
+    let number = out_number(s, ok, unit);
+    if number != 0 {
+        return number;
+    }
+    clear_unit(s, unit as u8);
+    0
+}
