@@ -2,7 +2,7 @@
 -- A reader wants `value-times`, the value of the product, and `divided`: a polynomial that vanishes at a point is such a product.
 use mathlib.Core.Path.{_≡_, refl, sym, ap, ap₂, _∙_}
 use mathlib.Core.List.{List, [], _∷_}
-use Prim.Native.Nat.{ℕ, suc}
+use Prim.Native.Nat.{suc}
 use lib.ListN.{length}
 use Rattle.algebra.specs.FieldLaws as fld
 use Rattle.algebra.specs.Field.{Field}

@@ -56,9 +56,6 @@ module _ (F : Field) where
   pub mul-ne-zero : (a b : A) → (a ≡ 𝟘 → ⊥) → (b ≡ 𝟘 → ⊥) → a ⊗ b ≡ 𝟘 → ⊥
   mul-ne-zero a b ha hb e = hb (factor-zero a b ha e)
 
-  pub inv-mul : (a : A) → (a ≡ 𝟘 → ⊥) → inv a ⊗ a ≡ 𝟙
-  inv-mul a h = mul-comm (inv a) a ∙ mul-inv a h
-
   -- the middle two of four terms, or factors, change places
   pub add-swap : (a b c d : A) → a ⊕ b ⊕ (c ⊕ d) ≡ a ⊕ c ⊕ (b ⊕ d)
   add-swap a b c d =

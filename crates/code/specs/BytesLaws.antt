@@ -1,19 +1,17 @@
--- Rebuilding bytes and keeping check bytes up to date, both halves together. A reader wants `rebuilt-bytes-have` (the rebuilt bytes have the given bytes
+-- Rebuilding bytes, both halves together. A reader wants `rebuilt-bytes-have` (the rebuilt bytes have the given bytes
 -- at the columns), `bytes-fixed` (four different columns fix four bytes), `bytes-back` and `byte-back` (rebuilding what was encoded gives the data,
--- all four or one place), `encode-data` (columns 0 to 3 are the data), `encode-change` (a change of one byte adds the change times the coefficient).
+-- all four or one place), `encode-data` (columns 0 to 3 are the data).
 use mathlib.Core.Path.{_≡_, refl, ap, ap₂, _∙_, sym}
 use mathlib.Core.Bool.{true}
 use mathlib.Core.List.{List, [], _∷_, map}
-use Prim.Native.Nat.{ℕ, zero, suc, _+_, _*_, _/_, _%_, _≤_, _<_}
-use native.Mathlib.Nat.{div-add-mod', le-of-suc-le-suc, not-suc-le-zero}
+use Prim.Native.Nat.{ℕ, _+_, _*_, _/_, _%_, _≤_, _<_}
+use native.Mathlib.Nat.{div-add-mod', le-of-suc-le-suc}
 use native.Mathlib.Omega.{arith}
-use lib.Bits.{bitXor, xor-comm, xor-self, xor-zero-l, xor-zero-r}
+use lib.Bits.{xor-zero-l, xor-zero-r}
 use lib.Dec.{lit<}
-use lib.ListN.{length, getD, set, length-map}
+use lib.ListN.{length, getD, length-map}
 use Rattle.algebra.specs.Polynomial.{All}
-use Rattle.algebra.specs.Xor.{xor-assoc}
-use Rattle.field.specs.Byte.{scale}
-use Rattle.field.specs.ByteLaws.{scale-add, scale-one, scale-zero}
+use Rattle.field.specs.ByteLaws.{scale-one, scale-zero}
 use Rattle.code.specs.Matrix.{matrix, entry, column, encode, within, different}
 use Rattle.code.specs.MatrixLaws.{column-within}
 use Rattle.code.specs.Lists.{four, all-four, each-four, within-head, within-tail, within-at, within-four, within-map, getD-map}
@@ -122,27 +120,3 @@ encode-data =
     (simp (scale-one b (at (a ∷ b ∷ c ∷ d ∷ []) refl v 1 (lit< tt)), scale-zero, xor-zero-l, xor-zero-r))
     (simp (scale-one c (at (a ∷ b ∷ c ∷ d ∷ []) refl v 2 (lit< tt)), scale-zero, xor-zero-l, xor-zero-r))
     (simp (scale-one d (at (a ∷ b ∷ c ∷ d ∷ []) refl v 3 (lit< tt)), scale-zero, xor-zero-l, xor-zero-r)))
-
--- ---- a change of one byte adds the change times its weight
-cancel : (a b m : ℕ) → bitXor b m ≡ bitXor (bitXor a m) (bitXor a b)
-cancel a b m =
-    sym (ap (λ (x : ℕ). bitXor x (bitXor a b)) (xor-comm a m) ∙ xor-assoc m a (bitXor a b)
-    ∙ ap (bitXor m) (sym (xor-assoc a a b) ∙ ap (λ (x : ℕ). bitXor x b) (xor-self a)) ∙ xor-comm m b)
-
-pub mixed-set : (ws ys : List ℕ) → within 15 ws ≡ true → (i v : ℕ) → i < length ws → i < length ys
-    → mixed ws (set ys i v) ≡ bitXor (mixed ws ys) (scale (getD ws i 0) (bitXor (getD ys i 0) v))
-mixed-set [] ys h i v k l = absurd (not-suc-le-zero k)
-mixed-set (w ∷ ws) [] h i v k l = absurd (not-suc-le-zero l)
-mixed-set (w ∷ ws) (y ∷ ys) h zero v k l =
-    cancel (scale w y) (scale w v) (mixed ws ys)
-    ∙ ap (bitXor (bitXor (scale w y) (mixed ws ys))) (sym (scale-add w y v (omega (arith, within-head 15 w ws h))))
-mixed-set (w ∷ ws) (y ∷ ys) h (suc i) v k l =
-    ap (bitXor (scale w y)) (mixed-set ws ys (within-tail 15 w ws h) i v (le-of-suc-le-suc k) (le-of-suc-le-suc l))
-    ∙ sym (xor-assoc (scale w y) (mixed ws ys) (scale (getD ws i 0) (bitXor (getD ys i 0) v)))
-
-pub encode-change : (ds : List ℕ) → length ds ≡ 4 → (c : ℕ) → c < 17 → (q v : ℕ) → q < 4
-    → encode-bytes (set ds q v) c ≡ bitXor (encode-bytes ds c) (scale (entry q c) (bitXor (getD ds q 0) v))
-encode-change ds l c h q v k =
-    mixed-set (column c) ds (column-within c h) q v k (omega arith)
-    ∙ ap (λ (w : ℕ). bitXor (encode-bytes ds c) (scale w (bitXor (getD ds q 0) v)))
-    (each-four (λ p. getD (column c) p 0 ≡ entry p c) refl refl refl refl q k)

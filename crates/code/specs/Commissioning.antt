@@ -1,6 +1,6 @@
 -- Document 01, commissioning values 1 to 4, of the definitions: the first rows of the table `Commissioned`, and `commissioned`, the theorem that they hold.
 use mathlib.Core.Path.{_≡_, refl, sym}
-use mathlib.Core.List.{List, [], _∷_}
+use mathlib.Core.List.{[], _∷_}
 use Prim.Native.Nat.{ℕ, _<_}
 use lib.ListN.{getD}
 use Rattle.algebra.specs.Every.{values, yes-true}

@@ -67,7 +67,7 @@ short n h e = omega arith
 pub long : (n : ℕ) → suc (suc (suc (suc (suc n)))) ≡ 4 → ⊥
 long n e = omega arith
 
-pub past : (j : ℕ) → suc (suc (suc (suc j))) < 4 → ⊥
+past : (j : ℕ) → suc (suc (suc (suc j))) < 4 → ⊥
 past j h = omega arith
 
 abbrev pub four {ℓ} : {X : Type 0} (P : List X → Type ℓ) → ((a b c d : X) → P (a ∷ b ∷ c ∷ d ∷ [])) → (l : List X) → length l ≡ 4 → P l

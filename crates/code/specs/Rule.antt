@@ -1,7 +1,7 @@
 -- The interpolation rule of the matrix, shown for all seventeen columns at once: each entry is Lagrange's weight of its place at its column, by one
 -- computed test. A reader wants `rule`: of the values of any cubic at 0 to 3 the symbol at column c is the cubic's value at c, at column 16 its leading
 -- coefficient; and `cubic`: such a cubic exists for any four data symbols.
-use mathlib.Core.Path.{_≡_, refl, ap, ap₂, _∙_, sym}
+use mathlib.Core.Path.{_≡_, refl, ap, _∙_, sym}
 use mathlib.Core.List.{List, [], _∷_, map}
 use Prim.Native.Nat.{ℕ, zero, suc, _<_}
 use lib.Bits.{bitXor}

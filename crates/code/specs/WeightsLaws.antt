@@ -1,22 +1,20 @@
--- What the weights of four columns are, and that they rebuild. A reader wants `rebuilt-has`: for any four symbols at four different columns, wrong ones
+-- The weights of four columns are symbols, and they rebuild. A reader wants `rebuilt-has`: for any four symbols at four different columns, wrong ones
 -- too, the data that the weights give have these symbols there.
 use mathlib.Core.Path.{_≡_, refl, ap, _∙_, sym, subst}
-use mathlib.Core.Bool.{Bool, true, false}
+use mathlib.Core.Bool.{true}
 use mathlib.Core.List.{List, [], _∷_, map}
 use Prim.Native.Nat.{ℕ, _≤_, _<_}
 use native.Mathlib.Nat.{le-of-suc-le-suc}
 use native.Mathlib.Omega.{arith}
-use lib.Bits.{bitXor, xor-lt}
-use lib.Dec.{T, lit<, ltb, eqb, eqb→eq}
+use lib.Bits.{xor-lt}
+use lib.Dec.{lit<}
 use lib.ListN.{length, getD}
-use borrow.Author.Tests.{lt-ltb, le-ltb}
-use Rattle.algebra.specs.Every.{every, every-at}
-use Rattle.algebra.specs.BinaryLaws.{bound, one}
+use Rattle.algebra.specs.BinaryLaws.{bound}
 use Rattle.algebra.specs.BinaryField.{below}
 use Rattle.algebra.specs.Polynomial.{Point, fin}
-use Rattle.algebra.specs.Lagrange.{gap, gaps, weight, lagrange, Takes}
+use Rattle.algebra.specs.Lagrange.{weight, lagrange, Takes}
 use Rattle.algebra.specs.Interpolation.{rebuilt}
-use Rattle.field.specs.Gf16.{product, inverse}
+use Rattle.field.specs.Gf16.{product}
 use Rattle.field.specs.Gf16Laws.{Symbol, gf16, tested}
 use Rattle.code.specs.Matrix.{encode, within, different}
 use Rattle.code.specs.Lists.{four, each-four, within-head, within-tail, within-four}
@@ -24,41 +22,7 @@ use Rattle.code.specs.Symbols.{numbers, symbol}
 use Rattle.code.specs.Point.{point, places}
 use Rattle.code.specs.PointLaws.{distinct-points, distinct-places}
 use Rattle.code.specs.Rule.{encode-is}
-use Rattle.code.specs.Weights.{gapOf, gapsOf, weightOf, weightsOf, combination, data-of}
-
--- ---- step by step
--- a difference is the sum of the columns, or 1 where that leaves the field, one of them being 16: a computed test of all pairs of columns
-abbrev or-one : Bool → ℕ → ℕ
-or-one true d = d
-or-one false d = 1
-
-gap-all : T (every 17 (λ a. every 17 (λ b. eqb (gapOf a b) (or-one (ltb (bitXor a b) 16) (bitXor a b)))))
-unfolding every gapOf point
-gap-all = tt
-
-gap-is : (a b : ℕ) → a ≤ 16 → b ≤ 16 → gapOf a b ≡ or-one (ltb (bitXor a b) 16) (bitXor a b)
-gap-is a b ha hb =
-    eqb→eq (gapOf a b) (or-one (ltb (bitXor a b) 16) (bitXor a b))
-    (every-at 17 (λ y. eqb (gapOf a y) (or-one (ltb (bitXor a y) 16) (bitXor a y)))
-    (every-at 17 (λ x. every 17 (λ y. eqb (gapOf x y) (or-one (ltb (bitXor x y) 16) (bitXor x y)))) gap-all a (omega arith)) b (omega arith))
-
-pub gap-low : (a b : ℕ) → a ≤ 16 → b ≤ 16 → bitXor a b < 16 → gapOf a b ≡ bitXor a b
-gap-low a b ha hb h = gap-is a b ha hb ∙ ap (λ (t : Bool). or-one t (bitXor a b)) (lt-ltb (bitXor a b) 16 h)
-
-pub gap-one : (a b : ℕ) → a ≤ 16 → b ≤ 16 → 16 ≤ bitXor a b → gapOf a b ≡ 1
-gap-one a b ha hb h = gap-is a b ha hb ∙ ap (λ (t : Bool). or-one t (bitXor a b)) (le-ltb (bitXor a b) 16 h)
-
-gap-bound : (a b : ℕ) → gapOf a b < 16
-unfolding gapOf
-gap-bound a b = below 4 (gap gf16 (point a) (point b))
-
-pub gaps-are : (q a b c : ℕ) → product (gapOf q a) (product (gapOf q b) (gapOf q c)) ≡ gapsOf q a b c
-unfolding gapOf gapsOf
-gaps-are q a b c = ap (λ (n : ℕ). product (gapOf q a) (product (gapOf q b) n)) (sym (one tested (gapOf q c) (gap-bound q c)))
-
-pub weight-is : (a b c p q : ℕ) → product (gapsOf q a b c) (inverse (gapsOf p a b c)) ≡ weightOf a b c p q
-unfolding gapsOf weightOf
-weight-is a b c p q = refl
+use Rattle.code.specs.Weights.{weightOf, weightsOf, combination, data-of}
 
 -- ---- weights and sums of products are symbols
 weight-bound : (a b c p q : ℕ) → weightOf a b c p q ≤ 15

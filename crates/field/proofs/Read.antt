@@ -4,7 +4,7 @@ use mathlib.Core.List.{List}
 use Prim.Native.Nat.{ℕ, _+_, _*_, _<_}
 use native.Mathlib.Omega.{arith}
 use lib.ListN.{getD}
-use Rattle.algebra.specs.Every.{values, values-at}
+use Rattle.algebra.specs.Every.{values-at}
 use Rattle.algebra.specs.BinaryLaws.{bound}
 use Rattle.field.specs.Gf16.{product}
 use Rattle.field.specs.Gf16Laws.{tested}

@@ -1,6 +1,5 @@
 -- GF(16) is a field. `tested` is the computed test of its width, modulus and inverses; with it every law of algebra's BinaryLaws is cited as it stands,
 -- as `comm tested a b ha hb`. `gf16` is the field itself, over the symbols `Symbol`.
-use Prim.Native.Nat.{ℕ}
 use Rattle.algebra.specs.Field.{Field}
 use Rattle.algebra.specs.Every.{every}
 use Rattle.algebra.specs.Binary.{times, remainder, productIn, inverseIn, squares, Tested}

@@ -4,3 +4,5 @@ pub mod Table
 pub mod Answers
 pub mod Runs
 pub mod Claims
+pub mod Commissioning
+pub mod StaysSound

@@ -2,21 +2,21 @@
 -- Assumes nothing.
 use Prim.Native.Nat.{ℕ, suc, _+_, _*_, _-_, _/_, _%_, _≤_, _<_}
 use mathlib.Core.Path.{_≡_, refl, sym, ap, ap₂, _∙_}
-use mathlib.Core.Bool.{Bool, true, false, not}
+use mathlib.Core.Bool.{Bool, true, false, not, _&&_}
 use mathlib.Core.List.{List}
 use native.Mathlib.Omega.{arith}
 use lib.Dec.{eqb, ltb}
-use borrow.Author.Tests.{eq-eqb, ltb-true, ltb-false}
+use borrow.Author.Tests.{eq-eqb, lt-ltb, ltb-true, ltb-false}
 use Rattle.buffer.specs.Choice.{pick}
 use Rattle.buffer.specs.ChoiceLaws.{by-pick, pick-ext}
 use Rattle.buffer.specs.Range.{first, count}
-use Rattle.buffer.specs.RangeLaws.{first-ext, first-found, count-ext, count-pos, count-not, count-append}
+use Rattle.buffer.specs.RangeLaws.{first-ext, first-found, count-ext, count-pos, count-fails, count-zero, count-not, count-append}
 use Rattle.buffer.specs.Bytes.{byte, part}
 use Rattle.buffer.specs.ByteLaws.{byte-part}
 use Rattle.group.specs.Members.{outs, checks, beyond, serves, next, firstFour}
 use Rattle.group.specs.MembersLaws.{Members, serves-data, serves-check, enough, first-four}
 use Rattle.model.specs.Layout.{view}
-use Rattle.model.specs.Reads.{outsIn, beyondIn, servesIn, keeper}
+use Rattle.model.specs.Reads.{outsIn, beyondIn, servesIn, keeper, lostIn}
 use Rattle.lookup.specs.Sized.{Sized}
 use Rattle.lookup.specs.Keys.{Known}
 
@@ -118,3 +118,20 @@ pub record Whole (s : List ℕ) : Type 0 where
 
 pub whole-unit : {s : List ℕ} → Whole s → (u : ℕ) → u < 16 → Recoverable s u
 whole-unit h u l = record { sized = h .sized; unit = l; whole = h .units u l }
+
+-- ---- a data unit out in a group beyond recovery
+module _ (s : List ℕ) where
+  pub lost-some : (u : ℕ) → u < 16 → (eqb (view s .dstate u) 2 && beyondIn (view s) (u / 4)) ≡ true → true ≡ lostIn (view s)
+  unfolding lostIn
+  lost-some u l e = sym (lt-ltb 0 _ (count-pos 16 (λ u. eqb (view s .dstate u) 2 && beyondIn (view s) (u / 4)) u l e))
+
+  pub lost-none : ((u : ℕ) → u < 16 → (eqb (view s .dstate u) 2 && beyondIn (view s) (u / 4)) ≡ false) → false ≡ lostIn (view s)
+  unfolding lostIn
+  lost-none h = rw (count-fails 16 (λ u. eqb (view s .dstate u) 2 && beyondIn (view s) (u / 4)) h)
+
+  pub none-lost : lostIn (view s) ≡ false → (u : ℕ) → u < 16 → (eqb (view s .dstate u) 2 && beyondIn (view s) (u / 4)) ≡ false
+  unfolding lostIn
+  none-lost e u l =
+      let f : ℕ → Bool = λ u. eqb (view s .dstate u) 2 && beyondIn (view s) (u / 4) in
+      let z : count 16 f ≤ 0 = ltb-false 0 (count 16 f) e in
+      count-zero 16 f (omega arith) u l

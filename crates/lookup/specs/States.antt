@@ -1,12 +1,12 @@
 -- The states of units, as the bytes of a store show them. Assumes nothing.
-use Prim.Native.Nat.{ℕ, _+_, _*_, _-_}
+use Prim.Native.Nat.{ℕ, _+_, _*_, _-_, _<_}
 use mathlib.Core.Path.{_≡_, refl, sym, ap, _∙_}
 use mathlib.Core.Bool.{Bool}
 use mathlib.Core.List.{List}
 use native.Mathlib.Omega.{arith}
 use lib.Dec.{eqb, ltb}
-use borrow.Author.Tests.{ltb-false}
-use Rattle.buffer.specs.ChoiceLaws.{by-pick}
+use borrow.Author.Tests.{lt-ltb, ltb-false}
+use Rattle.buffer.specs.ChoiceLaws.{by-pick, pick-true}
 use Rattle.buffer.specs.Range.{first}
 use Rattle.buffer.specs.Bytes.{byte}
 use Rattle.model.specs.Layout.{view}
@@ -28,9 +28,9 @@ state-byte s w =
     (λ e. refl)
     (λ e. let e16 = ltb-false w 16 e in ap (λ i. byte s i) (omega arith))
 
-pub data-state : (s : List ℕ) (u : ℕ) → byte s (8 + u) ≡ view s .dstate u
-unfolding view
-data-state s u = refl
+pub state-data : (s : List ℕ) (u : ℕ) → u < 16 → stateIn (view s) u ≡ view s .dstate u
+unfolding stateIn
+state-data s u l = pick-true (lt-ltb u 16 l) _ _
 
 -- the first check unit in service
 abbrev pub inService : List ℕ → ℕ → ℕ → Bool

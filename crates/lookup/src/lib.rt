@@ -3,12 +3,22 @@ ghost use mathlib.Core.Path.{_≡_};
 ghost use Prim.Native.Nat.{_+_, _*_, _≤_, _<_};
 ghost use Rattle.model.specs.Units.{powerBelow, splitPointer, unitOf};
 ghost use Rattle.model.specs.Layout.{view, slotAt, checkAt, keyOf};
-ghost use Rattle.model.specs.Reads.{fillIn, stateIn, keeper, listedFill, listedRank};
+ghost use Rattle.model.specs.Reads.{fillIn, stateIn, outsIn, beyondIn, servesIn, holds, keeper, listedKey, listedFill, listedRank, wholeSlot, lostIn, totalIn};
 ghost use Rattle.lookup.specs.Sized.{Sized};
 ghost use Rattle.lookup.specs.Keys.{keyIn, Within, Known, Lists};
-ghost use Rattle.buffer.specs.Bytes.{byte};
+ghost use Rattle.lookup.specs.Groups.{Recoverable, Whole};
+ghost use Rattle.lookup.specs.Slots.{heldAt, Recipe};
+ghost use Rattle.buffer.specs.Bytes.{byte, part};
 ghost use Rattle.buffer.specs.Range.{first};
+ghost use Prim.Native.Nat.{ℕ, _/_};
+ghost use mathlib.Core.Bool.{true, _&&_};
 ghost use lib.Dec.{eqb};
+ghost use lib.ListN.{length, getD};
+ghost use Rattle.field.specs.Table.{products};
+ghost use Rattle.code.specs.Matrix.{within};
+ghost use Rattle.group.specs.Widths.{bodyBytes, slotBytes};
+ghost use Rattle.group.specs.Members.{firstFour};
+ghost use Rattle.group.specs.Rebuilding.{weighed};
 
 // The product of two bytes.
 fn product(a: u8, b: u8) -> usize
@@ -187,4 +197,198 @@ pub fn listed_rank(s: &[u8], u: u8, n: u8, key: u32) -> u8
 {
     let keys = keys_of(s, u);
     find(s, keys.base, keys.step, n, key)
+}
+
+// The states of the four data units of group g.
+fn data_states(s: &[u8], g: u8) -> &[u8]
+    requires { ⌜ Sized (now s) × (g < 4) ⌝ }
+    ensures { λ x. ⌜ now x ≡ part (8 + 4 * g) 4 (now (s .entry)) ⌝ }
+{
+    let at = 8 + 4 * buffer::wide(g);
+    &s[at..at + 4]
+}
+
+// The states of the three check units of group g.
+fn check_states(s: &[u8], g: u8) -> &[u8]
+    requires { ⌜ Sized (now s) × (g < 4) ⌝ }
+    ensures { λ x. ⌜ now x ≡ part (24 + 3 * g) 3 (now (s .entry)) ⌝ }
+{
+    let at = 24 + 3 * buffer::wide(g);
+    &s[at..at + 3]
+}
+
+// How many units of group g are out.
+pub fn outs(s: &[u8], g: u8) -> u8
+    requires { ⌜ Sized (now s) × (g < 4) ⌝ }
+    ensures { λ r. ⌜ (r ≡ outsIn (view (now (s .entry))) g) × (r ≤ 7) ⌝ }
+{
+    group::outs(data_states(s, g), check_states(s, g))
+}
+
+// Whether group g is beyond recovery: more units out than check units.
+pub fn beyond(s: &[u8], g: u8) -> bool
+    requires { ⌜ Sized (now s) × (g < 4) ⌝ }
+    ensures { λ r. ⌜ r ≡ beyondIn (view (now (s .entry))) g ⌝ }
+{
+    group::beyond_recovery(data_states(s, g), check_states(s, g))
+}
+
+// The first four members in service of group g.
+pub fn members(s: &[u8], g: u8) -> [u8; 4]
+    requires { ⌜ Sized (now s) × (g < 4) ⌝ }
+    ensures { λ r. ⌜ r ≡ firstFour (servesIn (view (now (s .entry))) g) ⌝ }
+{
+    group::first_four(data_states(s, g), check_states(s, g))
+}
+
+// Whether data unit u is out and its group beyond recovery.
+pub fn gone(s: &[u8], u: u8) -> bool
+    requires { ⌜ Sized (now s) × (u < 16) ⌝ }
+    ensures { λ r. ⌜ r ≡ (eqb (view (now (s .entry)) .dstate u) 2 && beyondIn (view (now (s .entry))) (u / 4)) ⌝ }
+{
+    if state(s, u) == 2 {
+        return beyond(s, u / 4);
+    }
+    false
+}
+
+// Whether a data unit is out in a group beyond recovery.
+pub fn lost(s: &[u8]) -> bool
+    requires { ⌜ Sized (now s) ⌝ }
+    ensures { λ r. ⌜ r ≡ lostIn (view (now (s .entry))) ⌝ }
+{
+    let mut u: u8 = 0;
+    while u < 16 {
+        if gone(s, u) {
+            return true;
+        }
+        u += 1;
+    }
+    false
+}
+
+// How many records a store has of which nothing is lost.
+pub fn total(s: &[u8]) -> usize
+    requires { ⌜ Whole (now s) ⌝ }
+    ensures { λ n. ⌜ (n ≡ totalIn (view (now (s .entry)))) × (n ≤ 1024) ⌝ }
+{
+    let mut n = 0;
+    let mut u: u8 = 0;
+    while u < 16 {
+        n += buffer::wide(listed_fill(s, u));
+        u += 1;
+    }
+    n
+}
+
+// The slot of rank r of data unit u.
+pub fn slot(s: &[u8], u: u8, r: u8) -> &[u8]
+    requires { ⌜ Sized (now s) × (u < 16) × (r < byte (now s) 5) ⌝ }
+    ensures { λ x. ⌜ now x ≡ view (now (s .entry)) .slot u r ⌝ }
+{
+    let at = slot_at(s[5], u, r);
+    &s[at..at + 20]
+}
+
+// The check record of rank r of check unit c.
+pub fn check(s: &[u8], c: u8, r: u8) -> &[u8]
+    requires { ⌜ Sized (now s) × (c < 12) × (r < byte (now s) 5) ⌝ }
+    ensures { λ x. ⌜ now x ≡ view (now (s .entry)) .check c r ⌝ }
+{
+    let at = check_at(s[5], c, r);
+    &s[at..at + 32]
+}
+
+// The key of rank r of data unit u, its own or for a unit that is out the one that a check unit lists.
+pub fn listed_key(s: &[u8], u: u8, r: u8) -> &[u8]
+    requires { ⌜ Known (now s) u × (r < byte (now s) 5) ⌝ }
+    ensures { λ x. ⌜ now x ≡ listedKey (view (now (s .entry))) u r ⌝ }
+{
+    let keys = keys_of(s, u);
+    let at = keys.base + keys.step * buffer::wide(r);
+    &s[at..at + 4]
+}
+
+// Where member m of group g holds the body or the parity of rank r.
+fn held_at(b: u8, g: u8, r: u8, m: u8) -> usize
+    requires { ⌜ (g < 4) × (m < 7) ⌝ }
+    ensures { λ at. ⌜ (at ≡ heldAt b g r m) × (at < 4000000) ⌝ }
+{
+    if m < 4 {
+        return slot_at(b, 4 * g + m, r) + 4;
+    }
+    check_at(b, 3 * g + (m - 4), r) + 16
+}
+
+// The body or the parity that member m of group g holds at rank r.
+pub fn held(s: &[u8], g: u8, r: u8, m: u8) -> &[u8]
+    requires { ⌜ Sized (now s) × (g < 4) × (r < byte (now s) 5) × (m < 7) ⌝ }
+    ensures { λ x. ⌜ now x ≡ holds (view (now (s .entry))) g r m ⌝ }
+{
+    let at = held_at(s[5], g, r, m);
+    &s[at..at + 16]
+}
+
+// The weights with which the slots of data unit u, which is out, are rebuilt from the first four members in service: the same for every rank.
+pub fn weights(s: &[u8], u: u8, members: [u8; 4], table: &[u8; 256]) -> [u8; 4]
+    requires { ⌜ Recoverable (now s) u × (byte (now s) (8 + u) ≡ 2) × (members ≡ firstFour (servesIn (view (now s)) (u / 4))) × (now table ≡ products) ⌝ }
+    ensures { λ r. ⌜ Recipe (now (s .entry)) u members r ⌝ }
+{
+    code::weights(table, members, u % 4)
+}
+
+// Rebuilds a body of rank r from what four members of group g hold, each times its weight.
+pub fn rebuild_body(
+    out: &mut [u8],
+    s: &[u8],
+    g: u8,
+    r: u8,
+    members: [u8; 4],
+    weights: [u8; 4],
+    table: &[u8; 256],
+)
+    requires { ⌜ (length (now out) ≡ bodyBytes) × Sized (now s) × (g < 4) × (r < byte (now s) 5) × ((i : ℕ) → i < 4 → getD members i 0 < 7) × (within 15 weights ≡ true) × (now table ≡ products) ⌝ }
+    ensures { λ _. ⌜ now (out .exit) ≡ weighed weights (λ i. holds (view (now (s .entry))) g r (getD members i 0)) ⌝ }
+{
+    let a = held(s, g, r, members[0]);
+    let b = held(s, g, r, members[1]);
+    let c = held(s, g, r, members[2]);
+    let d = held(s, g, r, members[3]);
+    group::rebuild_body(out, weights, a, b, c, d, table)
+}
+
+// Rebuilds the slot of rank r of data unit u, which is out; zeros where no key is listed.
+pub fn rebuild_slot(
+    out: &mut [u8],
+    s: &[u8],
+    u: u8,
+    r: u8,
+    members: [u8; 4],
+    weights: [u8; 4],
+    table: &[u8; 256],
+)
+    requires { ⌜ (length (now out) ≡ slotBytes) × Recipe (now s) u members weights × (r < byte (now s) 5) × (now table ≡ products) ⌝ }
+    ensures { λ _. ⌜ now (out .exit) ≡ wholeSlot (view (now (s .entry))) u r ⌝ }
+{
+    let key = listed_key(s, u, r);
+    if buffer::load32(key, 0) == 0 {
+        buffer::clear(out);
+    } else {
+        buffer::copy(&mut out[0..4], key);
+        rebuild_body(&mut out[4..20], s, u / 4, r, members, weights, table);
+    }
+}
+
+// The slot of rank r of data unit u, rebuilt where the unit is out.
+pub fn whole_slot(out: &mut [u8], s: &[u8], u: u8, r: u8, table: &[u8; 256])
+    requires { ⌜ (length (now out) ≡ slotBytes) × Recoverable (now s) u × (r < byte (now s) 5) × (now table ≡ products) ⌝ }
+    ensures { λ _. ⌜ now (out .exit) ≡ wholeSlot (view (now (s .entry))) u r ⌝ }
+{
+    if state(s, u) == 2 {
+        let members = members(s, u / 4);
+        let weights = weights(s, u, members, table);
+        rebuild_slot(out, s, u, r, members, weights, table);
+    } else {
+        buffer::copy(out, slot(s, u, r));
+    }
 }

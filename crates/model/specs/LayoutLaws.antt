@@ -5,7 +5,7 @@ use mathlib.Core.Path.{_≡_, refl, sym, ap, _∙_}
 use mathlib.Core.List.{List, [], _∷_, _++_}
 use native.Mathlib.Omega.{arith}
 use native.Mathlib.Nat.{le-refl, mul-le-mul-right, mul-le-mul-left, mul-zero, mul-suc}
-use lib.ListN.{length, take, drop, getD, length-append, take-append-drop}
+use lib.ListN.{length, take, drop, length-append, take-append-drop}
 use lib.Seq.{take-at, drop-cons, drop-drop, length-take-le, getD-take}
 use Rattle.buffer.specs.Bytes.{byte, part}
 use Rattle.buffer.specs.Table.{tab}
@@ -204,7 +204,7 @@ singles n x o h =
 abbrev pub Long : List ℕ → Type 0
 Long x = storeBytes (byte x 5) ≤ length x
 
-module _ (x : List ℕ) (long : storeBytes (byte x 5) ≤ length x) where
+module _ (x : List ℕ) (long : Long x) where
   pub bytes-view : bytes (view x) ≡ x
   unfolding bytes view
   bytes-view =

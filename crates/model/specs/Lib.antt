@@ -1,4 +1,5 @@
 pub mod Units
+pub mod UnitLaws
 pub mod Layout
 pub mod LayoutLaws
 pub mod RunLaws
@@ -6,7 +7,9 @@ pub mod StoreLaws
 pub mod Reads
 pub mod Sound
 pub mod Numbers
+pub mod RowLaws
 pub mod Changes
 pub mod Perform
 pub mod ChangeLaws
 pub mod PerformLaws
+pub mod Demand1

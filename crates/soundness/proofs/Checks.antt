@@ -1,26 +1,25 @@
 -- The test of one check unit says that it is zero, or lists the same keys as the first check unit in service of its group. Assumes nothing.
 use mathlib.Core.Path.{_≡_, refl, sym, ap, _∙_}
-use mathlib.Core.Bool.{Bool, true, false, _&&_, _||_}
+use mathlib.Core.Bool.{true, _&&_, _||_}
 use mathlib.Core.List.{List}
-use Prim.Native.Nat.{ℕ, zero, suc, _+_, _*_, _-_, _/_, _%_, _≤_, _<_}
+use Prim.Native.Nat.{ℕ, zero, _+_, _*_, _/_, _≤_, _<_}
 use native.Mathlib.Omega.{arith}
 use lib.Dec.{eqb}
 use lib.ListN.{length}
-use borrow.Author.Tests.{eqb-true, eqb-false, eq-eqb, ne-eqb}
+use borrow.Author.Tests.{eqb-true, eqb-false, eq-eqb}
 use Rattle.buffer.specs.Choice.{pick}
 use Rattle.buffer.specs.ChoiceLaws.{by-test}
 use Rattle.buffer.specs.TestLaws.{and-true, and-first, and-second}
-use Rattle.buffer.specs.Range.{all}
-use Rattle.buffer.specs.RangeLaws.{all-true, all-holds}
+use Rattle.buffer.specs.RangeLaws.{below-four, all-true, all-holds}
 use Rattle.buffer.specs.Bytes.{byte, be32, zeros}
-use Rattle.model.specs.Layout.{view, storeBytes, checkAt}
+use Rattle.model.specs.Layout.{view, checkAt}
 use Rattle.model.specs.Reads.{keeper}
 use Rattle.model.specs.Sound.{same}
 use Rattle.soundness.specs.Keys.{keyFrom, samePair, sameLists}
 use Rattle.soundness.specs.Pieces.{Ranged, zeroBetween, checkGood}
 use Rattle.soundness.proofs.Joined.{unless}
 use Rattle.soundness.proofs.Places.{row-within}
-use Rattle.soundness.proofs.Zeros.{Zero, zero-range, range-zero, check-zero, zero-checks}
+use Rattle.soundness.proofs.Zeros.{zero-range, range-zero, check-zero, zero-checks}
 
 -- the key at rank r that check unit c lists for place p of its group
 abbrev pub checkKey : List ℕ → ℕ → ℕ → ℕ → ℕ
@@ -29,13 +28,6 @@ checkKey s c p r = keyFrom s (checkAt (byte s 5) c 0 + 4 * p) 32 r
 pub record Check (s : List ℕ) (c : ℕ) : Type 0 where
   pub zero : (r : ℕ) → r < byte s 5 → (eqb (byte s (24 + c)) 1 || same (view s .check c r) (zeros 32)) ≡ true
   pub lists : byte s (24 + c) ≡ 1 → (r : ℕ) → r < byte s 5 → (p : ℕ) → p < 4 → checkKey s c p r ≡ checkKey s (keeper (view s) (c / 3)) p r
-
-four : (P : ℕ → Type 0) → P 0 → P 1 → P 2 → P 3 → (p : ℕ) → p < 4 → P p
-four P a b c d zero l = a
-four P a b c d (suc zero) l = b
-four P a b c d (suc (suc zero)) l = c
-four P a b c d (suc (suc (suc zero))) l = d
-four P a b c d (suc (suc (suc (suc p)))) l = absurd (omega arith)
 
 -- the four keys of each record, pair by pair
 module _ (s : List ℕ) (x y b : ℕ) where
@@ -53,7 +45,7 @@ module _ (s : List ℕ) (x y b : ℕ) where
       let c : be32 s (x + 32 * r + 8) ≡ be32 s (y + 32 * r + 8) = eqb-true _ _ (and-first (eqb (be32 s (x + 32 * r + 8)) (be32 s (y + 32 * r + 8))) _ two) in
       let d : be32 s (x + 32 * r + 8 + 4) ≡ be32 s (y + 32 * r + 8 + 4) =
       eqb-true _ _ (and-second (eqb (be32 s (x + 32 * r + 8)) (be32 s (y + 32 * r + 8))) _ two) in
-      four
+      below-four
       (λ p. be32 s (x + 4 * p + 32 * r) ≡ be32 s (y + 4 * p + 32 * r))
       (moved (x + 32 * r) (y + 32 * r) (x + 4 * 0 + 32 * r) (y + 4 * 0 + 32 * r) (omega arith) (omega arith) a)
       (moved (x + 32 * r + 4) (y + 32 * r + 4) (x + 4 * 1 + 32 * r) (y + 4 * 1 + 32 * r) (omega arith) (omega arith) b)

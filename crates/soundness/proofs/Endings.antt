@@ -1,20 +1,19 @@
 -- The ends of the tests of one unit: what each `return` says, from what the tests before it found. Assumes nothing.
-use mathlib.Core.Path.{_≡_, refl, sym, ap, ap₂, _∙_}
-use mathlib.Core.Bool.{Bool, true, false, _&&_, _||_}
+use mathlib.Core.Path.{_≡_, sym, ap, ap₂, _∙_}
+use mathlib.Core.Bool.{true, false}
 use mathlib.Core.List.{List}
-use Prim.Native.Nat.{ℕ, _+_, _*_, _-_, _/_, _%_, _≤_, _<_}
+use Prim.Native.Nat.{ℕ, _+_, _*_, _/_, _%_, _≤_}
 use native.Mathlib.Omega.{arith}
-use lib.Dec.{eqb, ltb, leb}
-use borrow.Author.Tests.{eq-eqb, ne-eqb, le-leb, lt-leb}
-use Rattle.buffer.specs.Choice.{pick}
+use lib.Dec.{eqb}
+use borrow.Author.Tests.{eq-eqb, ne-eqb}
 use Rattle.buffer.specs.ChoiceLaws.{by-pick}
-use Rattle.buffer.specs.Range.{all, first}
+use Rattle.buffer.specs.Range.{first}
 use Rattle.buffer.specs.RangeLaws.{first-le, first-le-at}
 use Rattle.buffer.specs.Bytes.{byte}
-use Rattle.model.specs.Layout.{view, slotAt, checkAt}
+use Rattle.model.specs.Layout.{view, slotAt}
 use Rattle.model.specs.Reads.{keeper}
-use Rattle.soundness.specs.Keys.{keyFrom, fillOf, reached, sameKeys, noKeys, sameLists}
-use Rattle.soundness.specs.Pieces.{zeroBetween, dataKeys, columnAt, columnKeys, unkept, dataFill, columnFill, served, lost, absent, checkGood}
+use Rattle.soundness.specs.Keys.{keyFrom, fillOf, reached, sameLists}
+use Rattle.soundness.specs.Pieces.{columnAt, unkept, dataFill, columnFill}
 use Rattle.soundness.proofs.Places.{data-list, column-list}
 
 -- where the keys are good they reach no further than the list

@@ -1,14 +1,14 @@
 -- What is asked of the keys of one list, as one test of each rank, is what the loop over the keys and the test behind them find. Assumes nothing.
 use mathlib.Core.Path.{_≡_, refl, sym, ap, _∙_}
-use mathlib.Core.Bool.{Bool, true, false, _&&_, _||_}
-use Prim.Native.Nat.{ℕ, _+_, _≤_, _<_}
+use mathlib.Core.Bool.{Bool, true, _||_}
+use Prim.Native.Nat.{ℕ, _≤_, _<_}
 use native.Mathlib.Omega.{arith}
 use lib.Dec.{eqb, ltb, leb}
 use borrow.Author.Tests.{eqb-true, eq-eqb, lt-ltb, le-ltb, le-leb, ltb-true, ltb-false}
 use Rattle.buffer.specs.Choice.{pick}
 use Rattle.buffer.specs.ChoiceLaws.{by-test, by-pick, pick-true, pick-false}
 use Rattle.buffer.specs.TestLaws.{not-both}
-use Rattle.buffer.specs.Range.{all, first}
+use Rattle.buffer.specs.Range.{all}
 use Rattle.buffer.specs.RangeLaws.{all-true, all-holds, first-le}
 use Rattle.soundness.specs.Keys.{fillOf, ownAndNew, reached, noKeys}
 
@@ -21,10 +21,7 @@ module _ (b m u : ℕ) (key : ℕ → ℕ) where
   unfolding fillOf
   fill-le = first-le b (λ r. eqb (key r) 0)
 
-  -- the keys before the first 0 are good
-  Front : Type 0
-  Front = all (fillOf b key) (ownAndNew m u key) ≡ true
-
+  -- where the keys before the first 0 are good the loop reaches them all, and nowhere else
   pub reached-fill : all (fillOf b key) (ownAndNew m u key) ≡ true → reached b m u key ≡ fillOf b key
   unfolding reached
   reached-fill h = pick-true h (fillOf b key) 65

@@ -1,6 +1,6 @@
 -- Linear hashing's rule by a mask: whether a key belongs to unit u of m is told by its low bits alone. Assumes nothing.
 use mathlib.Core.Path.{_≡_, refl, sym, ap, _∙_}
-use mathlib.Core.Bool.{Bool, true, false}
+use mathlib.Core.Bool.{false}
 use Prim.Native.Nat.{ℕ, _+_, _*_, _-_, _%_, _≤_, _<_}
 use native.Mathlib.Omega.{arith}
 use lib.Bits.{bitAnd, and-mask}
@@ -11,7 +11,7 @@ use Rattle.buffer.specs.ChoiceLaws.{by-test, by-pick}
 use Rattle.model.specs.Units.{powerBelow, splitPointer, unitOf}
 
 -- a proof for each power of two that may be the largest that is at most m
-pub by-power : (Q : ℕ → Type 0) (m : ℕ) → 1 ≤ m → m ≤ 16
+by-power : (Q : ℕ → Type 0) (m : ℕ) → 1 ≤ m → m ≤ 16
     → (m < 2 → Q 1) → (2 ≤ m → m < 4 → Q 2) → (4 ≤ m → m < 8 → Q 4) → (8 ≤ m → m < 16 → Q 8) → (m ≡ 16 → Q 16) → Q (powerBelow m)
 unfolding powerBelow
 by-power Q m lo hi q1 q2 q4 q8 q16 =
@@ -19,15 +19,6 @@ by-power Q m lo hi q1 q2 q4 q8 q16 =
     by-pick Q (ltb m 4) 2 (pick (ltb m 8) 4 (pick (ltb m 16) 8 16)) (λ f. q2 (ltb-false m 2 e) (ltb-true m 4 f)) (λ f.
     by-pick Q (ltb m 8) 4 (pick (ltb m 16) 8 16) (λ g. q4 (ltb-false m 4 f) (ltb-true m 8 g)) (λ g.
     by-pick Q (ltb m 16) 8 16 (λ h. q8 (ltb-false m 8 g) (ltb-true m 16 h)) (λ h. q16 (let l : 16 ≤ m = ltb-false m 16 h in omega arith)))))
-
-pub power-le : (m : ℕ) → 1 ≤ m → m ≤ 16 → powerBelow m ≤ m
-power-le m lo hi = by-power (λ p. p ≤ m) m lo hi (λ a. omega arith) (λ a b. omega arith) (λ a b. omega arith) (λ a b. omega arith) (λ a. omega arith)
-
-pub power-small : (m : ℕ) → 1 ≤ m → m ≤ 16 → powerBelow m ≤ 16
-power-small m lo hi = by-power (λ p. p ≤ 16) m lo hi (λ a. omega arith) (λ a b. omega arith) (λ a b. omega arith) (λ a b. omega arith) (λ a. omega arith)
-
-pub power-pos : (m : ℕ) → 1 ≤ m → m ≤ 16 → 1 ≤ powerBelow m
-power-pos m lo hi = by-power (λ p. 1 ≤ p) m lo hi (λ a. omega arith) (λ a b. omega arith) (λ a b. omega arith) (λ a b. omega arith) (λ a. omega arith)
 
 -- x and y are a key's remainders by p = 2^j and by 2p; u is a unit that was not split in this round
 lower : (x y p m u : ℕ) → x < p → ((y ≡ x → ⊥) → y ≡ x + p) → u < p → m - p ≤ u → eqb x u ≡ eqb (pick (ltb x (m - p)) y x) u

@@ -1,7 +1,7 @@
 -- What holds at each turn of the loop over the keys of a list: the keys before are not 0, belong to the unit and differ, and each has left the
 -- stamp at its place in the table. Assumes nothing.
-use mathlib.Core.Path.{_≡_, refl, sym, ap, _∙_}
-use mathlib.Core.Bool.{Bool, true, false, not, _&&_}
+use mathlib.Core.Path.{_≡_, sym, ap, _∙_}
+use mathlib.Core.Bool.{Bool, true, false, not}
 use mathlib.Core.List.{List}
 use Prim.Native.Nat.{ℕ, _+_, _≤_, _<_}
 use native.Mathlib.Nat.{not-suc-le-zero}
@@ -10,11 +10,11 @@ use lib.Dec.{eqb, ltb}
 use lib.ListN.{length, getD, set, length-set}
 use lib.Seq.{getD-set-same, getD-set-other}
 use borrow.Author.Count.{below-more}
-use borrow.Author.Tests.{eqb-true, eqb-false, ltb-true, ltb-false, eq-eqb, ne-eqb}
+use borrow.Author.Tests.{eqb-true, eqb-false, ltb-true, ltb-false, ne-eqb}
 use Rattle.buffer.specs.ChoiceLaws.{by-test, pick-true, pick-false}
 use Rattle.buffer.specs.TestLaws.{and-true, and-false-first, and-false-second, not-both}
 use Rattle.buffer.specs.Range.{all, first}
-use Rattle.buffer.specs.RangeLaws.{all-none, all-more, all-holds, all-fails, first-le, first-at, first-none, first-holds}
+use Rattle.buffer.specs.RangeLaws.{all-none, all-more, all-holds, all-fails, first-holds}
 use Rattle.buffer.specs.LoopTests.{Missing, missing-start, missing-turn, missing-found, missing-end}
 use Rattle.model.specs.Units.{unitOf}
 use Rattle.soundness.specs.Keys.{placeOf, fillOf, isNew, ownAndNew, reached}

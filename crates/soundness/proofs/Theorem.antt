@@ -2,21 +2,20 @@
 use mathlib.Core.Path.{_≡_, refl, sym, ap, ap₂, _∙_}
 use mathlib.Core.Bool.{Bool, true, false, not, _&&_, _||_}
 use mathlib.Core.List.{List}
-use Prim.Native.Nat.{ℕ, _+_, _*_, _-_, _/_, _%_, _≤_, _<_}
+use Prim.Native.Nat.{ℕ, _+_, _*_, _/_, _%_, _≤_, _<_}
 use native.Mathlib.Omega.{arith}
 use lib.Dec.{eqb, ltb, leb}
-use lib.ListN.{length, take}
+use lib.ListN.{length}
 use lib.Seq.{getD-take}
 use borrow.Author.Tests.{eqb-true, eqb-false, eq-eqb, ne-eqb, ltb-true, ltb-false, leb-true, not-false}
-use Rattle.buffer.specs.Choice.{pick}
 use Rattle.buffer.specs.ChoiceLaws.{by-test}
 use Rattle.buffer.specs.TestLaws.{and-true, and-first, and-second, and-ext, same-test}
 use Rattle.buffer.specs.Range.{all, first}
-use Rattle.buffer.specs.RangeLaws.{all-true, all-holds, all-ext, first-le, first-holds}
+use Rattle.buffer.specs.RangeLaws.{all-true, all-holds, first-le, first-holds}
 use Rattle.buffer.specs.Bytes.{byte, be32, part, zeros}
 use Rattle.model.specs.Layout.{view, version, storeBytes, keyOf, unitsIn, levelIn, checkAt}
 use Rattle.model.specs.Reads.{fillIn, keeper, listedKey, listedFill}
-use Rattle.model.specs.Sound.{same, ranges, unitsPlaced, groupsPlaced, checksIn, checksAllowed, zeroed, keysKnown, keysPlaced, listsAgree, sound}
+use Rattle.model.specs.Sound.{same, ranges, unitsPlaced, groupsPlaced, zeroed, keysKnown, keysPlaced, listsAgree, sound}
 use Rattle.soundness.specs.Keys.{keyFrom, fillOf, isNew, ownAndNew}
 use Rattle.soundness.specs.Pieces.{Ranged, placed, groupPlaced, columnAt, columnKeys, unkept, unitGood, checkGood, pieces}
 use Rattle.soundness.proofs.Joined.{second, unless, and-assoc}

@@ -2,21 +2,21 @@
 use mathlib.Core.Path.{_≡_, refl, sym, ap, _∙_}
 use mathlib.Core.Bool.{Bool, true, false, not, _&&_, _||_}
 use mathlib.Core.List.{List}
-use Prim.Native.Nat.{ℕ, _+_, _*_, _-_, _/_, _%_, _≤_, _<_}
+use Prim.Native.Nat.{ℕ, _+_, _*_, _/_, _≤_, _<_}
 use native.Mathlib.Omega.{arith}
 use lib.Dec.{eqb, ltb, leb}
 use lib.ListN.{length}
-use borrow.Author.Tests.{eqb-true, eqb-false, eq-eqb, ne-eqb, ltb-true, ltb-false, le-ltb, lt-ltb}
+use borrow.Author.Tests.{eqb-true, eq-eqb, ne-eqb, ltb-false, le-ltb}
 use Rattle.buffer.specs.Choice.{pick}
-use Rattle.buffer.specs.ChoiceLaws.{by-test, by-pick}
-use Rattle.buffer.specs.TestLaws.{and-true, and-first, and-second, not-both, same-test}
+use Rattle.buffer.specs.ChoiceLaws.{by-test}
+use Rattle.buffer.specs.TestLaws.{and-true, and-first, and-second, same-test}
 use Rattle.buffer.specs.Range.{all, first}
-use Rattle.buffer.specs.RangeLaws.{all-true, all-holds, first-le, first-ext, first-none, first-misses}
+use Rattle.buffer.specs.RangeLaws.{all-true, all-holds, first-ext, first-none, first-misses}
 use Rattle.buffer.specs.Bytes.{byte, be32, zeros}
-use Rattle.model.specs.Layout.{view, keyOf, storeBytes, slotAt}
+use Rattle.model.specs.Layout.{view, keyOf, slotAt}
 use Rattle.model.specs.Reads.{fillIn, keeper, listedKey}
 use Rattle.model.specs.Sound.{same, keysKnown}
-use Rattle.soundness.specs.Keys.{keyFrom, fillOf, ownAndNew, reached, sameKeys, noKeys}
+use Rattle.soundness.specs.Keys.{keyFrom, fillOf, ownAndNew, reached, sameKeys}
 use Rattle.soundness.specs.Pieces.{Ranged, placed, zeroBetween, dataKeys, columnKeys, unkept, dataFill, columnFill, served, lost, absent, unitGood}
 use Rattle.soundness.proofs.Joined.{or-right, or-left, either, behind, second, unless, once}
 use Rattle.soundness.proofs.Places.{row-within}

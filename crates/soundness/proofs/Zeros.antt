@@ -1,19 +1,18 @@
 -- A range of zero bytes, and the slots or check records in it that are zero. Assumes nothing.
 use mathlib.Core.Path.{_≡_, refl, sym, ap, _∙_}
-use mathlib.Core.Bool.{Bool, true, false, _&&_}
+use mathlib.Core.Bool.{true}
 use mathlib.Core.List.{List, [], _∷_}
-use Prim.Native.Nat.{ℕ, _+_, _*_, _-_, _/_, _%_, _≤_, _<_}
+use Prim.Native.Nat.{ℕ, _+_, _*_, _-_, _/_, _≤_, _<_}
 use native.Mathlib.Omega.{arith}
 use lib.Dec.{eqb}
 use lib.ListN.{length}
 use borrow.Author.Tests.{eqb-true, eq-eqb}
 use Rattle.buffer.specs.TestLaws.{and-true, and-first, and-second, not-both}
-use Rattle.buffer.specs.Range.{all}
 use Rattle.buffer.specs.RangeLaws.{all-true, all-holds}
 use Rattle.buffer.specs.Bytes.{byte, zeros, part, allZero}
 use Rattle.buffer.specs.SpliceLaws.{length-part}
 use Rattle.buffer.specs.ByteLaws.{byte-part, byte-zeros, zeros-of}
-use Rattle.model.specs.Layout.{view, storeBytes, slotAt, checkAt}
+use Rattle.model.specs.Layout.{view, slotAt, checkAt}
 use Rattle.model.specs.Sound.{same}
 use Rattle.soundness.specs.Pieces.{zeroBetween}
 

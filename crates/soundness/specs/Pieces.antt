@@ -1,6 +1,6 @@
 -- The pieces that the soundness test is made of: one test for each data unit and one for each check unit, over the bytes. That they say what
 -- document 01 asks is the theorem `pieces-sound`. Assumes nothing.
-use Prim.Native.Nat.{ℕ, _+_, _*_, _-_, _/_, _%_, _≤_, _<_}
+use Prim.Native.Nat.{ℕ, _+_, _*_, _-_, _/_, _%_, _≤_}
 use mathlib.Core.List.{List}
 use mathlib.Core.Bool.{Bool, _&&_, _||_}
 use lib.Dec.{eqb, ltb, leb}

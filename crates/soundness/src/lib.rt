@@ -1,7 +1,6 @@
 // The soundness test: document 01, "Sound means", over bytes of any length. One pass over the keys of each unit; the body of a record is never
 // read.
 ghost use mathlib.Core.Path.{_≡_};
-ghost use mathlib.Core.Bool.{_&&_};
 ghost use Prim.Native.Nat.{ℕ, _+_, _*_, _-_, _/_, _%_, _≤_, _<_};
 ghost use lib.Bits.{bitAnd};
 ghost use lib.Dec.{eqb, ltb};
@@ -277,11 +276,11 @@ fn is_lost(t: &mut [u8; 2048], s: &[u8], u: u8) -> bool
         return true;
     }
     let column = checks_at(b, k) + 4 * buffer::wide(u % 4);
-    let n = reach(t, s, column, 32, w, m, u);
-    if 64 < n {
+    let listed = reach(t, s, column, 32, w, m, u);
+    if 64 < listed {
         return false;
     }
-    no_keys(s, column, n, w)
+    no_keys(s, column, listed, w)
 }
 
 // Not in place: zeros, and no keys listed for it.

@@ -1,5 +1,5 @@
 -- `soundness::is_new` meets its contract. Assumes nothing.
-use Prim.Native.Nat.{ℕ, _-_}
+use Prim.Native.Nat.{_-_}
 use mathlib.Core.Bool.{not}
 use mathlib.Core.Path.{refl, ap}
 use lib.Dec.{eqb}

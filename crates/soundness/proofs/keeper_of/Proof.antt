@@ -1,14 +1,12 @@
 -- `soundness::keeper_of` meets its contract. Assumes nothing.
-use Prim.Native.Nat.{ℕ, _+_, _*_, _-_}
-use mathlib.Core.Path.{_≡_, ap, sym, _∙_, refl}
+use Prim.Native.Nat.{_+_, _*_, _-_}
+use mathlib.Core.Path.{ap, refl}
 use lib.Dec.{eqb}
-use lib.ListN.{getD}
 use borrow.Author.Needs.{needs}
 use Rattle.buffer.specs.TestLaws.{is-eq, is-ne}
 use Rattle.buffer.specs.LoopTests.{Missing, missing-start, missing-turn, missing-found, missing-end}
 use Rattle.buffer.specs.Bytes.{byte}
 use Rattle.model.specs.Layout.{view}
-use native.Mathlib.Omega.{arith}
 use Rattle.model.specs.Reads.{keeper}
 use Rattle.soundness.proofs.keeper_of.Statement.{statement}
 use Rattle.soundness.proofs.keeper_of.Tie as tie

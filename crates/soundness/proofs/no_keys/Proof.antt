@@ -1,11 +1,10 @@
 -- `soundness::no_keys` meets its contract. Assumes nothing.
-use Prim.Native.Nat.{ℕ, _-_}
-use mathlib.Core.Bool.{_||_}
+use Prim.Native.Nat.{_-_}
 use mathlib.Core.Path.{refl}
 use lib.Dec.{eqb}
 use borrow.Author.Needs.{needs}
 use Rattle.buffer.specs.TestLaws.{is-eq, is-ne}
-use Rattle.buffer.specs.LoopTests.{passing-fail, passing-end}
+use Rattle.buffer.specs.LoopTests.{passing-end}
 use Rattle.soundness.specs.Keys.{keyFrom, noKeys}
 use Rattle.soundness.proofs.Runs.{Behind, behind-start, behind-turn, behind-fail}
 use Rattle.soundness.proofs.no_keys.Statement.{statement}

@@ -1,9 +1,8 @@
 -- `soundness::reach` meets its contract. Assumes nothing.
-use Prim.Native.Nat.{_+_, _-_}
+use Prim.Native.Nat.{_-_}
 use mathlib.Core.Logic.{⊎-elim}
 use mathlib.Core.Path.{refl, sym, ap, _∙_}
 use native.Mathlib.Omega.{arith}
-use lib.Dec.{eqb}
 use lib.Bits.{bitAnd}
 use borrow.Author.Needs.{needs}
 use Rattle.buffer.specs.TestLaws.{is-eq, is-ne, is-no, is-yes}
@@ -25,19 +24,19 @@ key-requires : tie.Need-key-requires Inv-loop μ-loop
 key-requires c κs = c .before .before .before .before .before .pre .0 .reach (c .before .loop .r) (c .loop-test .taken)
 
 returns : tie.Need-returns Inv-loop μ-loop
-returns c = (reaching-stop (c .before .before .before .loop .inv) (c .before .before .loop-test .taken) (is-eq (c .before .key .ensures) refl (c .if1 .taken)), c .before .before .before .loop .inv .sized)
+returns c = let turn = c .before .before .before .loop in (reaching-stop (turn .inv) (c .before .before .loop-test .taken) (is-eq (c .before .key .ensures) refl (c .if1 .taken)), turn .inv .sized)
 
 returns-2 : tie.Need-returns-2 Inv-loop μ-loop
-returns-2 c = (reaching-fail (c .before .before .before .before .loop .inv) (c .before .before .before .loop-test .taken) (is-ne (c .before .before .key .ensures) refl (c .before .if1 .left)) (not-own (c .before .before .before .before .before .before .before .before .args .m) (c .before .before .before .before .before .before .before .before .args .u) (keyFrom (c .before .before .before .before .before .before .before .before .args .s .now) (c .before .before .before .before .before .before .before .before .args .base) (c .before .before .before .before .before .before .before .before .args .step)) (c .before .before .before .before .loop .r) (sym (c .before .before .before .before .before .before .mask-of .ensures _) ∙ is-ne (ap (λ x. bitAnd x (c .before .before .before .before .before .before .mask-of .result)) (c .before .before .key .ensures)) (c .before .before .before .before .before .wide32 .ensures .0) (c .if2 .taken))), c .before .before .before .before .loop .inv .sized)
+returns-2 c = let turn = c .before .before .before .before .loop in let key = c .before .before .key in let given = c .before .before .before .before .before .before .before .before .args in let mask-of = c .before .before .before .before .before .before .mask-of in (reaching-fail (turn .inv) (c .before .before .before .loop-test .taken) (is-ne (key .ensures) refl (c .before .if1 .left)) (not-own (given .m) (given .u) (keyFrom (given .s .now) (given .base) (given .step)) (turn .r) (sym (mask-of .ensures _) ∙ is-ne (ap (λ x. bitAnd x (mask-of .result)) (key .ensures)) (c .before .before .before .before .before .wide32 .ensures .0) (c .if2 .taken))), turn .inv .sized)
 
 is-new-requires : tie.Need-is-new-requires Inv-loop μ-loop
 is-new-requires c κs = record { reach = λ q l. c .before .before .before .before .before .before .before .before .before .before .before .pre .0 .reach q (omega arith); few = omega arith }
 
 returns-3 : tie.Need-returns-3 Inv-loop μ-loop
-returns-3 c = (reaching-fail (c .before .before .before .before .before .before .before .before .before .loop .inv) (c .before .before .before .before .before .before .before .before .loop-test .taken) (is-ne (c .before .before .before .before .before .before .before .key .ensures) refl (c .before .before .before .before .before .before .if1 .left)) (not-new (c .before .before .before .before .before .before .before .before .before .before .before .before .before .args .m) (c .before .before .before .before .before .before .before .before .before .before .before .before .before .args .u) (keyFrom (c .before .before .before .before .before .before .before .before .before .before .before .before .before .args .s .now) (c .before .before .before .before .before .before .before .before .before .before .before .before .before .args .base) (c .before .before .before .before .before .before .before .before .before .before .before .before .before .args .step)) (c .before .before .before .before .before .before .before .before .before .loop .r) (is-no (c .before .is-new .ensures ∙ ap (isNew (c .before .before .before .before .before .before .before .before .before .loop .r) (keyFrom (c .before .before .before .before .before .before .before .before .before .before .before .before .before .args .s .now) (c .before .before .before .before .before .before .before .before .before .before .before .before .before .args .base) (c .before .before .before .before .before .before .before .before .before .before .before .before .before .args .step))) (c .before .before .before .before .before .before .before .key .ensures)) (c .if4 .taken))), c .before .before .before .before .before .before .before .before .before .loop .inv .sized)
+returns-3 c = let turn = c .before .before .before .before .before .before .before .before .before .loop in let key = c .before .before .before .before .before .before .before .key in let given = c .before .before .before .before .before .before .before .before .before .before .before .before .before .args in (reaching-fail (turn .inv) (c .before .before .before .before .before .before .before .before .loop-test .taken) (is-ne (key .ensures) refl (c .before .before .before .before .before .before .if1 .left)) (not-new (given .m) (given .u) (keyFrom (given .s .now) (given .base) (given .step)) (turn .r) (is-no (c .before .is-new .ensures ∙ ap (isNew (turn .r) (keyFrom (given .s .now) (given .base) (given .step))) (key .ensures)) (c .if4 .taken))), turn .inv .sized)
 
 loop-again : tie.Need-loop-again Inv-loop μ-loop
-loop-again c = reaching-turn (c .before .before .before .before .before .before .before .loop .inv) (c .before .before .before .before .before .before .loop-test .taken) (is-ne (c .before .before .before .before .before .key .ensures) refl (c .before .before .before .before .if1 .left)) (own-new (c .before .before .before .before .before .before .before .before .before .before .before .args .m) (c .before .before .before .before .before .before .before .before .before .before .before .args .u) (keyFrom (c .before .before .before .before .before .before .before .before .before .before .before .args .s .now) (c .before .before .before .before .before .before .before .before .before .before .before .args .base) (c .before .before .before .before .before .before .before .before .before .before .before .args .step)) (c .before .before .before .before .before .before .before .loop .r) (sym (c .before .before .before .before .before .before .before .before .before .mask-of .ensures _) ∙ is-eq (ap (λ x. bitAnd x (c .before .before .before .before .before .before .before .before .before .mask-of .result)) (c .before .before .before .before .before .key .ensures)) (c .before .before .before .before .before .before .before .before .wide32 .ensures .0) (c .before .before .before .if2 .left)) (⊎-elim (λ w. is-yes (w .1 .ensures ∙ ap (isNew (c .before .before .before .before .before .before .before .loop .r) (keyFrom (c .before .before .before .before .before .before .before .before .before .before .before .args .s .now) (c .before .before .before .before .before .before .before .before .before .before .before .args .base) (c .before .before .before .before .before .before .before .before .before .before .before .args .step))) (c .before .before .before .before .before .key .ensures)) (w .2 .left)) (λ w. reaching-new (c .before .before .before .before .before .before .before .loop .inv) (c .before .before .place .ensures .0 ∙ ap placeOf (c .before .before .before .before .before .key .ensures)) (w .left)) (c .if3 .came))) (c .before .before .place .ensures .0 ∙ ap placeOf (c .before .before .before .before .before .key .ensures)) (c .before .before .place .ensures .1)
+loop-again c = let turn = c .before .before .before .before .before .before .before .loop in let key = c .before .before .before .before .before .key in let given = c .before .before .before .before .before .before .before .before .before .before .before .args in let mask-of = c .before .before .before .before .before .before .before .before .before .mask-of in let place = c .before .before .place in reaching-turn (turn .inv) (c .before .before .before .before .before .before .loop-test .taken) (is-ne (key .ensures) refl (c .before .before .before .before .if1 .left)) (own-new (given .m) (given .u) (keyFrom (given .s .now) (given .base) (given .step)) (turn .r) (sym (mask-of .ensures _) ∙ is-eq (ap (λ x. bitAnd x (mask-of .result)) (key .ensures)) (c .before .before .before .before .before .before .before .before .wide32 .ensures .0) (c .before .before .before .if2 .left)) (⊎-elim (λ w. is-yes (w .1 .ensures ∙ ap (isNew (turn .r) (keyFrom (given .s .now) (given .base) (given .step))) (key .ensures)) (w .2 .left)) (λ w. reaching-new (turn .inv) (place .ensures .0 ∙ ap placeOf (key .ensures)) (w .left)) (c .if3 .came))) (place .ensures .0 ∙ ap placeOf (key .ensures)) (place .ensures .1)
 
 returns-4 : tie.Need-returns-4 Inv-loop μ-loop
 returns-4 c = (reaching-full (c .before .loop .inv) (c .loop-test .left), c .before .loop .inv .sized)

@@ -1,8 +1,6 @@
 -- `soundness::same_lists` meets its contract. Assumes nothing.
-use Prim.Native.Nat.{ℕ, _+_, _*_, _-_}
-use mathlib.Core.Path.{_≡_, ap, sym, _∙_, refl}
+use Prim.Native.Nat.{_+_, _*_, _-_}
 use mathlib.Core.Bool.{_&&_}
-use lib.ListN.{getD}
 use borrow.Author.Needs.{needs}
 use Rattle.buffer.specs.TestLaws.{is-no, is-yes, and-true, and-false-first, and-false-second}
 use Rattle.buffer.specs.LoopTests.{Passing, passing-start, passing-turn, passing-fail, passing-end}

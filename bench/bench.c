@@ -1,0 +1,257 @@
+/*
+ * Times the store's calls over the static library, each against a copy of the store's bytes and
+ * against the test of soundness, in one run. Build and run it with bench/run.
+ */
+#define _POSIX_C_SOURCE 199309L
+#include "lhrs.h"
+
+#include <stdio.h>
+#include <stdlib.h>
+#include <string.h>
+#include <time.h>
+
+#define MAX_SLOTS 64u
+#define MAX_LENGTH LHRS_LENGTH(MAX_SLOTS)
+#define ROUNDS 15
+#define BATCH_NANOSECONDS 1000000.0
+
+/* A laid out store with all units about three quarters full. */
+struct hall {
+    uint32_t units;
+    size_t length;
+    uint32_t keys[MAX_SLOTS]; /* those of unit 0 */
+    uint32_t count;           /* their number */
+    uint32_t turn;            /* the next of them to use */
+    uint32_t absent;          /* a key of unit 0 that is not taught */
+    uint8_t bytes[MAX_LENGTH];
+};
+
+static struct hall whole;   /* every unit in service */
+static struct hall lost;    /* unit 0 is out */
+static struct hall growing; /* at most 15 units, so that it can grow */
+
+static void require(uint8_t number, uint8_t expected, const char *what)
+{
+    if (number != expected) {
+        fprintf(stderr, "%s returned %u, expected %u\n", what, (unsigned)number,
+                (unsigned)expected);
+        exit(EXIT_FAILURE);
+    }
+}
+
+/* The data unit of a key: linear hashing. */
+static uint32_t unit_of(uint32_t units, uint32_t key)
+{
+    uint32_t power = 1;
+    while (2 * power <= units)
+        power *= 2;
+    return key % (2 * power) < units ? key % (2 * power) : key % power;
+}
+
+/* Lays out, raises to the level, and grows; the first group gets all its check units. */
+static void build(struct hall *hall, uint32_t slots, uint32_t units, uint32_t level)
+{
+    hall->units = units;
+    hall->length = LHRS_LENGTH(slots);
+    hall->turn = 0;
+    require(lhrs_lay_out(hall->bytes, hall->length, slots), 0, "lay out");
+    for (uint32_t k = 1; k < level; k++)
+        require(lhrs_raise(hall->bytes, hall->length), 0, "raise");
+    require(lhrs_grow(hall->bytes, hall->length), 0, "grow");
+    require(lhrs_shrink(hall->bytes, hall->length), 0, "shrink");
+    for (uint32_t m = 1; m < units; m++)
+        require(lhrs_grow(hall->bytes, hall->length), 0, "grow");
+}
+
+static void fill_body(uint8_t body[LHRS_BODY], uint32_t seed)
+{
+    for (unsigned i = 0; i < LHRS_BODY; i++) {
+        seed = seed * 1664525u + 1013904223u;
+        body[i] = (uint8_t)(seed >> 24);
+    }
+}
+
+/* Teaches ascending keys until each unit has so many. */
+static void fill(struct hall *hall, uint32_t records)
+{
+    uint32_t counts[16] = {0};
+    uint32_t left = records * hall->units;
+    uint32_t key = 1;
+    for (; left > 0; key++) {
+        uint8_t body[LHRS_BODY];
+        uint32_t unit = unit_of(hall->units, key);
+        if (counts[unit] == records)
+            continue;
+        fill_body(body, key);
+        require(lhrs_teach(hall->bytes, hall->length, key, body, sizeof body), 0, "teach");
+        if (unit == 0)
+            hall->keys[counts[0]] = key;
+        counts[unit]++;
+        left--;
+    }
+    hall->count = records;
+    while (unit_of(hall->units, key) != 0)
+        key++;
+    hall->absent = key;
+}
+
+static void prepare(uint32_t slots, uint32_t units, uint32_t level)
+{
+    uint32_t records = slots * 3 / 4;
+    build(&whole, slots, units, level);
+    fill(&whole, records);
+    lost = whole;
+    require(lhrs_out(lost.bytes, lost.length, 0), 0, "out");
+    build(&growing, slots, units < 16 ? units : 15, level);
+    fill(&growing, records);
+}
+
+/* The keys of unit 0 in turn. */
+static uint32_t next_key(struct hall *hall)
+{
+    uint32_t key = hall->keys[hall->turn];
+    hall->turn = (hall->turn + 1) % hall->count;
+    return key;
+}
+
+/* By a pointer that may change, so that the copy is made. */
+static void *(*volatile copy)(void *, const void *, size_t) = memcpy;
+
+static void copy_store(void)
+{
+    static uint8_t bytes[MAX_LENGTH];
+    copy(bytes, whole.bytes, whole.length);
+}
+
+static void read_absent(void)
+{
+    uint8_t out[LHRS_BODY];
+    require(lhrs_read(whole.bytes, whole.length, whole.absent, out, sizeof out), 6, "read");
+}
+
+static void erase_and_teach(void)
+{
+    uint8_t body[LHRS_BODY];
+    uint32_t key = next_key(&whole);
+    fill_body(body, key);
+    require(lhrs_erase(whole.bytes, whole.length, key), 0, "erase");
+    require(lhrs_teach(whole.bytes, whole.length, key, body, sizeof body), 0, "teach");
+}
+
+static void correct_one(void)
+{
+    static uint32_t seed;
+    uint8_t body[LHRS_BODY];
+    fill_body(body, seed++);
+    require(lhrs_correct(whole.bytes, whole.length, next_key(&whole), body, sizeof body), 0,
+            "correct");
+}
+
+static void read_from(struct hall *hall)
+{
+    uint8_t out[LHRS_BODY];
+    require(lhrs_read(hall->bytes, hall->length, next_key(hall), out, sizeof out), 0, "read");
+}
+
+static void read_one(void)
+{
+    read_from(&whole);
+}
+
+static void read_lost(void)
+{
+    read_from(&lost);
+}
+
+static void out_and_repair(void)
+{
+    require(lhrs_out(whole.bytes, whole.length, 0), 0, "out");
+    require(lhrs_repair(whole.bytes, whole.length, 0), 0, "repair");
+}
+
+static void grow_and_shrink(void)
+{
+    require(lhrs_grow(growing.bytes, growing.length), 0, "grow");
+    require(lhrs_shrink(growing.bytes, growing.length), 0, "shrink");
+}
+
+struct operation {
+    const char *name;
+    void (*run)(void);
+};
+
+static const struct operation operations[] = {
+    {"memcpy of the store", copy_store},
+    {"soundness (read, key absent)", read_absent},
+    {"erase + teach", erase_and_teach},
+    {"correct", correct_one},
+    {"read", read_one},
+    {"read, unit out", read_lost},
+    {"unit out + repair", out_and_repair},
+    {"grow + shrink", grow_and_shrink},
+};
+
+#define OPERATIONS (sizeof operations / sizeof operations[0])
+
+/* Nanoseconds of one run, over so many. */
+static double batch(const struct operation *operation, unsigned long runs)
+{
+    struct timespec start, end;
+    clock_gettime(CLOCK_MONOTONIC, &start);
+    for (unsigned long i = 0; i < runs; i++)
+        operation->run();
+    clock_gettime(CLOCK_MONOTONIC, &end);
+    double nanoseconds = 1e9 * (double)(end.tv_sec - start.tv_sec);
+    nanoseconds += (double)(end.tv_nsec - start.tv_nsec);
+    return nanoseconds / (double)runs;
+}
+
+/* Runs that fill a batch. The first batches also warm the buffers. */
+static unsigned long runs_of_batch(const struct operation *operation)
+{
+    unsigned long runs = 1;
+    while (batch(operation, runs) * (double)runs < BATCH_NANOSECONDS)
+        runs *= 2;
+    return runs;
+}
+
+/* The least time of each operation over rounds that take all of them in turn. */
+static void measure(double least[OPERATIONS])
+{
+    unsigned long runs[OPERATIONS];
+    for (size_t i = 0; i < OPERATIONS; i++) {
+        runs[i] = runs_of_batch(&operations[i]);
+        least[i] = batch(&operations[i], runs[i]);
+    }
+    for (int round = 1; round < ROUNDS; round++) {
+        for (size_t i = 0; i < OPERATIONS; i++) {
+            double time = batch(&operations[i], runs[i]);
+            if (time < least[i])
+                least[i] = time;
+        }
+    }
+}
+
+static void report(uint32_t slots, uint32_t units, uint32_t level)
+{
+    double least[OPERATIONS];
+    prepare(slots, units, level);
+    measure(least);
+    printf("\nb = %2u, M = %2u, K = %u%24s%12s%12s\n", (unsigned)slots, (unsigned)units,
+           (unsigned)level, "ns", "/ memcpy", "/ soundness");
+    for (size_t i = 0; i < OPERATIONS; i++)
+        printf("  %-30s%12.0f%12.2f%12.2f\n", operations[i].name, least[i], least[i] / least[0],
+               least[i] / least[1]);
+}
+
+int main(void)
+{
+    static const uint32_t slots[] = {4, 64}, units[] = {1, 4, 16}, levels[] = {1, 3};
+    puts("Least of 15 interleaved batches. A line with + is two calls together.");
+    puts("At M = 16, grow + shrink goes from 15 units to 16 and back.");
+    for (int s = 0; s < 2; s++)
+        for (int u = 0; u < 3; u++)
+            for (int l = 0; l < 2; l++)
+                report(slots[s], units[u], levels[l]);
+    return EXIT_SUCCESS;
+}

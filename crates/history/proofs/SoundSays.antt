@@ -1,0 +1,197 @@
+-- What the test of soundness says of a store, clause by clause, as facts. Assumes nothing.
+use Prim.Native.Nat.{ℕ, _+_, _*_, _/_, _≤_, _<_}
+use mathlib.Core.Path.{_≡_, refl, sym, ap₂, _∙_}
+use mathlib.Core.List.{List, [], _∷_}
+use mathlib.Core.Bool.{Bool, true, false, not, _&&_, _||_}
+use lib.Dec.{eqb, ltb, leb}
+use lib.ListN.{length}
+use borrow.Author.Tests.{eqb-true, leb-true}
+use Rattle.buffer.specs.Choice.{pick}
+use Rattle.buffer.specs.ChoiceLaws.{pick-true, pick-false}
+use Rattle.buffer.specs.TestLaws.{not-both, and-first, and-second}
+use Rattle.buffer.specs.Range.{all}
+use Rattle.buffer.specs.RangeLaws.{all-true}
+use Rattle.buffer.specs.Bytes.{byte, be32, zeros, part}
+use Rattle.group.specs.Widths.{keyBytes, slotBytes, checkBytes}
+use Rattle.model.specs.Units.{unitOf}
+use Rattle.model.specs.Layout.{Store, view, version, storeBytes, unitsIn, levelIn, keyOf}
+use Rattle.model.specs.Reads.{fillIn, listedKey, listedFill}
+use Rattle.model.specs.Sound.{same, ranges, unitsPlaced, checksIn, checksAllowed, groupsPlaced, zeroed, keysKnown, keysPlaced, listsAgree, sound}
+
+or-second : (s t : Bool) → (s || t) ≡ true → s ≡ false → t ≡ true
+or-second true t e f = not-both e f
+or-second false t e f = e
+
+unless-second : (s t : Bool) → (not s || t) ≡ true → s ≡ true → t ≡ true
+unless-second true t e f = e
+unless-second false t e f = not-both f refl
+
+-- lists that the test of sameness passes are the same
+pub same-true : (x y : List ℕ) → same x y ≡ true → x ≡ y
+unfolding same
+same-true [] [] e = refl
+same-true [] (b ∷ y) e = not-both e refl
+same-true (a ∷ x) [] e = not-both e refl
+same-true (a ∷ x) (b ∷ y) e = ap₂ (λ (n : ℕ) (l : List ℕ). n ∷ l) (eqb-true a b (and-first (eqb a b) (same x y) e)) (same-true x y (and-second (eqb a b) (same x y) e))
+
+-- the tests that a slot holds a record of a unit in service or is zero, and that a check record is of a unit in service or is zero
+abbrev pub slot-test : Store → ℕ → ℕ → Bool
+slot-test v u r = (eqb (v .dstate u) 1 && ltb r (fillIn v u)) || same (v .slot u r) (zeros slotBytes)
+
+abbrev pub check-test : Store → ℕ → ℕ → Bool
+check-test v c r = eqb (v .cstate c) 1 || same (v .check c r) (zeros checkBytes)
+
+-- what they say of every slot and check record
+pub record Zeroed (v : Store) : Type 0 where
+  pub slots : (u r : ℕ) → u < 16 → r < v .size → slot-test v u r ≡ true
+  pub checks : (c r : ℕ) → c < 12 → r < v .size → check-test v c r ≡ true
+
+pub zeroed-says : (v : Store) → zeroed v ≡ true → Zeroed v
+unfolding zeroed
+zeroed-says v e =
+    let s : Bool = all 16 (λ u. all (v .size) (slot-test v u)) in
+    let c : Bool = all 12 (λ c. all (v .size) (check-test v c)) in
+    record {
+      slots = λ u r l m. all-true (v .size) (slot-test v u) (all-true 16 (λ u. all (v .size) (slot-test v u)) (and-first s c e) u l) r m;
+      checks = λ i r l m. all-true (v .size) (check-test v i) (all-true 12 (λ c. all (v .size) (check-test v c)) (and-second s c e) i l) r m;
+    }
+
+-- the ranges of the header
+pub record Ranged (s : List ℕ) : Type 0 where
+  pub first : byte s 0 ≡ version
+  pub spelled : be32 s 1 ≡ storeBytes (byte s 5)
+  pub least : 1 ≤ byte s 5
+  pub most : byte s 5 ≤ 64
+  pub some : 1 ≤ byte s 6
+  pub few : byte s 6 ≤ 16
+  pub levelled : 1 ≤ byte s 7
+  pub topped : byte s 7 ≤ 3
+  pub long : storeBytes (byte s 5) ≤ length s
+
+-- a state that a unit in place, or not in place, may have
+abbrev pub Stateful : Bool → ℕ → Type 0
+Stateful p n = pick p (eqb n 1 || eqb n 2) (eqb n 0) ≡ true
+
+module _ (s : List ℕ) (h : sound s ≡ true) where
+  abbrev v : Store
+  v = view s
+
+  -- ---- the six clauses
+
+  pub record Clauses : Type 0 where
+    pub ranges : ranges s ≡ true
+    pub units : unitsPlaced (view s) ≡ true
+    pub groups : groupsPlaced (view s) ≡ true
+    pub zeros : zeroed (view s) ≡ true
+    pub keys : keysPlaced (view s) ≡ true
+    pub lists : listsAgree (view s) ≡ true
+
+  pub clauses : Clauses
+  unfolding sound
+  clauses =
+      let a = and-first (ranges s && unitsPlaced v && groupsPlaced v && zeroed v && keysPlaced v) (listsAgree v) h in
+      let b = and-first (ranges s && unitsPlaced v && groupsPlaced v && zeroed v) (keysPlaced v) a in
+      let c = and-first (ranges s && unitsPlaced v && groupsPlaced v) (zeroed v) b in
+      let d = and-first (ranges s && unitsPlaced v) (groupsPlaced v) c in
+      record {
+        ranges = and-first (ranges s) (unitsPlaced v) d;
+        units = and-second (ranges s) (unitsPlaced v) d;
+        groups = and-second (ranges s && unitsPlaced v) (groupsPlaced v) c;
+        zeros = and-second (ranges s && unitsPlaced v && groupsPlaced v) (zeroed v) b;
+        keys = and-second (ranges s && unitsPlaced v && groupsPlaced v && zeroed v) (keysPlaced v) a;
+        lists = and-second (ranges s && unitsPlaced v && groupsPlaced v && zeroed v && keysPlaced v) (listsAgree v) h;
+      }
+
+  pub ranged : Ranged s
+  unfolding ranges
+  ranged =
+      let t0 = eqb (byte s 0) version in
+      let t1 = eqb (be32 s 1) (storeBytes (byte s 5)) in
+      let t2 = leb 1 (byte s 5) in
+      let t3 = leb (byte s 5) 64 in
+      let t4 = leb 1 (byte s 6) in
+      let t5 = leb (byte s 6) 16 in
+      let t6 = leb 1 (byte s 7) in
+      let t7 = leb (byte s 7) 3 in
+      let t8 = leb (storeBytes (byte s 5)) (length s) in
+      let e7 = and-first (t0 && t1 && t2 && t3 && t4 && t5 && t6 && t7) t8 (clauses .ranges) in
+      let e6 = and-first (t0 && t1 && t2 && t3 && t4 && t5 && t6) t7 e7 in
+      let e5 = and-first (t0 && t1 && t2 && t3 && t4 && t5) t6 e6 in
+      let e4 = and-first (t0 && t1 && t2 && t3 && t4) t5 e5 in
+      let e3 = and-first (t0 && t1 && t2 && t3) t4 e4 in
+      let e2 = and-first (t0 && t1 && t2) t3 e3 in
+      let e1 = and-first (t0 && t1) t2 e2 in
+      record {
+        first = eqb-true (byte s 0) version (and-first t0 t1 e1);
+        spelled = eqb-true (be32 s 1) (storeBytes (byte s 5)) (and-second t0 t1 e1);
+        least = leb-true 1 (byte s 5) (and-second (t0 && t1) t2 e2);
+        most = leb-true (byte s 5) 64 (and-second (t0 && t1 && t2) t3 e3);
+        some = leb-true 1 (byte s 6) (and-second (t0 && t1 && t2 && t3) t4 e4);
+        few = leb-true (byte s 6) 16 (and-second (t0 && t1 && t2 && t3 && t4) t5 e5);
+        levelled = leb-true 1 (byte s 7) (and-second (t0 && t1 && t2 && t3 && t4 && t5) t6 e6);
+        topped = leb-true (byte s 7) 3 (and-second (t0 && t1 && t2 && t3 && t4 && t5 && t6) t7 e7);
+        long = leb-true (storeBytes (byte s 5)) (length s) (and-second (t0 && t1 && t2 && t3 && t4 && t5 && t6 && t7) t8 (clauses .ranges));
+      }
+
+  -- ---- states
+
+  pub data-states : (u : ℕ) → u < 16 → Stateful (ltb u (unitsIn v)) (v .dstate u)
+  unfolding unitsPlaced
+  data-states u l = all-true 16 _ (clauses .units) u l
+
+  -- the check units of a group
+  abbrev number-test : ℕ → Bool
+  number-test g = pick (ltb (4 * g) (unitsIn v)) (checksAllowed (levelIn v) (checksIn v g)) (eqb (checksIn v g) 0)
+
+  abbrev place-test : ℕ → ℕ → Bool
+  place-test g j = pick (ltb j (checksIn v g)) (eqb (v .cstate (3 * g + j)) 1 || eqb (v .cstate (3 * g + j)) 2) (eqb (v .cstate (3 * g + j)) 0)
+
+  group-test : (g : ℕ) → g < 4 → (number-test g && all 3 (place-test g)) ≡ true
+  unfolding groupsPlaced
+  group-test g l = all-true 4 _ (clauses .groups) g l
+
+  pub group-number : (g : ℕ) → g < 4 → pick (ltb (4 * g) (unitsIn v)) (checksAllowed (levelIn v) (checksIn v g)) (eqb (checksIn v g) 0) ≡ true
+  group-number g l = and-first (number-test g) (all 3 (place-test g)) (group-test g l)
+
+  pub check-states : (g j : ℕ) → g < 4 → j < 3 → Stateful (ltb j (checksIn v g)) (v .cstate (3 * g + j))
+  check-states g j l m = all-true 3 (place-test g) (and-second (number-test g) (all 3 (place-test g)) (group-test g l)) j m
+
+  -- ---- zeros
+
+  pub zero-slot : (u r : ℕ) → u < 16 → r < v .size → (eqb (v .dstate u) 1 && ltb r (fillIn v u)) ≡ false → v .slot u r ≡ zeros slotBytes
+  zero-slot u r l m e =
+      same-true (v .slot u r) (zeros slotBytes)
+      (or-second (eqb (v .dstate u) 1 && ltb r (fillIn v u)) (same (v .slot u r) (zeros slotBytes)) (zeroed-says v (clauses .zeros) .slots u r l m) e)
+
+  pub zero-check : (c r : ℕ) → c < 12 → r < v .size → eqb (v .cstate c) 1 ≡ false → v .check c r ≡ zeros checkBytes
+  zero-check c r l m e =
+      same-true (v .check c r) (zeros checkBytes) (or-second (eqb (v .cstate c) 1) (same (v .check c r) (zeros checkBytes)) (zeroed-says v (clauses .zeros) .checks c r l m) e)
+
+  -- ---- keys of a unit that are known
+
+  module _ (u : ℕ) (hu : u < 16) (known : keysKnown v u ≡ true) where
+    key-test : (r : ℕ) → r < v .size
+        → pick (ltb r (listedFill v u))
+        (eqb (unitOf (unitsIn v) (keyOf (listedKey v u r))) u && all r (λ q. not (eqb (keyOf (listedKey v u q)) (keyOf (listedKey v u r)))))
+        (eqb (keyOf (listedKey v u r)) 0) ≡ true
+    unfolding keysPlaced
+    key-test r m = all-true (v .size) _ (unless-second (keysKnown v u) _ (all-true 16 _ (clauses .keys) u hu) known) r m
+
+    listed-test : (r : ℕ) → r < v .size → ltb r (listedFill v u) ≡ true
+        → (eqb (unitOf (unitsIn v) (keyOf (listedKey v u r))) u && all r (λ q. not (eqb (keyOf (listedKey v u q)) (keyOf (listedKey v u r))))) ≡ true
+    listed-test r m e = sym (pick-true e _ (eqb (keyOf (listedKey v u r)) 0)) ∙ key-test r m
+
+    pub listed-own : (r : ℕ) → r < v .size → ltb r (listedFill v u) ≡ true → unitOf (unitsIn v) (keyOf (listedKey v u r)) ≡ u
+    listed-own r m e = eqb-true (unitOf (unitsIn v) (keyOf (listedKey v u r))) u (and-first _ _ (listed-test r m e))
+
+    pub listed-differ : (r q : ℕ) → r < q → q < v .size → ltb q (listedFill v u) ≡ true → not (eqb (keyOf (listedKey v u r)) (keyOf (listedKey v u q))) ≡ true
+    listed-differ r q l m e = all-true q (λ i. not (eqb (keyOf (listedKey v u i)) (keyOf (listedKey v u q)))) (and-second (eqb (unitOf (unitsIn v) (keyOf (listedKey v u q))) u) _ (listed-test q m e)) r l
+
+    pub listed-past : (r : ℕ) → r < v .size → ltb r (listedFill v u) ≡ false → keyOf (listedKey v u r) ≡ 0
+    listed-past r m e = eqb-true (keyOf (listedKey v u r)) 0 (sym (pick-false e _ (eqb (keyOf (listedKey v u r)) 0)) ∙ key-test r m)
+
+  -- a key that a check unit in service lists
+  pub lists : (c : ℕ) → c < 12 → eqb (v .cstate c) 1 ≡ true → (r : ℕ) → r < v .size → (p : ℕ) → p < 4
+      → keyOf (part (keyBytes * p) keyBytes (v .check c r)) ≡ keyOf (listedKey v (4 * (c / 3) + p) r)
+  unfolding listsAgree
+  lists c l e r m p n = eqb-true _ _ (all-true 4 _ (all-true (v .size) _ (unless-second (eqb (v .cstate c) 1) _ (all-true 12 _ (clauses .lists) c l) e) r m) p n)

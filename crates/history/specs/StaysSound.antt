@@ -1,0 +1,13 @@
+-- A sound store stays sound: whatever a call's arguments, and whatever the store's bodies and parity bytes, the store that the call leaves is sound
+-- again. It need not come from a history. What the types give (a key has 32 bits, a slice holds bytes) is the only side condition. Assumes nothing.
+use Prim.Native.Nat.{ℕ}
+use mathlib.Core.Path.{_≡_}
+use mathlib.Core.List.{List}
+use mathlib.Core.Bool.{true}
+use Rattle.model.specs.Sound.{sound}
+use Rattle.model.specs.Numbers.{Call}
+use Rattle.model.specs.Perform.{perform}
+use Rattle.history.specs.Claims.{Bytes, Typed}
+
+abbrev pub StaysSound : Type 0
+StaysSound = (s : List ℕ) → Bytes s → sound s ≡ true → (c : Call) → Typed c → sound (perform s c .store) ≡ true

@@ -1,0 +1,25 @@
+-- `lookup::check_states` meets its contract. Assumes nothing.
+use Prim.Native.Nat.{_+_, _*_}
+use native.Mathlib.Omega.{arith}
+use borrow.Author.Needs.{needs}
+use Rattle.lookup.proofs.Lent.{part-lent}
+use Rattle.lookup.proofs.check_states.Statement.{statement}
+use Rattle.lookup.proofs.check_states.Tie as tie
+
+returns : tie.Need-returns
+returns c =
+    let start = c .before .before .before in
+    part-lent (start .args .s .now) (24 + 3 * c .before .wide .result) 3 (24 + 3 * start .args .g) (omega arith)
+
+pub check-states-spec : {M : Type 1} → statement M
+check-states-spec =
+    tie.close
+    (tie.spec
+    (λ c κs. search needs)
+    (λ c. search needs)
+    (λ c. search needs)
+    (λ c. search needs)
+    (λ c. search needs)
+    (λ c. search needs)
+    (λ c. search needs)
+    returns)

@@ -1,0 +1,153 @@
+-- Demand 1 for reading in place: the part is the 16 bytes of a body inside the store, or empty exactly where read, given a buffer that fits, would
+-- refuse or the key's unit is out. Assumes nothing.
+use Prim.Native.Nat.{ℕ, suc, _+_, _*_, _≤_, _<_}
+use mathlib.Core.Path.{_≡_, refl, sym, ap, _∙_}
+use mathlib.Core.List.{List}
+use mathlib.Core.Bool.{Bool, true, false, not, _&&_}
+use native.Mathlib.Omega.{arith}
+use native.Mathlib.Nat.{mul-le-mul-right}
+use lib.Dec.{eqb, leb}
+use lib.ListN.{length, take}
+use lib.Seq.{getD-take}
+use borrow.Author.Tests.{eqb-true, leb-true, leb-false, not-true, not-false}
+use Rattle.buffer.specs.Choice.{pick}
+use Rattle.buffer.specs.ChoiceLaws.{by-test, pick-true, pick-false}
+use Rattle.buffer.specs.TestLaws.{and-first, and-second}
+use Rattle.buffer.specs.Range.{first}
+use Rattle.buffer.specs.RangeLaws.{first-ext, first-le}
+use Rattle.buffer.specs.Bytes.{byte, be32, zeros, part}
+use Rattle.buffer.specs.ByteLaws.{length-zeros, be32-part}
+use Rattle.buffer.specs.SpliceLaws.{length-part}
+use Rattle.group.specs.Widths.{keyBytes, bodyBytes}
+use Rattle.model.specs.UnitLaws.{unit-below}
+use Rattle.model.specs.Layout.{Store, view, version, storeBytes, slotAt, unitsIn, keyOf}
+use Rattle.model.specs.Reads.{homeIn, fillIn, rankIn, listedKey, listedFill, listedRank}
+use Rattle.model.specs.Sound.{sound, ranges}
+use Rattle.model.specs.Numbers.{read, readInPlace, refusalsIn, numberIn}
+use Rattle.model.specs.RowLaws.{Free, first-free}
+use Rattle.model.specs.Perform.{Place, placeIn, givenIn}
+use Rattle.model.specs.Demand1.{InPlace}
+use Rattle.model.proofs.Refusals.{in-place-store, part-none}
+
+-- read's number depends on the length of its buffer alone
+same-length : (s : List ℕ) (k : ℕ) (x y : List ℕ) → length x ≡ length y → numberIn s (read k x) ≡ numberIn s (read k y)
+unfolding numberIn refusalsIn
+same-length s k x y e = rw e
+
+-- the key of a slot stands in its first four bytes
+key-first : (x : List ℕ) → keyOf (take keyBytes x) ≡ keyOf x
+unfolding keyOf part
+key-first x = be32-part 0 keyBytes x 0 (omega arith)
+
+-- ---- what soundness says of the bytes
+
+-- the fifth, the sixth and the last of nine tests
+three-of-nine : (a b c d e f g h i : Bool) → (a && b && c && d && e && f && g && h && i) ≡ true → (e ≡ true) × (f ≡ true) × (i ≡ true)
+three-of-nine a b c d e f g h i q =
+    let to-h = and-first (a && b && c && d && e && f && g && h) i q in
+    let to-f = and-first (a && b && c && d && e && f) g (and-first (a && b && c && d && e && f && g) h to-h) in
+    (and-second (a && b && c && d) e (and-first (a && b && c && d && e) f to-f), and-second (a && b && c && d && e) f to-f, and-second (a && b && c && d && e && f && g && h) i q)
+
+module _ (s : List ℕ) (ok : sound s ≡ true) where
+  ranged : ranges s ≡ true
+  unfolding sound
+  ranged = and-first _ _ (and-first _ _ (and-first _ _ (and-first _ _ (and-first _ _ ok))))
+
+  bounds : (1 ≤ byte s 6) × (byte s 6 ≤ 16) × (storeBytes (byte s 5) ≤ length s)
+  unfolding ranges
+  bounds =
+      let p = three-of-nine (eqb (byte s 0) version) (eqb (be32 s 1) (storeBytes (byte s 5))) (leb 1 (byte s 5)) (leb (byte s 5) 64) (leb 1 (byte s 6)) (leb (byte s 6) 16) (leb 1 (byte s 7)) (leb (byte s 7) 3)
+      (leb (storeBytes (byte s 5)) (length s)) ranged in
+      (leb-true 1 (byte s 6) (p .0), leb-true (byte s 6) 16 (p .1), leb-true (storeBytes (byte s 5)) (length s) (p .2))
+
+  home-low : (k : ℕ) → homeIn (view s) k < 16
+  unfolding homeIn unitsIn view
+  home-low k =
+      let e : byte (take 8 s) 6 ≡ byte s 6 = getD-take 8 s 6 0 (omega arith) in
+      omega (arith, unit-below (byte (take 8 s) 6) k (omega (arith, e, bounds .0)), e, bounds .1)
+
+  -- the body of a slot lies inside the store
+  inside : (u r : ℕ) → u < 16 → r < view s .size → slotAt (view s .size) u r + keyBytes + bodyBytes ≤ length s
+  unfolding view
+  inside u r a b =
+      let p : suc u * byte s 5 ≤ 16 * byte s 5 = mul-le-mul-right (byte s 5) a in
+      omega (arith, bounds .2)
+
+-- ---- a granted read, of a unit that is not out
+
+module _ (s : List ℕ) (k : ℕ) (zero : numberIn s (read k (zeros bodyBytes)) ≡ 0) where
+  free : Free (refusalsIn (sound s) (view s) (read k (zeros bodyBytes)))
+  unfolding numberIn refusalsIn
+  free = first-free (refusalsIn (sound s) (view s) (read k (zeros bodyBytes))) (omega arith, (omega arith, (omega arith, (omega arith, (omega arith, tt))))) zero
+
+  is-sound : sound s ≡ true
+  unfolding refusalsIn
+  is-sound = not-false (sound s) (free .1 .1 .0)
+
+  found : listedRank (view s) (homeIn (view s) k) k < listedFill (view s) (homeIn (view s) k)
+  unfolding refusalsIn
+  found = leb-false (listedFill (view s) (homeIn (view s) k)) (listedRank (view s) (homeIn (view s) k) k) (free .1 .1 .1 .1 .0)
+
+  module _ (kept : eqb (view s .dstate (homeIn (view s) k)) 2 ≡ false) where
+    abbrev v : Store
+    v = view s
+
+    abbrev u : ℕ
+    u = homeIn (view s) k
+
+    own-key : (r : ℕ) → keyOf (listedKey v u r) ≡ keyOf (v .slot u r)
+    unfolding listedKey
+    own-key r = ap keyOf (pick-false kept _ _) ∙ key-first (v .slot u r)
+
+    own-fill : listedFill v u ≡ fillIn v u
+    unfolding listedFill fillIn
+    own-fill = first-ext (v .size) (λ r. eqb (keyOf (listedKey v u r)) 0) (λ r. eqb (keyOf (v .slot u r)) 0) (λ r a. ap (λ (n : ℕ). eqb n 0) (own-key r))
+
+    own-rank : listedRank v u k ≡ rankIn v u k
+    unfolding listedRank rankIn
+    own-rank =
+        ap (λ (n : ℕ). first n (λ r. eqb (keyOf (listedKey v u r)) k)) own-fill
+        ∙ first-ext (fillIn v u) (λ r. eqb (keyOf (listedKey v u r)) k) (λ r. eqb (keyOf (v .slot u r)) k) (λ r a. ap (λ (n : ℕ). eqb n k) (own-key r))
+
+    fill-most : fillIn v u ≤ v .size
+    unfolding fillIn
+    fill-most = first-le (v .size) (λ r. eqb (keyOf (v .slot u r)) 0)
+
+    body-length : length (part (slotAt (v .size) u (rankIn v u k) + keyBytes) bodyBytes s) ≡ bodyBytes
+    body-length = length-part (slotAt (v .size) u (rankIn v u k) + keyBytes) bodyBytes s
+        (inside s is-sound u (rankIn v u k) (home-low s is-sound k) (omega (arith, found, own-rank, own-fill, fill-most)))
+
+-- ---- the part
+
+abbrev partAt : List ℕ → Place → List ℕ
+partAt s p = part (p .at) (p .size) s
+
+module _ (s : List ℕ) (k : ℕ) where
+  -- read is granted, and the unit is not out
+  abbrev grants : Bool
+  grants = eqb (numberIn s (read k (zeros bodyBytes))) 0
+
+  abbrev serves : Bool
+  serves = not (eqb (view s .dstate (homeIn (view s) k)) 2)
+
+  abbrev test : Bool
+  test = grants && serves
+
+  part-length : length (givenIn s (readInPlace k)) ≡ pick test bodyBytes 0
+  unfolding givenIn placeIn
+  part-length =
+      by-test (λ (t : Bool). test ≡ t
+      → length (partAt s (pick t (record { at = slotAt (view s .size) (homeIn (view s) k) (rankIn (view s) (homeIn (view s) k) k) + keyBytes; size = bodyBytes }) (record { at = 0; size = 0 }))) ≡ pick t bodyBytes 0)
+      test
+      (λ _ e.
+      ap (λ (p : Place). length (partAt s p)) (pick-true refl _ _)
+      ∙ body-length s k (eqb-true (numberIn s (read k (zeros bodyBytes))) 0 (and-first grants serves e)) (not-true (eqb (view s .dstate (homeIn (view s) k)) 2) (and-second grants serves e))
+      ∙ sym (pick-true refl bodyBytes 0))
+      (λ _ e. ap (λ (p : Place). length (partAt s p)) (pick-false refl _ _) ∙ ap length (part-none s) ∙ sym (pick-false refl bodyBytes 0))
+      refl
+
+  pub in-place : InPlace s k
+  in-place = record {
+    untouched = in-place-store s k;
+    exactly = λ out fits. rw (same-length s k out (zeros bodyBytes) (fits ∙ sym (length-zeros bodyBytes))) part-length;
+  }

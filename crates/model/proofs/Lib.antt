@@ -1,0 +1,3 @@
+pub mod Refusals
+pub mod InPlace
+pub mod Demand1

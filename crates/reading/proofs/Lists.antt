@@ -1,0 +1,42 @@
+-- The bytes that list writes: the records of a unit one behind the other, and unit behind unit. Assumes nothing.
+use Prim.Native.Nat.{ℕ, _+_, _*_, _≤_, _<_}
+use mathlib.Core.Path.{_≡_, refl, sym, ap, _∙_}
+use mathlib.Core.List.{List, _++_, append-nil}
+use native.Mathlib.Omega.{arith}
+use lib.ListN.{length, drop, drop-of-length-le}
+use Rattle.buffer.specs.Bytes.{byte}
+use Rattle.buffer.specs.Table.{tab}
+use Rattle.buffer.specs.TableLaws.{Wide, length-tab, length-tab-sum, tab-room}
+use Rattle.group.specs.Widths.{slotBytes}
+use Rattle.model.specs.Layout.{view}
+use Rattle.model.specs.Reads.{listedFill, wholeSlot, totalIn, listingIn}
+use Rattle.lookup.specs.Keys.{listed-fill-small}
+use Rattle.lookup.specs.Groups.{Recoverable, Whole, whole-unit}
+use Rattle.lookup.specs.Slots.{length-whole}
+
+-- the records of a unit
+abbrev pub records : List ℕ → ℕ → List ℕ
+records s u = tab (listedFill (view s) u) (wholeSlot (view s) u)
+
+pub slots-wide : {s : List ℕ} {u : ℕ} → Recoverable s u → (n : ℕ) → n ≤ byte s 5 → Wide n slotBytes (wholeSlot (view s) u)
+slots-wide h n l r k = length-whole h r (omega arith)
+
+module _ {s : List ℕ} (whole : Whole s) where
+  pub records-long : (u : ℕ) → u < 16 → length (records s u) ≡ slotBytes * listedFill (view s) u
+  records-long u l = length-tab (listedFill (view s) u) slotBytes (wholeSlot (view s) u) (slots-wide (whole-unit whole u l) (listedFill (view s) u) (listed-fill-small s u))
+
+  pub listing-long : length (tab 16 (records s)) ≡ slotBytes * totalIn (view s)
+  unfolding totalIn
+  listing-long = length-tab-sum 16 slotBytes (records s) (listedFill (view s)) records-long
+
+  -- a buffer with room for all has room for the next unit's
+  pub records-fit : (u n room : ℕ) → u < 16 → n ≡ listedFill (view s) u → slotBytes * totalIn (view s) ≤ room → length (tab u (records s)) + slotBytes * n ≤ room
+  records-fit u n room l e h = omega (arith, tab-room 16 u (records s) l, records-long u l, listing-long)
+
+pub listing-is : (s o o₀ : List ℕ) → o ≡ tab 16 (records s) ++ drop (length (tab 16 (records s))) o₀ → o ≡ listingIn (view s) ++ drop (length (listingIn (view s))) o₀
+unfolding listingIn
+listing-is s o o₀ e = e
+
+-- a buffer filled to its end
+pub filled-whole : (o o₀ x : List ℕ) → o ≡ x ++ drop (length x) o₀ → length o₀ ≡ length x → o ≡ x
+filled-whole o o₀ x e l = e ∙ rw (drop-of-length-le o₀ {i = length x} (omega arith)) (append-nil x)

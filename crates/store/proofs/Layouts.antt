@@ -1,0 +1,57 @@
+-- Lay out on a slice: what a granted layout's number says, and the bytes that clearing and a header leave. Assumes nothing.
+use Prim.Native.Nat.{ℕ, _+_, _*_, _-_, _≤_, _<_}
+use mathlib.Core.Path.{_≡_, refl, sym, ap, _∙_}
+use mathlib.Core.Bool.{Bool, true, false, not}
+use mathlib.Core.List.{List, [], _∷_, _++_, append-assoc}
+use native.Mathlib.Omega.{arith}
+use lib.Dec.{eqb, ltb}
+use lib.ListN.{length, take, drop}
+use lib.Seq.{drop-drop, drop-at, length-take-le}
+use borrow.Author.Tests.{eqb-true, ltb-false, not-true, not-false}
+use Rattle.buffer.specs.Choice.{pick}
+use Rattle.buffer.specs.Bytes.{zeros, splice}
+use Rattle.buffer.specs.ByteLaws.{length-zeros}
+use Rattle.buffer.specs.SpliceLaws.{length-splice}
+use Rattle.model.specs.Layout.{storeBytes, frontOf}
+use Rattle.model.specs.Numbers.{firstOf}
+use Rattle.model.specs.Perform.{outcome, plain, layOut, layOutNumber, laidOut}
+
+-- a granted layout has a b from 1 to 64 and a slice that is long enough
+pub granted-layout : (s : List ℕ) (b : ℕ) → layOutNumber s b ≡ 0 → (1 ≤ b) × (b ≤ 64) × (storeBytes b ≤ length s)
+unfolding layOutNumber firstOf pick
+granted-layout s b e = go (ltb b 1) (ltb 64 b) (ltb (length s) (storeBytes b)) refl refl refl e
+  where
+    go : (x y z : Bool) → ltb b 1 ≡ x → ltb 64 b ≡ y → ltb (length s) (storeBytes b) ≡ z
+        → _≡_ {A = ℕ} (pick x 2 (pick y 2 (pick z 7 0))) 0 → (1 ≤ b) × (b ≤ 64) × (storeBytes b ≤ length s)
+    go true y z p q r e = absurd (omega arith)
+    go false true z p q r e = absurd (omega arith)
+    go false false true p q r e = absurd (omega arith)
+    go false false false p q r e = (ltb-false b 1 p, ltb-false 64 b q, ltb-false (length s) (storeBytes b) r)
+
+pub refused : (s : List ℕ) (b r : ℕ) → r ≡ layOutNumber s b → not (eqb r 0) ≡ true → outcome (plain r) s ≡ layOut s b
+unfolding layOut pick
+refused s b r e h = rw (← e, not-true (eqb r 0) h)
+
+pub granted : (s s′ : List ℕ) (b r : ℕ) → r ≡ layOutNumber s b → not (eqb r 0) ≡ false → s′ ≡ laidOut b s → outcome (plain 0) s′ ≡ layOut s b
+unfolding layOut pick
+granted s s′ b r e h q =
+    let z : r ≡ 0 = eqb-true r 0 (not-false (eqb r 0) h) in
+    rw (← e, z, q)
+
+pub is-zero : (r : ℕ) → not (eqb r 0) ≡ false → r ≡ 0
+is-zero r h = eqb-true r 0 (not-false (eqb r 0) h)
+
+-- cleared behind the header, then with the header of an empty store
+pub laid : (s head new : List ℕ) (b n : ℕ) → storeBytes b ≤ length s → n ≡ storeBytes b - 36 → new ≡ zeros n
+    → head ≡ frontOf b 1 1 ++ ((1 ∷ zeros 15) ++ (1 ∷ zeros 11)) → splice 0 36 head (splice 36 n new s) ≡ laidOut b s
+unfolding splice laidOut
+laid s head new b n long en ez eh =
+    let size : n ≡ 704 * b = omega arith in
+    let behind : 36 + n ≡ storeBytes b = omega arith in
+    let whole : length (take 36 s) ≡ 36 = length-take-le 36 s (omega arith) in
+    rw (drop-at (take 36 s) (new ++ drop n (drop 36 s)) 36 whole, eh, ez, drop-drop n 36 s, behind, size)
+    (simp append-assoc)
+
+-- the slice keeps its length while it is cleared
+pub kept : (s new : List ℕ) (at n : ℕ) → at + n ≤ length s → new ≡ zeros n → length (splice at n new s) ≡ length s
+kept s new at n h e = length-splice at n new s h (ap length e ∙ length-zeros n)

@@ -1,0 +1,79 @@
+-- `lay_out::lay_out` meets its contract. Assumes nothing.
+use borrow.Author.Needs.{needs}
+use Prim.Native.Nat.{ℕ, _+_, _*_, _-_}
+use mathlib.Core.Path.{sym, ap, _∙_}
+use native.Mathlib.Omega.{arith}
+use Rattle.buffer.specs.Bytes.{zeros, part, splice}
+use Rattle.buffer.specs.SpliceLaws.{length-part}
+use Rattle.store.proofs.Layouts.{granted-layout, refused, granted, is-zero, laid, kept}
+use Rattle.store.proofs.lay_out.lay_out.Statement.{statement}
+use Rattle.store.proofs.lay_out.lay_out.Tie as tie
+use Rattle.store.proofs.lay_out.lay_out.Reads as reads
+use Rattle.store.proofs.lay_out.lay_out.Lts as lts
+use Rattle.buffer.proofs.clear.Reads as clear-reads
+use Rattle.buffer.proofs.copy.Reads as copy-reads
+use Rattle.store.proofs.lay_out.header.Reads as header-reads
+use Rattle.store.proofs.lay_out.layout_number.Reads as layout-number-reads
+use Rattle.store.proofs.lay_out.wide.Reads as wide-reads
+
+returns : tie.Need-returns
+returns c = refused _ _ _ (c .before .layout-number .ensures) (c .if1 .taken)
+
+part-clear-end : tie.Need-part-clear-end
+part-clear-end c =
+    let i = c .before in
+    let a = i .before .before .before .before .args in
+    let g = granted-layout (a .s .now) (a .b) (sym (i .before .layout-number .ensures) ∙ is-zero _ (i .if1 .left)) in
+    omega (arith, g .2, c .wide .ensures)
+
+header-requires : tie.Need-header-requires
+header-requires c κs =
+    let i = c .before .before .before .before .before in
+    let a = i .before .before .before .before .args in
+    granted-layout (a .s .now) (a .b) (sym (i .before .layout-number .ensures) ∙ is-zero _ (i .if1 .left)) .1
+
+part-copy-end : tie.Need-part-copy-end
+unfolding part splice
+part-copy-end c =
+    let w = c .before .before .before .before .before in
+    let i = w .before in
+    let a = i .before .before .before .before .args in
+    let g = granted-layout (a .s .now) (a .b) (sym (i .before .layout-number .ensures) ∙ is-zero _ (i .if1 .left)) in
+    let n : ℕ = 36 + 704 * w .wide .result - 36 in
+    omega (arith, g .2, w .wide .ensures, kept (a .s .now) _ 36 n (omega (arith, g .2, w .wide .ensures)) (c .before .before .before .clear .ensures ∙ ap zeros (length-part 36 n (a .s .now) (omega (arith, g .2, w .wide .ensures)))))
+
+returns-2 : tie.Need-returns-2
+unfolding part splice
+returns-2 c =
+    let w = c .before .before .before .before .before .before .before .before .before .before in
+    let i = w .before in
+    let a = i .before .before .before .before .args in
+    let g = granted-layout (a .s .now) (a .b) (sym (i .before .layout-number .ensures) ∙ is-zero _ (i .if1 .left)) in
+    let n : ℕ = 36 + 704 * w .wide .result - 36 in
+    granted _ _ _ _ (i .before .layout-number .ensures) (i .if1 .left)
+    (laid (a .s .now) _ _ (a .b) n (g .2) (omega (arith, w .wide .ensures))
+    (c .before .before .before .before .before .before .before .before .clear .ensures ∙ ap zeros (length-part 36 n (a .s .now) (omega (arith, g .2, w .wide .ensures))))
+    (c .before .before .copy .ensures ∙ c .before .before .before .before .before .header .ensures))
+
+pub lay-out-spec : {M : Type 1} → statement M
+lay-out-spec =
+    tie.close
+    (tie.spec
+    (λ c κs. search needs)
+    (λ c. search needs)
+    returns
+    (λ c κs. search needs)
+    (λ c. search needs)
+    (λ c. search needs)
+    (λ c. search needs)
+    (λ c. search needs)
+    part-clear-end
+    (λ c κs. search needs)
+    header-requires
+    (λ c. search needs)
+    (λ c. search needs)
+    part-copy-end
+    (λ c. search needs)
+    (λ c κs. search needs)
+    (λ c. search needs)
+    returns-2)

@@ -1,0 +1,94 @@
+// Lay out: an empty store in a lent slice.
+ghost use mathlib.Core.Path.{_≡_};
+ghost use mathlib.Core.List.{[], _∷_, _++_};
+ghost use Prim.Native.Nat.{_+_, _*_, _≤_, _<_};
+ghost use Rattle.buffer.specs.Bytes.{zeros};
+ghost use Rattle.model.specs.Layout.{frontOf};
+ghost use Rattle.model.specs.Perform.{outcome, plain, layOut, layOutNumber};
+
+fn wide(x: u32) -> usize
+    ensures { λ r. ⌜ r ≡ x ⌝ }
+{
+    x as usize
+}
+
+// The number of a layout: 2 for a b outside 1 to 64, 7 for a slice that is too short.
+fn layout_number(s: &[u8], b: u32) -> u8
+    ensures { λ r. ⌜ r ≡ layOutNumber (now (s .entry)) b ⌝ }
+{
+    let none = b < 1;
+    if none {
+        return 2;
+    }
+    let many = 64 < b;
+    if many {
+        return 2;
+    }
+    let short = s.len() < 36 + 704 * wide(b);
+    if short {
+        return 7;
+    }
+    0
+}
+
+// The header of an empty store: version, length, b, M = 1, K = 1, data unit 0 and check unit 0 in service.
+fn header(b: u32) -> [u8; 36]
+    requires { ⌜ b ≤ 64 ⌝ }
+    ensures { λ r. ⌜ r ≡ frontOf b 1 1 ++ ((1 ∷ zeros 15) ++ (1 ∷ zeros 11)) ⌝ }
+{
+    let size = 36 + 704 * b;
+    [
+        1,
+        (size / 16777216 % 256) as u8,
+        (size / 65536 % 256) as u8,
+        (size / 256 % 256) as u8,
+        (size % 256) as u8,
+        b as u8,
+        1,
+        1,
+        1,
+        0,
+        0,
+        0,
+        0,
+        0,
+        0,
+        0,
+        0,
+        0,
+        0,
+        0,
+        0,
+        0,
+        0,
+        0,
+        1,
+        0,
+        0,
+        0,
+        0,
+        0,
+        0,
+        0,
+        0,
+        0,
+        0,
+        0,
+    ]
+}
+
+// Lays out an empty store with b ranks to a unit. Bytes behind it are not touched.
+pub fn lay_out(s: &mut [u8], b: u32) -> u8
+    ensures { λ r. ⌜ outcome (plain r) (now (s .exit)) ≡ layOut (now (s .entry)) b ⌝ }
+{
+    let number = layout_number(s, b);
+    let refused = number != 0;
+    if refused {
+        return number;
+    }
+    let size = 36 + 704 * wide(b);
+    buffer::clear(&mut s[36..size]);
+    let head = header(b);
+    buffer::copy(&mut s[0..36], &head);
+    0
+}

@@ -1,0 +1,143 @@
+/*
+ * lhrs.h: a record store for crane control units over one lent block of bytes.
+ *
+ * The store. All of it lies in one block of bytes that the caller owns and lends to each call: a
+ * pointer and its length. The library keeps nothing between calls, allocates nothing and opens
+ * nothing; the block may be copied, saved and loaded as plain bytes. Its layout does not depend on
+ * the machine. A block longer than the store is allowed: bytes behind the store's length are never
+ * touched.
+ *
+ * Memory. Every block passed in stays the caller's. It is used during the call only. The blocks
+ * passed to one call must not overlap, a pointer must be valid for its length, and it must not be
+ * null, not even with length 0. Calls on one store must not run at the same time.
+ *
+ * Records. A record is a key, 1 to 4,294,967,295, and a body of 16 bytes; any body will do, all
+ * zeros too. Records are spread over 1 to 16 data units of b slots each. Each four data units form
+ * a group (0-3, 4-7, 8-11, 12-15) with 1 to 3 check units, from which units that are lost are
+ * rebuilt. A group survives as many lost units, data and check units together, as it has check
+ * units.
+ *
+ * Numbers. Each call returns one of the numbers below. A call that returns another number than 0
+ * changes no byte. Where several numbers apply, the first of 2, 1, 3, 9, 4, 8, 5, 6, 7 is given.
+ */
+#ifndef LHRS_H
+#define LHRS_H
+
+#include <stddef.h>
+#include <stdint.h>
+
+#ifdef __cplusplus
+extern "C" {
+#endif
+
+/* The bytes of a body. */
+#define LHRS_BODY 16u
+
+/* The bytes of a store whose units have b slots. */
+#define LHRS_LENGTH(b) (36u + 704u * (b))
+
+/* The number by which lhrs_out calls check unit j (0 to 2) of group g (0 to 3). */
+#define LHRS_CHECK_UNIT(g, j) (16u + 3u * (g) + (j))
+
+enum lhrs_number {
+    /* The call was granted and has done what it says. */
+    LHRS_GRANTED = 0,
+    /* The block holds no sound store: it was never laid out, it is cut off, or it is damaged.
+       Every call but lhrs_lay_out tests this. Parity bytes are not tested. */
+    LHRS_NOT_SOUND = 1,
+    /* An argument is outside its range: key 0, b not 1 to 64, a body or an output that is not 16
+       bytes long, a unit above 27, a group above 3. */
+    LHRS_BAD_ARGUMENT = 2,
+    /* There is no such unit or group in the store at present. */
+    LHRS_NOT_IN_PLACE = 3,
+    /* A unit is out: in the group of the key's unit (teach, correct, erase); in the group of the
+       unit added or removed, or of the unit that it is split from (grow, shrink); or the unit is
+       out already (out). Repair the group first. */
+    LHRS_UNIT_OUT = 4,
+    /* The key is taught already. lhrs_correct gives it a new body. */
+    LHRS_KEY_PRESENT = 5,
+    /* The key is not taught. */
+    LHRS_KEY_NOT_PRESENT = 6,
+    /* There is no room: the key's unit is full (teach), the records of both units do not fit into
+       one (shrink), or the block is shorter than LHRS_LENGTH(b) (lay out). */
+    LHRS_NO_ROOM = 7,
+    /* More units of the group are out than it has check units: nothing can be rebuilt (repair; read
+       of a key whose unit is out). */
+    LHRS_BEYOND_RECOVERY = 8,
+    /* A limit: grow at 16 units, shrink at 1, or a raise that is not granted. */
+    LHRS_LIMIT = 9
+};
+
+/*
+ * Makes an empty store in the block: one data unit of b slots (1 to 64), level 1, one check unit.
+ * What the first LHRS_LENGTH(b) bytes held before is lost.
+ * Returns 0, 2 or 7.
+ */
+uint8_t lhrs_lay_out(uint8_t *store, size_t len, uint32_t b);
+
+/*
+ * Adds a record with a new key. body_len is 16.
+ * Returns 0, 1, 2, 4, 5 or 7.
+ */
+uint8_t lhrs_teach(uint8_t *store, size_t len, uint32_t key, const uint8_t *body, size_t body_len);
+
+/*
+ * Gives a taught key a new body. body_len is 16.
+ * Returns 0, 1, 2, 4 or 6.
+ */
+uint8_t lhrs_correct(uint8_t *store, size_t len, uint32_t key, const uint8_t *body,
+                     size_t body_len);
+
+/*
+ * Removes a record.
+ * Returns 0, 1, 2, 4 or 6.
+ */
+uint8_t lhrs_erase(uint8_t *store, size_t len, uint32_t key);
+
+/*
+ * Writes the body of a key to out; out_len is 16. Where the key's unit is out, the body is rebuilt
+ * from the other units of its group. The store is not changed; out is written only when 0 is
+ * returned.
+ * Returns 0, 1, 2, 6 or 8.
+ */
+uint8_t lhrs_read(const uint8_t *store, size_t len, uint32_t key, uint8_t *out, size_t out_len);
+
+/*
+ * Takes a unit out of service, as when it is swapped: its bytes become zero. Units 0 to 15 are data
+ * units, LHRS_CHECK_UNIT(g, j) are check units.
+ * Returns 0, 1, 2, 3 or 4.
+ */
+uint8_t lhrs_out(uint8_t *store, size_t len, uint32_t unit);
+
+/*
+ * Rebuilds all units of a group (0 to 3) that are out and puts them in service. With none out it is
+ * granted and changes nothing.
+ * Returns 0, 1, 2, 3 or 8.
+ */
+uint8_t lhrs_repair(uint8_t *store, size_t len, uint32_t group);
+
+/*
+ * Adds a data unit, up to 16; an existing unit is split to fill it.
+ * Returns 0, 1, 4 or 9.
+ */
+uint8_t lhrs_grow(uint8_t *store, size_t len);
+
+/*
+ * Removes the last data unit; its records go back to the unit that it was split from.
+ * Returns 0, 1, 4, 7 or 9.
+ */
+uint8_t lhrs_shrink(uint8_t *store, size_t len);
+
+/*
+ * Raises the level, the number of check units that new groups get, by one, up to 3. Groups in place
+ * get theirs when their first data unit is next split. Granted only while the number of data units
+ * is 1, 2, 4 or 8.
+ * Returns 0, 1 or 9.
+ */
+uint8_t lhrs_raise(uint8_t *store, size_t len);
+
+#ifdef __cplusplus
+}
+#endif
+
+#endif

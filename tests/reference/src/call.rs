@@ -1,0 +1,136 @@
+//! The calls of a store with their arguments, and what they answer.
+
+use std::fmt;
+
+/// One call. The lengths of the lent slices are arguments too.
+#[derive(Clone, Debug, PartialEq, Eq)]
+pub enum Call {
+    LayOut { b: u32 },
+    Teach { key: u32, body: Vec<u8> },
+    Correct { key: u32, body: Vec<u8> },
+    Erase { key: u32 },
+    Read { key: u32, out: usize },
+    ReadInPlace { key: u32 },
+    List { out: usize },
+    Out { unit: u32 },
+    Repair { group: u32 },
+    Grow,
+    Shrink,
+    Raise,
+}
+
+/// What a call hands back.
+#[derive(Clone, Debug, PartialEq, Eq)]
+pub enum Answer {
+    /// The number alone.
+    Number(u8),
+    /// The number of a read, and the body where it is granted.
+    Read(u8, Option<[u8; 16]>),
+    /// The part of read in place: a body or nothing.
+    Part(Vec<u8>),
+    /// Number and count of a list, and the bytes written.
+    List(u8, u32, Vec<u8>),
+}
+
+impl Answer {
+    /// The number, where one is returned.
+    pub fn number(&self) -> Option<u8> {
+        match self {
+            Answer::Number(n) | Answer::Read(n, _) | Answer::List(n, _, _) => Some(*n),
+            Answer::Part(_) => None,
+        }
+    }
+}
+
+/// The kinds of call, in the order of document 01.
+#[derive(Clone, Copy, Debug, PartialEq, Eq, Hash)]
+pub enum Kind {
+    LayOut,
+    Teach,
+    Correct,
+    Erase,
+    Read,
+    ReadInPlace,
+    List,
+    Out,
+    Repair,
+    Grow,
+    Shrink,
+    Raise,
+}
+
+pub const KINDS: [Kind; 12] = [
+    Kind::LayOut,
+    Kind::Teach,
+    Kind::Correct,
+    Kind::Erase,
+    Kind::Read,
+    Kind::ReadInPlace,
+    Kind::List,
+    Kind::Out,
+    Kind::Repair,
+    Kind::Grow,
+    Kind::Shrink,
+    Kind::Raise,
+];
+
+impl Call {
+    pub fn kind(&self) -> Kind {
+        match self {
+            Call::LayOut { .. } => Kind::LayOut,
+            Call::Teach { .. } => Kind::Teach,
+            Call::Correct { .. } => Kind::Correct,
+            Call::Erase { .. } => Kind::Erase,
+            Call::Read { .. } => Kind::Read,
+            Call::ReadInPlace { .. } => Kind::ReadInPlace,
+            Call::List { .. } => Kind::List,
+            Call::Out { .. } => Kind::Out,
+            Call::Repair { .. } => Kind::Repair,
+            Call::Grow => Kind::Grow,
+            Call::Shrink => Kind::Shrink,
+            Call::Raise => Kind::Raise,
+        }
+    }
+
+    /// Whether the call returns a number alone, so that it has a C name.
+    pub fn has_c_name(&self) -> bool {
+        !matches!(self.kind(), Kind::ReadInPlace | Kind::List)
+    }
+
+    /// Whether a line of hallrun can say it.
+    pub fn has_line(&self) -> bool {
+        match self {
+            Call::Teach { body, .. } | Call::Correct { body, .. } => body.len() == 16,
+            Call::LayOut { b: n } | Call::Out { unit: n } | Call::Repair { group: n } => *n <= 255,
+            Call::Read { out, .. } => *out == 16,
+            Call::ReadInPlace { .. } => false,
+            _ => true,
+        }
+    }
+}
+
+/// Bytes as capital hexadecimal digits.
+pub fn hex(bytes: &[u8]) -> String {
+    bytes.iter().map(|byte| format!("{byte:02X}")).collect()
+}
+
+/// The line of hallrun; what no line can say is told in words behind it.
+impl fmt::Display for Call {
+    fn fmt(&self, f: &mut fmt::Formatter) -> fmt::Result {
+        match self {
+            Call::LayOut { b } => write!(f, "L {b:02X}"),
+            Call::Teach { key, body } => write!(f, "T {key:08X} {}", hex(body)),
+            Call::Correct { key, body } => write!(f, "C {key:08X} {}", hex(body)),
+            Call::Erase { key } => write!(f, "E {key:08X}"),
+            Call::Read { key, out: 16 } => write!(f, "R {key:08X}"),
+            Call::Read { key, out } => write!(f, "R {key:08X} (output of {out} bytes)"),
+            Call::ReadInPlace { key } => write!(f, "read in place {key:08X}"),
+            Call::List { .. } => write!(f, "P"),
+            Call::Out { unit } => write!(f, "O {unit:02X}"),
+            Call::Repair { group } => write!(f, "F {group:02X}"),
+            Call::Grow => write!(f, "G"),
+            Call::Shrink => write!(f, "S"),
+            Call::Raise => write!(f, "K"),
+        }
+    }
+}

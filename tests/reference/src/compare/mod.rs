@@ -1,0 +1,25 @@
+//! The comparison of a store under its C names with the reference, call by call.
+
+#[cfg(feature = "subject")]
+mod arena;
+pub mod case;
+#[cfg(feature = "self")]
+mod exports;
+#[cfg(feature = "self")]
+mod faults;
+#[cfg(feature = "subject")]
+mod minimal;
+#[cfg(feature = "subject")]
+mod run;
+#[cfg(feature = "subject")]
+mod subject;
+
+#[cfg(feature = "self")]
+pub use faults::fault_names;
+#[cfg(feature = "subject")]
+pub use minimal::minimal;
+#[cfg(feature = "subject")]
+pub use run::{run, Outcome};
+
+#[cfg(all(feature = "self", feature = "library"))]
+compile_error!("the features self and library both provide the C names: choose one");

@@ -1,0 +1,151 @@
+//! Damage to a store: header, states, keys, bodies, parity, and the length of the slice.
+
+use crate::compare::case::Step;
+use crate::random::Random;
+use crate::store::layout::{check_at, length, slot_at, unit_range, View, IN_SERVICE, OUT};
+
+/// Some damage to a sound store.
+pub fn damage(random: &mut Random, bytes: &[u8]) -> Vec<Step> {
+    let view = View::new(bytes).expect("a sound store");
+    match random.below(16) {
+        0 | 1 => header(random, view),
+        2 => vec![state(random)],
+        3 => vec![units(random, view)],
+        4 => vec![out_not_zeroed(random)],
+        5 => other_size(view),
+        6 => vec![slice(random, view)],
+        7 => vec![data_key(random, view)],
+        8 => vec![listed_key(random, view)],
+        9..=11 => key_everywhere(random, view),
+        12 => vec![empty_slot(random, view)],
+        13 => vec![wrong_body(random, view)],
+        14 => wrong_parity(random, bytes),
+        _ => vec![anywhere(random, view)],
+    }
+}
+
+fn write(at: usize, bytes: Vec<u8>) -> Step {
+    Step::Write { at, bytes }
+}
+
+/// A value close to the one before.
+fn near(random: &mut Random, value: u8) -> u8 {
+    let values = [value.wrapping_add(1), value.wrapping_sub(1), value ^ 0x80, 0, 255];
+    random.pick(&values)
+}
+
+fn header(random: &mut Random, view: View) -> Vec<Step> {
+    let at = random.below(8);
+    vec![write(at, vec![near(random, view.bytes[at])])]
+}
+
+fn state(random: &mut Random) -> Step {
+    write(8 + random.below(28), vec![random.pick(&[0, 1, 2, 3, 255])])
+}
+
+/// M is off by one, with the state of the data unit that is too many or missing.
+fn units(random: &mut Random, view: View) -> Step {
+    let units = view.units();
+    let more = units < 16 && random.chance(1, 2);
+    let mut header = view.bytes[6..24].to_vec();
+    if more {
+        header[0] += 1;
+        header[2 + units] = IN_SERVICE;
+    } else {
+        header[0] -= 1;
+        header[1 + units] = 0;
+    }
+    write(6, header)
+}
+
+/// A unit is marked out and keeps its bytes.
+fn out_not_zeroed(random: &mut Random) -> Step {
+    write(8 + random.below(28), vec![OUT])
+}
+
+/// The header of a store with smaller units.
+fn other_size(view: View) -> Vec<Step> {
+    let b = (view.b - 1).max(1);
+    let mut header = (length(b) as u32).to_be_bytes().to_vec();
+    header.push(b as u8);
+    vec![write(1, header)]
+}
+
+/// A shorter or longer slice.
+fn slice(random: &mut Random, view: View) -> Step {
+    let length = length(view.b);
+    let lengths = [0, 1, 6, 35, 36, length - 1, length - 1, length + 1, length + 500];
+    Step::Lend(random.pick(&lengths))
+}
+
+/// A key that is wrong in a data unit alone.
+fn data_key(random: &mut Random, view: View) -> Step {
+    let unit = random.below(view.units());
+    let rank = random.below(view.b);
+    let at = slot_at(view.b, unit, rank) + random.below(4);
+    write(at, vec![near(random, view.bytes[at])])
+}
+
+/// A key that is wrong in one check unit's list.
+fn listed_key(random: &mut Random, view: View) -> Step {
+    let check = random.below(12);
+    let rank = random.below(view.b);
+    let at = check_at(view.b, check, rank) + random.below(16);
+    write(at, vec![near(random, view.bytes[at])])
+}
+
+/// A key that is wrong in its data unit, where that is in service, and in all lists alike: given
+/// twice, of another unit, missing, or behind the last record.
+fn key_everywhere(random: &mut Random, view: View) -> Vec<Step> {
+    let group = random.below(view.units().div_ceil(4));
+    let place = random.below(4);
+    let unit = 4 * group + place;
+    let keys = view.keys(unit).unwrap_or_else(|| vec![0; view.b]);
+    let rank = random.below(view.b);
+    let keys = [0, keys[0], keys[rank].wrapping_add(1), keys[rank] ^ 16, random.next_u64() as u32];
+    let key = random.pick(&keys).to_be_bytes().to_vec();
+    let mut steps = Vec::new();
+    if view.state(unit) == IN_SERVICE {
+        steps.push(write(slot_at(view.b, unit, rank), key.clone()));
+        if key == [0; 4] && random.chance(3, 4) {
+            steps.push(write(slot_at(view.b, unit, rank) + 4, vec![0; 16]));
+        }
+    }
+    for check in view.checks_in(group, IN_SERVICE) {
+        steps.push(write(check_at(view.b, check, rank) + 4 * place, key.clone()));
+    }
+    steps
+}
+
+/// A byte in a slot or a unit that ought to be zero, or in a record's body.
+fn empty_slot(random: &mut Random, view: View) -> Step {
+    let unit = random.below(28);
+    let range = unit_range(view.b, unit);
+    let near_end = random.chance(1, 2);
+    let at = if near_end { range.end - 1 } else { range.start + random.below(range.len()) };
+    write(at, vec![1 + random.next_u64() as u8 % 255])
+}
+
+fn wrong_body(random: &mut Random, view: View) -> Step {
+    let unit = random.below(view.units());
+    let rank = random.below(view.b);
+    let at = slot_at(view.b, unit, rank) + 4 + random.below(16);
+    write(at, vec![random.next_u64() as u8])
+}
+
+/// Wrong parity, in one to three records of check units in service, at ranks without a key too.
+pub fn wrong_parity(random: &mut Random, bytes: &[u8]) -> Vec<Step> {
+    let view = View::new(bytes).expect("a sound store");
+    let checks: Vec<usize> = (0..4).flat_map(|group| view.checks_in(group, IN_SERVICE)).collect();
+    let records = if checks.is_empty() { 0 } else { 1 + random.below(3) };
+    let mut record = || {
+        let at = check_at(view.b, random.pick(&checks), random.below(view.b)) + 16;
+        write(at, random.bytes(16))
+    };
+    (0..records).map(|_| record()).collect()
+}
+
+fn anywhere(random: &mut Random, view: View) -> Step {
+    let at = random.below(length(view.b));
+    write(at, vec![random.next_u64() as u8])
+}

@@ -1,0 +1,115 @@
+//! Histories: a layout, growth with records, then calls of all kinds.
+
+use super::arguments::Arguments;
+use crate::call::{Call, Kind, KINDS};
+use crate::ledger::Ledger;
+use crate::random::Random;
+
+/// How often each kind is called, in the order of `KINDS`.
+type Weights = [usize; 12];
+
+const BALANCED: Weights = [1, 16, 10, 10, 12, 4, 2, 4, 6, 4, 4, 2];
+const LOSING: Weights = [0, 6, 4, 4, 14, 4, 4, 16, 8, 2, 2, 2];
+const MOVING: Weights = [0, 12, 4, 8, 6, 2, 2, 2, 3, 12, 12, 4];
+const FILLING: Weights = [0, 28, 6, 8, 6, 2, 2, 1, 2, 2, 4, 1];
+
+struct Maker {
+    arguments: Arguments,
+    ledger: Ledger,
+    calls: Vec<Call>,
+}
+
+/// The calls of a history; the first is a granted layout. Its slice has the store's length.
+pub fn history(seed: u64) -> Vec<Call> {
+    let mut random = Random::new(seed);
+    let b = match random.below(20) {
+        0..=4 => 1,
+        5..=9 => 2,
+        10..=12 => 3,
+        13..=15 => 4,
+        16..=17 => 5 + random.below(4),
+        18 => 9 + random.below(24),
+        _ => 64,
+    };
+    let mixed = 20 + random.below(80);
+    make(random, b, mixed)
+}
+
+/// A history with few calls and, but for one in a hundred, small units.
+pub fn short_history(seed: u64) -> Vec<Call> {
+    let mut random = Random::new(seed);
+    let large = random.chance(1, 100);
+    let b = if large { random.pick(&[16, 33, 64]) } else { random.pick(&[1, 1, 2, 2, 3, 4, 7]) };
+    let mixed = random.below(16);
+    make(random, b, mixed)
+}
+
+fn make(mut random: Random, b: usize, mixed: usize) -> Vec<Call> {
+    let units = random.pick(&[1, 2, 3, 4, 4, 5, 6, 7, 8, 8, 9, 10, 12, 13, 15, 16]);
+    let raises = random.below(3);
+    let fill = random.pick(&[0, 30, 75, 100]);
+    let weights = random.pick(&[BALANCED, LOSING, MOVING, FILLING]);
+    let mut maker = Maker {
+        arguments: Arguments::new(random, 2 * b * units + 3),
+        ledger: Ledger::open(b as u32, usize::MAX).expect("b is in its range"),
+        calls: vec![Call::LayOut { b: b as u32 }],
+    };
+    maker.grow_to(units, raises);
+    maker.fill(fill);
+    (0..mixed).for_each(|_| maker.any_call(&weights));
+    maker.calls
+}
+
+impl Maker {
+    fn push(&mut self, call: Call) {
+        if !matches!(call, Call::LayOut { .. }) {
+            self.ledger.perform(&call);
+        }
+        self.calls.push(call);
+    }
+
+    /// Grows to so many units, with a few records and up to so many raises between.
+    fn grow_to(&mut self, units: usize, mut raises: usize) {
+        while self.ledger.units() < units {
+            (0..self.ledger.b.min(3)).for_each(|_| self.teach_of_pool());
+            if raises > 0 && self.arguments.random.chance(1, 2) {
+                self.push(Call::Raise);
+                raises -= 1;
+            }
+            self.push(Call::Grow);
+        }
+    }
+
+    fn teach_of_pool(&mut self) {
+        let key = self.arguments.random.pick(&self.arguments.pool);
+        let body = self.arguments.body();
+        self.push(Call::Teach { key, body });
+    }
+
+    /// Teaches until about so many of a hundred slots are used, as far as the keys reach.
+    fn fill(&mut self, percent: usize) {
+        let slots = self.ledger.units() * self.ledger.b * percent / 100;
+        let mut tries = 2 * slots;
+        while self.ledger.records() < slots && tries > 0 {
+            self.teach_of_pool();
+            tries -= 1;
+        }
+    }
+
+    fn any_call(&mut self, weights: &Weights) {
+        let kind = self.any_kind(weights);
+        let call = self.arguments.call(kind, &self.ledger);
+        self.push(call);
+    }
+
+    fn any_kind(&mut self, weights: &Weights) -> Kind {
+        let mut at = self.arguments.random.below(weights.iter().sum());
+        for (kind, weight) in KINDS.into_iter().zip(weights) {
+            if at < *weight {
+                return kind;
+            }
+            at -= weight;
+        }
+        unreachable!("the weights add up")
+    }
+}

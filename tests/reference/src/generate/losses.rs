@@ -1,0 +1,31 @@
+//! Every choice of members out of one group with three check units.
+
+use crate::call::Call;
+
+/// The number of choices.
+pub const LOSSES: u64 = 256;
+
+/// The history of a choice: bit i takes out member i, data units before check units. With bit 7 the
+/// group has three data units in place, otherwise four.
+pub fn losses(choice: u64) -> Vec<Call> {
+    let units = if choice & 0x80 == 0 { 4 } else { 3 };
+    let mut calls = vec![Call::LayOut { b: 3 }, Call::Raise, Call::Raise];
+    calls.extend((1..units).map(|_| Call::Grow));
+    calls.extend((1..=9).map(|key| Call::Teach { key, body: body(key) }));
+    let out = [0, 1, 2, 3, 16, 17, 18].into_iter().enumerate();
+    let out = out.filter(|(member, _)| choice >> member & 1 == 1);
+    calls.extend(out.map(|(_, unit)| Call::Out { unit }));
+    calls.extend(reads());
+    calls.push(Call::Repair { group: 0 });
+    calls.extend(reads());
+    calls
+}
+
+fn body(key: u32) -> Vec<u8> {
+    (1..=16).map(|i| (key * 37 * i) as u8).collect()
+}
+
+fn reads() -> impl Iterator<Item = Call> {
+    let reads = (1..=10).map(|key| Call::Read { key, out: 16 });
+    reads.chain([Call::List { out: 20 * 9 }])
+}

@@ -1,0 +1,53 @@
+//! "The program hallrun".
+
+mod line;
+
+use crate::call::{hex, Answer, Call};
+use crate::store;
+pub use line::parse;
+
+const INPUT: usize = 4096;
+const STORE: usize = 45_092;
+const LIST: usize = 1024 * 20;
+
+/// What hallrun prints for an input.
+pub fn run(input: &[u8]) -> String {
+    let mut bytes = vec![0; STORE];
+    lines(&input[..input.len().min(INPUT)]).into_iter().map(|l| answer(&mut bytes, l)).collect()
+}
+
+/// The lines of an input; a final 0A opens no further line.
+fn lines(input: &[u8]) -> Vec<&[u8]> {
+    let mut lines: Vec<&[u8]> = input.split(|&byte| byte == 0x0A).collect();
+    if lines.last().is_some_and(|last| last.is_empty()) {
+        lines.pop();
+    }
+    lines
+}
+
+fn answer(bytes: &mut [u8], line: &[u8]) -> String {
+    let Some(call) = parse(line, LIST) else { return "10\n".into() };
+    match store::perform(bytes, &call) {
+        Answer::Number(number) | Answer::Read(number, None) => format!("{number}\n"),
+        Answer::Read(number, Some(body)) => format!("{number} {}\n", hex(&body)),
+        Answer::List(number, _, records) => format!("{number}\n{}", listing(bytes, &records)),
+        Answer::Part(_) => unreachable!("no line reads in place"),
+    }
+}
+
+/// A line for each record of a list: unit, rank, key, body.
+fn listing(bytes: &[u8], records: &[u8]) -> String {
+    let mut ranks = [0; 16];
+    let line = |record: &[u8]| {
+        let key = u32::from_be_bytes(record[..4].try_into().unwrap());
+        let unit = store::layout::unit_of(bytes[6] as usize, key);
+        ranks[unit] += 1;
+        format!("{unit:02X} {:02X} {key:08X} {}\n", ranks[unit], hex(&record[4..]))
+    };
+    records.chunks_exact(20).map(line).collect()
+}
+
+/// The line of a call, where it has one.
+pub fn line_of(call: &Call) -> Option<String> {
+    call.has_line().then(|| call.to_string())
+}

@@ -1,0 +1,136 @@
+//! "The ledger": what a history leaves, by the calls' arguments alone.
+
+mod change;
+mod number;
+mod picture;
+mod symbols;
+
+use crate::call::{Answer, Call};
+pub use symbols::{coefficient, product};
+
+#[derive(Clone, Debug, PartialEq, Eq)]
+pub struct Record {
+    pub key: u32,
+    pub body: [u8; 16],
+}
+
+#[derive(Clone, Debug, PartialEq, Eq)]
+pub struct Ledger {
+    /// Slots of a unit.
+    pub b: usize,
+    /// K, the level.
+    pub level: usize,
+    /// One list of records for each data unit in place; their number is M.
+    pub lists: Vec<Vec<Record>>,
+    /// Check units in place, by group.
+    pub checks: [usize; 4],
+    /// Units out: data units 0 to 15, check unit j of group g at 16 + 3g + j.
+    pub out: [bool; 28],
+}
+
+/// The data unit of a key where `units` data units are in place.
+pub fn unit_of(units: usize, key: u32) -> usize {
+    let mut j = 0;
+    while 1 << (j + 1) <= units {
+        j += 1;
+    }
+    let n = units - (1 << j);
+    let key = key as usize;
+    let unit = key % (1 << j);
+    if unit < n {
+        key % (1 << (j + 1))
+    } else {
+        unit
+    }
+}
+
+/// The unit that is split next where `units` data units are in place.
+pub fn split_unit(units: usize) -> usize {
+    (0..units).find(|n| (units - n).is_power_of_two()).unwrap()
+}
+
+impl Ledger {
+    /// The ledger that a layout opens, or the number that refuses it.
+    pub fn open(b: u32, slice: usize) -> Result<Ledger, u8> {
+        if !(1..=64).contains(&b) {
+            return Err(2);
+        }
+        if slice < 36 + 704 * b as usize {
+            return Err(7);
+        }
+        Ok(Ledger {
+            b: b as usize,
+            level: 1,
+            lists: vec![Vec::new()],
+            checks: [1, 0, 0, 0],
+            out: [false; 28],
+        })
+    }
+
+    /// M, the number of data units in place.
+    pub fn units(&self) -> usize {
+        self.lists.len()
+    }
+
+    pub fn unit_of(&self, key: u32) -> usize {
+        unit_of(self.units(), key)
+    }
+
+    pub fn find(&self, key: u32) -> Option<&Record> {
+        self.lists[self.unit_of(key)].iter().find(|r| r.key == key)
+    }
+
+    pub fn records(&self) -> usize {
+        self.lists.iter().map(Vec::len).sum()
+    }
+
+    /// Units out of a group, check units counted too.
+    pub fn lost(&self, group: usize) -> usize {
+        let data = (4 * group..4 * group + 4).filter(|&u| self.out[u]);
+        let checks = (16 + 3 * group..19 + 3 * group).filter(|&u| self.out[u]);
+        data.count() + checks.count()
+    }
+
+    pub fn beyond_recovery(&self, group: usize) -> bool {
+        self.lost(group) > self.checks[group]
+    }
+
+    /// Answers a call and takes it into the ledger. A layout opens a new ledger instead.
+    pub fn perform(&mut self, call: &Call) -> Answer {
+        let answer = self.answer(call);
+        if answer.number() == Some(0) {
+            self.change(call);
+        }
+        answer
+    }
+
+    fn answer(&self, call: &Call) -> Answer {
+        let number = self.number(call);
+        match call {
+            Call::Read { key, .. } => {
+                let body = if number == 0 { self.find(*key).map(|r| r.body) } else { None };
+                Answer::Read(number, body)
+            }
+            Call::ReadInPlace { key } => Answer::Part(self.part(*key)),
+            Call::List { .. } if number == 0 => {
+                Answer::List(0, self.records() as u32, self.listing())
+            }
+            Call::List { .. } => Answer::List(number, 0, Vec::new()),
+            _ => Answer::Number(number),
+        }
+    }
+
+    /// The body of a key, or nothing where a read would be refused or the key's unit is out.
+    fn part(&self, key: u32) -> Vec<u8> {
+        let refused = self.number(&Call::Read { key, out: 16 }) != 0;
+        if refused || self.out[self.unit_of(key)] {
+            return Vec::new();
+        }
+        self.find(key).unwrap().body.to_vec()
+    }
+
+    fn listing(&self) -> Vec<u8> {
+        let records = self.lists.iter().flatten();
+        records.flat_map(|r| r.key.to_be_bytes().into_iter().chain(r.body)).collect()
+    }
+}

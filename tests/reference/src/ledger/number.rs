@@ -1,0 +1,116 @@
+//! "Numbers returned", a function for each row of the table.
+
+use super::{split_unit, Ledger};
+use crate::call::Call;
+
+/// The order in which the conditions are asked. 1, not sound, never applies to a ledger.
+const ORDER: [u8; 8] = [2, 3, 9, 4, 8, 5, 6, 7];
+
+impl Ledger {
+    pub fn number(&self, call: &Call) -> u8 {
+        ORDER.into_iter().find(|&number| self.holds(number, call)).unwrap_or(0)
+    }
+
+    fn holds(&self, number: u8, call: &Call) -> bool {
+        match number {
+            2 => bad_argument(call),
+            3 => self.not_in_place(call),
+            9 => self.at_a_limit(call),
+            4 => self.unit_out(call),
+            8 => self.too_much_out(call),
+            5 => matches!(call, Call::Teach { key, .. } if self.find(*key).is_some()),
+            6 => self.not_present(call),
+            _ => self.too_full(call),
+        }
+    }
+
+    fn not_in_place(&self, call: &Call) -> bool {
+        match call {
+            Call::Out { unit } => !self.in_place(*unit as usize),
+            Call::Repair { group } => 4 * *group as usize >= self.units(),
+            _ => false,
+        }
+    }
+
+    fn in_place(&self, unit: usize) -> bool {
+        if unit < 16 {
+            unit < self.units()
+        } else {
+            (unit - 16) % 3 < self.checks[(unit - 16) / 3]
+        }
+    }
+
+    fn at_a_limit(&self, call: &Call) -> bool {
+        match call {
+            Call::Grow => self.units() == 16,
+            Call::Shrink => self.units() == 1,
+            Call::Raise => {
+                let granted = split_unit(self.units()) == 0 && self.units() < 16 && self.level < 3;
+                !granted
+            }
+            _ => false,
+        }
+    }
+
+    fn unit_out(&self, call: &Call) -> bool {
+        match call {
+            Call::Teach { key, .. } | Call::Correct { key, .. } | Call::Erase { key } => {
+                self.lost(self.unit_of(*key) / 4) > 0
+            }
+            Call::Grow => self.pair_lost(self.units()),
+            Call::Shrink => self.pair_lost(self.units() - 1),
+            Call::Out { unit } => self.out[*unit as usize],
+            _ => false,
+        }
+    }
+
+    /// A unit is out in the group of `unit` or of the one that it is split from.
+    fn pair_lost(&self, unit: usize) -> bool {
+        self.lost(unit / 4) > 0 || self.lost(split_unit(unit) / 4) > 0
+    }
+
+    fn too_much_out(&self, call: &Call) -> bool {
+        match call {
+            Call::Repair { group } => self.beyond_recovery(*group as usize),
+            Call::Read { key, .. } => {
+                let unit = self.unit_of(*key);
+                self.out[unit] && self.beyond_recovery(unit / 4)
+            }
+            Call::List { .. } => (0..16).any(|u| self.out[u] && self.beyond_recovery(u / 4)),
+            _ => false,
+        }
+    }
+
+    fn not_present(&self, call: &Call) -> bool {
+        match call {
+            Call::Correct { key, .. } | Call::Erase { key } | Call::Read { key, .. } => {
+                self.find(*key).is_none()
+            }
+            _ => false,
+        }
+    }
+
+    fn too_full(&self, call: &Call) -> bool {
+        match call {
+            Call::Teach { key, .. } => self.lists[self.unit_of(*key)].len() == self.b,
+            Call::Shrink => {
+                let last = self.units() - 1;
+                self.lists[last].len() + self.lists[split_unit(last)].len() > self.b
+            }
+            Call::List { out } => *out < 20 * self.records(),
+            _ => false,
+        }
+    }
+}
+
+fn bad_argument(call: &Call) -> bool {
+    match call {
+        Call::LayOut { b } => !(1..=64).contains(b),
+        Call::Teach { key, body } | Call::Correct { key, body } => *key == 0 || body.len() != 16,
+        Call::Read { key, out } => *key == 0 || *out != 16,
+        Call::Erase { key } => *key == 0,
+        Call::Out { unit } => *unit > 27,
+        Call::Repair { group } => *group > 3,
+        _ => false,
+    }
+}

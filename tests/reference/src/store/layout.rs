@@ -1,0 +1,170 @@
+//! "Bytes of a store": where its parts lie, and reading them. Ranks count from 0 here.
+
+pub const HEADER: usize = 36;
+pub const SLOT: usize = 20;
+pub const CHECK_RECORD: usize = 32;
+
+pub const IN_SERVICE: u8 = 1;
+pub const OUT: u8 = 2;
+
+/// The length of a store of units of b slots.
+pub fn length(b: usize) -> usize {
+    HEADER + 704 * b
+}
+
+pub fn slot_at(b: usize, unit: usize, rank: usize) -> usize {
+    HEADER + (unit * b + rank) * SLOT
+}
+
+pub fn check_at(b: usize, check: usize, rank: usize) -> usize {
+    HEADER + 16 * b * SLOT + (check * b + rank) * CHECK_RECORD
+}
+
+/// Where the state of unit 0 to 27 lies.
+pub fn state_at(unit: usize) -> usize {
+    8 + unit
+}
+
+/// The bytes of unit 0 to 27.
+pub fn unit_range(b: usize, unit: usize) -> std::ops::Range<usize> {
+    if unit < 16 {
+        slot_at(b, unit, 0)..slot_at(b, unit, b)
+    } else {
+        check_at(b, unit - 16, 0)..check_at(b, unit - 16, b)
+    }
+}
+
+fn word(bytes: &[u8], at: usize) -> u32 {
+    u32::from_be_bytes(bytes[at..at + 4].try_into().unwrap())
+}
+
+/// A store whose header is in order.
+#[derive(Clone, Copy)]
+pub struct View<'a> {
+    pub bytes: &'a [u8],
+    pub b: usize,
+}
+
+impl<'a> View<'a> {
+    /// None where a number of the header is out of its range or the slice is too short.
+    pub fn new(bytes: &'a [u8]) -> Option<View<'a>> {
+        if bytes.len() < HEADER {
+            return None;
+        }
+        let b = bytes[5] as usize;
+        let in_order = bytes[0] == 1
+            && (1..=64).contains(&b)
+            && word(bytes, 1) as usize == length(b)
+            && bytes.len() >= length(b)
+            && (1..=16).contains(&bytes[6])
+            && (1..=3).contains(&bytes[7]);
+        in_order.then_some(View { bytes, b })
+    }
+
+    /// M.
+    pub fn units(&self) -> usize {
+        self.bytes[6] as usize
+    }
+
+    /// K.
+    pub fn level(&self) -> usize {
+        self.bytes[7] as usize
+    }
+
+    /// The state of unit 0 to 27.
+    pub fn state(&self, unit: usize) -> u8 {
+        self.bytes[state_at(unit)]
+    }
+
+    pub fn key(&self, unit: usize, rank: usize) -> u32 {
+        word(self.bytes, slot_at(self.b, unit, rank))
+    }
+
+    pub fn body(&self, unit: usize, rank: usize) -> [u8; 16] {
+        let at = slot_at(self.b, unit, rank) + 4;
+        self.bytes[at..at + 16].try_into().unwrap()
+    }
+
+    /// The key that check unit 0 to 11 lists for a place of its group.
+    pub fn listed_key(&self, check: usize, rank: usize, place: usize) -> u32 {
+        word(self.bytes, check_at(self.b, check, rank) + 4 * place)
+    }
+
+    pub fn parity(&self, check: usize, rank: usize) -> [u8; 16] {
+        let at = check_at(self.b, check, rank) + 16;
+        self.bytes[at..at + 16].try_into().unwrap()
+    }
+
+    /// Check units of a group in a state, in number order.
+    pub fn checks_in(&self, group: usize, state: u8) -> Vec<usize> {
+        let checks = 3 * group..3 * group + 3;
+        checks.filter(|&check| self.state(16 + check) == state).collect()
+    }
+
+    /// Check units of a group in place, out ones counted too.
+    pub fn checks_in_place(&self, group: usize) -> usize {
+        self.checks_in(group, IN_SERVICE).len() + self.checks_in(group, OUT).len()
+    }
+
+    /// Units out of a group, check units counted too.
+    pub fn lost(&self, group: usize) -> usize {
+        let data = (4 * group..4 * group + 4).filter(|&unit| self.state(unit) == OUT);
+        data.count() + self.checks_in(group, OUT).len()
+    }
+
+    pub fn beyond_recovery(&self, group: usize) -> bool {
+        self.lost(group) > self.checks_in_place(group)
+    }
+
+    /// The keys of a data unit by rank, empty slots as 0: its own, or where it is out those that
+    /// the first check unit in service lists; None where there is no such check unit.
+    pub fn keys(&self, unit: usize) -> Option<Vec<u32>> {
+        if self.state(unit) != OUT {
+            return Some((0..self.b).map(|rank| self.key(unit, rank)).collect());
+        }
+        let check = *self.checks_in(unit / 4, IN_SERVICE).first()?;
+        Some(self.listed_keys(check, unit % 4))
+    }
+
+    pub fn listed_keys(&self, check: usize, place: usize) -> Vec<u32> {
+        (0..self.b).map(|rank| self.listed_key(check, rank, place)).collect()
+    }
+
+    /// The data unit of a key.
+    pub fn unit_of(&self, key: u32) -> usize {
+        unit_of(self.units(), key)
+    }
+
+    /// The rank of a key that is not 0 in its unit, where it is known.
+    pub fn rank_of(&self, key: u32) -> Option<usize> {
+        let keys = self.keys(self.unit_of(key))?;
+        keys.iter().position(|&k| k == key)
+    }
+
+    /// The number of records of a unit in service.
+    pub fn count(&self, unit: usize) -> usize {
+        (0..self.b).filter(|&rank| self.key(unit, rank) != 0).count()
+    }
+}
+
+/// The data unit of a key under M units: the remainder by the larger power of two, or by the
+/// smaller one where there is no such unit yet.
+pub fn unit_of(units: usize, key: u32) -> usize {
+    let power = largest_power(units);
+    let unit = key as usize % (2 * power);
+    if unit < units {
+        unit
+    } else {
+        unit - power
+    }
+}
+
+/// The largest power of two up to `units`.
+pub fn largest_power(units: usize) -> usize {
+    [16, 8, 4, 2, 1].into_iter().find(|&p| p <= units).unwrap()
+}
+
+/// The unit that unit `added` is split from.
+pub fn parent(added: usize) -> usize {
+    added - largest_power(added)
+}

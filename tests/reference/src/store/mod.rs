@@ -1,0 +1,55 @@
+//! The store as bytes: "Units, keys and ranks", "Bytes of a store", "Numbers returned".
+
+pub mod field;
+pub mod layout;
+pub mod matrix;
+mod records;
+mod recover;
+mod sound;
+mod units;
+mod write;
+
+use crate::call::{Answer, Call};
+pub use records::{correct, erase, list, read, read_in_place, teach};
+pub use sound::{broken_clauses, clause_names, sound};
+pub use units::{grow, lay_out, raise, repair, shrink, unit_out};
+
+/// The byte that output slices are filled with beforehand, to see what is written.
+const UNWRITTEN: u8 = 0xA5;
+
+/// Performs a call on the lent slice.
+pub fn perform(bytes: &mut [u8], call: &Call) -> Answer {
+    Answer::Number(match call {
+        Call::LayOut { b } => lay_out(bytes, *b),
+        Call::Teach { key, body } => teach(bytes, *key, body),
+        Call::Correct { key, body } => correct(bytes, *key, body),
+        Call::Erase { key } => erase(bytes, *key),
+        Call::Read { key, out } => return perform_read(bytes, *key, *out),
+        Call::ReadInPlace { key } => return Answer::Part(read_in_place(bytes, *key).to_vec()),
+        Call::List { out } => return perform_list(bytes, *out),
+        Call::Out { unit } => unit_out(bytes, *unit),
+        Call::Repair { group } => repair(bytes, *group),
+        Call::Grow => grow(bytes),
+        Call::Shrink => shrink(bytes),
+        Call::Raise => raise(bytes),
+    })
+}
+
+fn perform_read(bytes: &[u8], key: u32, out: usize) -> Answer {
+    let mut buffer = vec![UNWRITTEN; out];
+    let number = read(bytes, key, &mut buffer);
+    if number == 0 {
+        return Answer::Read(0, Some(buffer.try_into().unwrap()));
+    }
+    assert!(buffer.iter().all(|&x| x == UNWRITTEN));
+    Answer::Read(number, None)
+}
+
+fn perform_list(bytes: &[u8], out: usize) -> Answer {
+    let mut buffer = vec![UNWRITTEN; out];
+    let (number, count) = list(bytes, &mut buffer);
+    let written = 20 * count as usize;
+    assert!(buffer[written..].iter().all(|&x| x == UNWRITTEN));
+    buffer.truncate(written);
+    Answer::List(number, count, buffer)
+}

@@ -1,0 +1,105 @@
+//! The calls on records: teach, correct, erase, read, read in place, list.
+
+use super::layout::{slot_at, View, OUT};
+use super::recover;
+use super::sound::sound;
+use super::write::change_slot;
+
+/// The view of a store that has passed the test of soundness.
+fn tested(bytes: &[u8]) -> Option<View<'_>> {
+    View::new(bytes).filter(|_| sound(bytes))
+}
+
+pub fn teach(bytes: &mut [u8], key: u32, body: &[u8]) -> u8 {
+    let Ok(body) = body.try_into() else { return 2 };
+    if key == 0 {
+        return 2;
+    }
+    let Some(view) = tested(bytes) else { return 1 };
+    let unit = view.unit_of(key);
+    if view.lost(unit / 4) > 0 {
+        return 4;
+    }
+    if view.rank_of(key).is_some() {
+        return 5;
+    }
+    let rank = view.count(unit);
+    if rank == view.b {
+        return 7;
+    }
+    change_slot(bytes, unit, rank, (key, body));
+    0
+}
+
+pub fn correct(bytes: &mut [u8], key: u32, body: &[u8]) -> u8 {
+    let Ok(body) = body.try_into() else { return 2 };
+    if key == 0 {
+        return 2;
+    }
+    let Some(view) = tested(bytes) else { return 1 };
+    let unit = view.unit_of(key);
+    if view.lost(unit / 4) > 0 {
+        return 4;
+    }
+    let Some(rank) = view.rank_of(key) else { return 6 };
+    change_slot(bytes, unit, rank, (key, body));
+    0
+}
+
+pub fn erase(bytes: &mut [u8], key: u32) -> u8 {
+    if key == 0 {
+        return 2;
+    }
+    let Some(view) = tested(bytes) else { return 1 };
+    let unit = view.unit_of(key);
+    if view.lost(unit / 4) > 0 {
+        return 4;
+    }
+    let Some(rank) = view.rank_of(key) else { return 6 };
+    let last = view.count(unit) - 1;
+    let moved = (view.key(unit, last), view.body(unit, last));
+    change_slot(bytes, unit, rank, moved);
+    change_slot(bytes, unit, last, (0, [0; 16]));
+    0
+}
+
+pub fn read(bytes: &[u8], key: u32, out: &mut [u8]) -> u8 {
+    if key == 0 || out.len() != 16 {
+        return 2;
+    }
+    let Some(view) = tested(bytes) else { return 1 };
+    let unit = view.unit_of(key);
+    if view.state(unit) == OUT && view.beyond_recovery(unit / 4) {
+        return 8;
+    }
+    let Some(rank) = view.rank_of(key) else { return 6 };
+    out.copy_from_slice(&recover::body(view, unit, rank));
+    0
+}
+
+pub fn read_in_place(bytes: &[u8], key: u32) -> &[u8] {
+    let found = tested(bytes).filter(|_| key != 0).and_then(|view| {
+        let unit = view.unit_of(key);
+        let rank = view.rank_of(key).filter(|_| view.state(unit) != OUT)?;
+        Some(slot_at(view.b, unit, rank) + 4)
+    });
+    found.map_or(&[], |at| &bytes[at..at + 16])
+}
+
+/// Number and count.
+pub fn list(bytes: &[u8], out: &mut [u8]) -> (u8, u32) {
+    let Some(view) = tested(bytes) else { return (1, 0) };
+    let units = 0..view.units();
+    if units.clone().any(|u| view.state(u) == OUT && view.beyond_recovery(u / 4)) {
+        return (8, 0);
+    }
+    let records: Vec<_> = units.flat_map(|unit| recover::records(view, unit)).collect();
+    if out.len() < 20 * records.len() {
+        return (7, 0);
+    }
+    for (entry, (key, body)) in out.chunks_exact_mut(20).zip(&records) {
+        entry[..4].copy_from_slice(&key.to_be_bytes());
+        entry[4..].copy_from_slice(body);
+    }
+    (0, records.len() as u32)
+}

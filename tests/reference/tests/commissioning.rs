@@ -1,0 +1,119 @@
+//! The commissioning values of document 01.
+
+use reference::ledger;
+use reference::store::layout::{check_at, unit_of};
+use reference::store::{
+    correct, field, grow, lay_out, matrix, raise, read, repair, teach, unit_out,
+};
+
+fn body(start: &[u8]) -> Vec<u8> {
+    let mut body = start.to_vec();
+    body.resize(16, 0);
+    body
+}
+
+fn laid_out(b: u32) -> Vec<u8> {
+    let mut bytes = vec![0; 36 + 704 * b as usize];
+    assert_eq!(lay_out(&mut bytes, b), 0);
+    bytes
+}
+
+#[test]
+fn value_1_products() {
+    assert_eq!(field::product(0xA, 0xB), 2);
+    assert_eq!(field::product(0xA, field::inverse(0xB)), 4);
+    assert_eq!(ledger::product(0xA, 0xB), 2);
+}
+
+fn all_columns(data: [u8; 4]) -> Vec<u8> {
+    (0..17).map(|column| matrix::encode(data, column)).collect()
+}
+
+#[test]
+fn values_2_and_3_code_words() {
+    let mut fours = vec![4; 16];
+    fours.push(0);
+    assert_eq!(all_columns([4; 4]), fours);
+    let due = [5, 1, 4, 9, 15, 8, 10, 4, 11, 1, 1, 2, 7, 14, 9, 9, 10];
+    assert_eq!(all_columns([5, 1, 4, 9]), due);
+}
+
+#[test]
+fn value_4_rebuilding() {
+    assert_eq!(matrix::rebuild([3, 4, 5, 6], [9, 0xF, 8, 0xA]), (0, [5, 1, 4, 9]));
+}
+
+/// Four units with two check units, and a record of the paper in each.
+fn paper_store() -> Vec<u8> {
+    let mut bytes = laid_out(2);
+    assert_eq!(raise(&mut bytes), 0);
+    for _ in 0..3 {
+        assert_eq!(grow(&mut bytes), 0);
+    }
+    let texts = [b"En A", b"Am A", b"Dans", b"In p"];
+    for (key, text) in [4, 1, 2, 3].into_iter().zip(texts) {
+        assert_eq!(teach(&mut bytes, key, &body(text)), 0);
+    }
+    bytes
+}
+
+fn parity(bytes: &[u8], check: usize) -> &[u8] {
+    &bytes[check_at(2, check, 0) + 16..][..4]
+}
+
+#[test]
+fn value_5_parity() {
+    let bytes = paper_store();
+    assert_eq!(parity(&bytes, 0), [0x4F, 0x63, 0x6E, 0xE4]);
+    assert_eq!(parity(&bytes, 1), [0x48, 0x6E, 0xDC, 0xEE]);
+}
+
+#[test]
+fn value_6_changed_parity() {
+    let mut bytes = paper_store();
+    assert_eq!(correct(&mut bytes, 4, &body(&[0x49, 0x6E, 0x20, 0x69])), 0);
+    assert_eq!(parity(&bytes, 0), [0x45, 0x63, 0x6E, 0xD8]);
+    assert_eq!(parity(&bytes, 1), [0x40, 0x6E, 0xDC, 0x3F]);
+}
+
+#[test]
+fn values_7_and_8_units_of_keys() {
+    for unit_of in [unit_of, ledger::unit_of] {
+        assert_eq!([8, 4, 5].map(|key| unit_of(5, key)), [0, 4, 1]);
+        assert_eq!([16, u32::MAX].map(|key| unit_of(16, key)), [0, 15]);
+    }
+}
+
+#[test]
+fn value_9_slices() {
+    assert_eq!(lay_out(&mut [0xEE; 740], 1), 0);
+    let mut short = [0xEE; 739];
+    assert_eq!(lay_out(&mut short, 1), 7);
+    assert_eq!(short, [0xEE; 739]);
+    assert_eq!(lay_out(&mut [0; 50_000], 65), 2);
+    assert_eq!(lay_out(&mut [0; 50_000], 0), 2);
+}
+
+#[test]
+fn value_10_losses() {
+    let mut bytes = laid_out(1);
+    assert_eq!([grow(&mut bytes), grow(&mut bytes)], [0, 0]);
+    assert_eq!(teach(&mut bytes, 1, &body(b"one")), 0);
+    let before = bytes.clone();
+    assert_eq!([unit_out(&mut bytes, 1), repair(&mut bytes, 0)], [0, 0]);
+    assert_eq!(bytes, before);
+    assert_eq!([unit_out(&mut bytes, 1), unit_out(&mut bytes, 0)], [0, 0]);
+    let lost = bytes.clone();
+    assert_eq!(repair(&mut bytes, 0), 8);
+    assert_eq!(read(&bytes, 1, &mut [0; 16]), 8);
+    assert_eq!(bytes, lost);
+}
+
+#[test]
+fn value_11_bodies() {
+    let mut bytes = laid_out(1);
+    for length in [15, 17] {
+        assert_eq!(teach(&mut bytes, 1, &vec![0; length]), 2);
+        assert_eq!(correct(&mut bytes, 1, &vec![0; length]), 2);
+    }
+}

@@ -1,0 +1,127 @@
+//! What the ledger is to show, seen on histories of the byte store.
+
+use reference::call::{Answer, Call};
+use reference::generate::history;
+use reference::store::layout::{unit_range, View, IN_SERVICE, OUT};
+use reference::store::{lay_out, perform, read, repair};
+use std::collections::HashMap;
+
+/// A history that has run: its bytes, and the calls that were granted.
+struct Past {
+    bytes: Vec<u8>,
+    granted: Vec<Call>,
+}
+
+fn laid_out(calls: &[Call]) -> Vec<u8> {
+    let Call::LayOut { b } = calls[0] else { panic!("a history starts with a layout") };
+    let mut bytes = vec![0; 36 + 704 * b as usize];
+    assert_eq!(lay_out(&mut bytes, b), 0);
+    bytes
+}
+
+/// Runs a history up to a call in its midst, so that units are out in many.
+fn past(seed: u64) -> Past {
+    let calls = history(seed);
+    let mut bytes = laid_out(&calls);
+    let until = calls.len() - seed as usize % (calls.len() / 3).max(1);
+    let mut granted = Vec::new();
+    for call in &calls[1..until] {
+        if perform(&mut bytes, call).number() == Some(0) {
+            granted.push(call.clone());
+        }
+    }
+    granted.insert(0, calls[0].clone());
+    Past { bytes, granted }
+}
+
+/// Each unit in service holds what the granted calls but unit out and repair leave there alone.
+#[test]
+fn nothing_is_lost_in_service() {
+    for seed in 0..400 {
+        let past = past(seed);
+        let mut alone = laid_out(&past.granted);
+        let kept = |call: &&Call| !matches!(call, Call::Out { .. } | Call::Repair { .. });
+        for call in past.granted[1..].iter().filter(kept) {
+            assert_eq!(perform(&mut alone, call).number(), Some(0), "seed {seed}, {call}");
+        }
+        let view = View::new(&past.bytes).unwrap();
+        for unit in (0..28).filter(|&unit| view.state(unit) == IN_SERVICE) {
+            let range = unit_range(view.b, unit);
+            assert!(past.bytes[range.clone()] == alone[range], "seed {seed}, unit {unit}");
+        }
+    }
+}
+
+/// The body of each key by its last granted teach, correct or erase.
+fn taught(granted: &[Call]) -> HashMap<u32, Option<&[u8]>> {
+    let mut bodies = HashMap::new();
+    for call in granted {
+        match call {
+            Call::Teach { key, body } | Call::Correct { key, body } => {
+                bodies.insert(*key, Some(&body[..]));
+            }
+            Call::Erase { key } => {
+                bodies.insert(*key, None);
+            }
+            _ => {}
+        }
+    }
+    bodies
+}
+
+#[test]
+fn keys_read_as_taught() {
+    let mut beyond = 0;
+    for seed in 0..400 {
+        let Past { mut bytes, granted } = past(seed);
+        let taught = taught(&granted);
+        let others = 1..40;
+        let keys = taught.keys().copied().chain(others).collect::<Vec<u32>>();
+        for key in keys {
+            let answer = perform(&mut bytes, &Call::Read { key, out: 16 });
+            let view = View::new(&bytes).unwrap();
+            let unit = view.unit_of(key);
+            let due = if view.state(unit) == OUT && view.beyond_recovery(unit / 4) {
+                beyond += 1;
+                Answer::Read(8, None)
+            } else {
+                match taught.get(&key) {
+                    Some(Some(body)) => Answer::Read(0, Some((*body).try_into().unwrap())),
+                    _ => Answer::Read(6, None),
+                }
+            };
+            assert_eq!(answer, due, "seed {seed}, key {key}");
+        }
+    }
+    assert!(beyond > 0);
+}
+
+/// Repair of a group in place says 8 exactly where more units are out than it has check units;
+/// otherwise nothing is out there afterwards and every key of the group still reads the same.
+#[test]
+fn repair_says_8_only_beyond_recovery() {
+    for seed in 0..400 {
+        let past = past(seed);
+        let view = View::new(&past.bytes).unwrap();
+        for group in 0..view.units().div_ceil(4) {
+            let mut bytes = past.bytes.clone();
+            let number = repair(&mut bytes, group as u32);
+            assert_eq!(number == 8, view.lost(group) > view.checks_in_place(group));
+            if number == 0 {
+                assert_eq!(View::new(&bytes).unwrap().lost(group), 0);
+                same_reads(view, &bytes, group);
+            }
+        }
+    }
+}
+
+fn same_reads(before: View, after: &[u8], group: usize) {
+    for unit in 4 * group..(4 * group + 4).min(before.units()) {
+        for key in before.keys(unit).unwrap().into_iter().filter(|&key| key != 0) {
+            let (mut old, mut new) = ([0; 16], [0; 16]);
+            assert_eq!(read(before.bytes, key, &mut old), 0);
+            assert_eq!(read(after, key, &mut new), 0);
+            assert_eq!(old, new);
+        }
+    }
+}
