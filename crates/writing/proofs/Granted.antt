@@ -1,6 +1,6 @@
 -- What a granted call may rely on, and that what its code leaves is what the call is to leave. Assumes nothing.
 use Prim.Native.Nat.{ℕ, pred, _-_, _≤_, _<_}
-use mathlib.Core.Path.{_≡_, refl, sym, ap, _∙_}
+use mathlib.Core.Path.{_≡_, sym, ap, _∙_}
 use mathlib.Core.Bool.{Bool, true}
 use mathlib.Core.List.{List}
 use native.Mathlib.Omega.{arith}

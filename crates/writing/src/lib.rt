@@ -1,12 +1,10 @@
 // Teach, correct, erase and unit out: a slot is written and its group's check units follow; a unit's bytes are cleared.
 ghost use mathlib.Core.Path.{_≡_};
-ghost use Prim.Native.Nat.{_+_, _*_, _-_, _≤_, _<_};
+ghost use Prim.Native.Nat.{_+_, _*_, _-_, _<_};
 ghost use mathlib.Core.Bool.{true};
 ghost use lib.ListN.{length};
-ghost use Rattle.buffer.specs.Bytes.{byte};
 ghost use Rattle.field.specs.Table.{products};
 ghost use Rattle.group.specs.Body.{addBody};
-ghost use Rattle.group.specs.CheckRecord.{patched};
 ghost use Rattle.model.specs.Layout.{bytes, view, slotOf, withChecks};
 ghost use Rattle.model.specs.StoreLaws.{SlotIn};
 ghost use Rattle.model.specs.LayoutLaws.{Long};
