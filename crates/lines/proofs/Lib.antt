@@ -1,0 +1,3 @@
+pub mod Parsing
+pub mod Reading
+pub mod Writing

@@ -1,0 +1,19 @@
+-- `output::body_line` meets its contract. Assumes nothing.
+use mathlib.Core.Path.{refl}
+use borrow.Author.Needs.{needs}
+use Rattle.lines.proofs.Writing.{body-line}
+use Rattle.lines.proofs.output.body_line.Statement.{statement}
+use Rattle.lines.proofs.output.body_line.Tie as tie
+
+returns : tie.Need-returns
+returns c = body-line _ _ _ refl (c .before .before .before .before .pre) (c .before .put-argument .ensures)
+
+pub body-line-spec : {M : Type 1} → statement M
+body-line-spec =
+    tie.close
+    (tie.spec
+    (λ c. search needs)
+    (λ c. search needs)
+    (λ c. search needs)
+    (λ c κs. search needs)
+    returns)

@@ -1,0 +1,49 @@
+-- Capital hexadecimal digits, as bytes of text. Assumes nothing.
+use Prim.Native.Nat.{ℕ, zero, suc, _+_, _*_, _-_, _/_, _%_}
+use mathlib.Core.Path.{_≡_}
+use mathlib.Core.Bool.{Bool, _&&_}
+use mathlib.Core.List.{List, [], _∷_, _++_}
+use lib.Dec.{leb, ltb}
+use Rattle.buffer.specs.Choice.{pick}
+use Rattle.buffer.specs.Range.{all, entries}
+use Rattle.buffer.specs.Bytes.{byte, zeros}
+use Rattle.buffer.specs.Table.{tab}
+
+-- the value of a digit, 0 to 9 and A to F; 16 for any other byte
+unfoldable pub digit : ℕ → ℕ
+digit c = pick (leb 48 c && leb c 57) (c - 48) (pick (leb 65 c && leb c 70) (c - 55) 16)
+
+-- the digit of a value below 16
+unfoldable pub digitOf : ℕ → ℕ
+digitOf v = pick (ltb v 10) (48 + v) (55 + v)
+
+-- the n bytes of l from a place on are digits; and the number that they write, the highest digit first
+unfoldable pub hexAt : List ℕ → ℕ → ℕ → Bool
+hexAt l at n = all n (λ i. ltb (digit (byte l (at + i))) 16)
+
+unfoldable pub numberAt : List ℕ → ℕ → ℕ → ℕ
+numberAt l at zero = 0
+numberAt l at (suc n) = numberAt l at n * 16 + digit (byte l (at + n))
+
+-- the n bytes that 2 * n digits write, two digits each
+unfoldable pub bytesAt : List ℕ → ℕ → ℕ → List ℕ
+bytesAt l at n = entries n (λ i. numberAt l (at + 2 * i) 2)
+
+-- the n lowest digits of a number, the highest first
+unfoldable pub hex : ℕ → ℕ → List ℕ
+hex zero x = []
+hex (suc n) x = hex n (x / 16) ++ (digitOf (x % 16) ∷ [])
+
+-- n bytes, two digits each
+unfoldable pub hexBytes : ℕ → List ℕ → List ℕ
+hexBytes n s = tab n (λ i. hex 2 (byte s i))
+
+-- what reading n digits finds: whether they are digits, and their number, 0 where they are not
+pub record Numbered (l : List ℕ) (at n : ℕ) (ok : Bool) (value : ℕ) : Type 0 where
+  pub tested : ok ≡ hexAt l at n
+  pub found : value ≡ pick (hexAt l at n) (numberAt l at n) 0
+
+-- what reading a body of 16 bytes finds: whether its 32 places are digits, and the body, zeros where they are not
+pub record Embodied (l : List ℕ) (at : ℕ) (ok : Bool) (body : List ℕ) : Type 0 where
+  pub tested : ok ≡ hexAt l at 32
+  pub found : body ≡ pick (hexAt l at 32) (bytesAt l at 16) (zeros 16)

@@ -1,0 +1,342 @@
+-- What a line says and how it is written are each other's inverse: so the test for a readable line, which looks at places of the line, is document
+-- 01's form. Assumes nothing.
+use Prim.Native.Nat.{ℕ, _+_, _^_, _≤_, _<_}
+use mathlib.Core.Path.{_≡_, refl, sym, ap, _∙_}
+use mathlib.Core.Bool.{Bool, true, false, _&&_, _||_}
+use mathlib.Core.List.{List, [], _∷_, _++_, append-nil}
+use native.Mathlib.Omega.{arith}
+use lib.Dec.{eqb, ltb}
+use lib.ListN.{length, drop, length-append, length-drop, take-append-drop}
+use lib.Seq.{drop-cons, drop-drop, take-all}
+use borrow.Author.Tests.{eq-eqb, ne-eqb, eqb-true, eqb-false, lt-ltb}
+use Rattle.buffer.specs.Choice.{pick}
+use Rattle.buffer.specs.ChoiceLaws.{by-test, by-pick, pick-true, pick-false}
+use Rattle.buffer.specs.TestLaws.{and-true, and-first, and-second, not-both}
+use Rattle.buffer.specs.Range.{all}
+use Rattle.buffer.specs.Bytes.{byte, zeros, part}
+use Rattle.buffer.specs.ByteLaws.{byte-left, byte-right, byte-zeros, length-zeros}
+use Rattle.lines.specs.Digits.{hexAt, numberAt, bytesAt, hex, hexBytes}
+use Rattle.lines.specs.DigitLaws.{
+  hexAt-ext,
+  numberAt-ext,
+  bytesAt-ext,
+  numberAt-lt,
+  bytesAt-lt,
+  length-bytesAt,
+  length-hex,
+  length-hexBytes,
+  hexAt-hex,
+  numberAt-hex,
+  hexAt-hexBytes,
+  bytesAt-hexBytes,
+  hex-numberAt,
+  hexBytes-bytesAt,
+}
+use Rattle.lines.specs.Line.{Line, line, unreadable, digitsOf, hasBody, lengthOf, written, Proper, readable, parsed}
+
+-- ---- letters
+pub body-eight : (c : ℕ) → hasBody c ≡ true → digitsOf c ≡ 8
+unfolding hasBody digitsOf pick
+body-eight c h =
+    by-test
+    (λ t. digitsOf c ≡ 8)
+    (eqb c 84)
+    (λ e. ap digitsOf (eqb-true c 84 e))
+    (λ e. ap digitsOf (eqb-true c 67 (rw e at h)))
+
+pub bare-no-body : (c : ℕ) → digitsOf c ≡ 0 → hasBody c ≡ false
+bare-no-body c e = by-test (λ t. t ≡ false) (hasBody c) (λ h. absurd (omega (arith, e, body-eight c h))) (λ h. refl)
+
+pub length-bare : (c : ℕ) → digitsOf c ≡ 0 → lengthOf c ≡ 1
+unfolding lengthOf
+length-bare c e = pick-true (eq-eqb (digitsOf c) 0 e) 1 (2 + digitsOf c + pick (hasBody c) 33 0)
+
+pub length-number : (c : ℕ) → (digitsOf c ≡ 0 → ⊥) → hasBody c ≡ false → lengthOf c ≡ 2 + digitsOf c
+unfolding lengthOf
+length-number c e h =
+    pick-false (ne-eqb (digitsOf c) 0 e) 1 (2 + digitsOf c + pick (hasBody c) 33 0) ∙ omega (arith, pick-false {A = ℕ} h 33 0)
+
+pub length-body : (c : ℕ) → hasBody c ≡ true → lengthOf c ≡ 43
+unfolding lengthOf
+length-body c h =
+    let eight : digitsOf c ≡ 8 = body-eight c h in
+    pick-false (ne-eqb (digitsOf c) 0 (omega arith)) 1 (2 + digitsOf c + pick (hasBody c) 33 0)
+    ∙ omega (arith, pick-true {A = ℕ} h 33 0)
+
+-- a case for each form: no argument, one, or a key and a body
+pub by-form {ℓ} : (P : Type ℓ) (c : ℕ) → (digitsOf c ≡ 0 → hasBody c ≡ false → P) → ((digitsOf c ≡ 0 → ⊥) → hasBody c ≡ false → P)
+    → (digitsOf c ≡ 8 → hasBody c ≡ true → P) → P
+by-form P c bare number body =
+    by-test
+    (λ t. P)
+    (hasBody c)
+    (λ h. body (body-eight c h) h)
+    (λ h. by-test (λ t. P) (eqb (digitsOf c) 0) (λ e. bare (eqb-true (digitsOf c) 0 e) h) (λ e. number (eqb-false (digitsOf c) 0 e) h))
+
+-- ---- a readable line
+pub record Readable (l : List ℕ) : Type 0 where
+  pub known : ltb (digitsOf (byte l 0)) 9 ≡ true
+  pub size : eqb (length l) (lengthOf (byte l 0)) ≡ true
+  pub first : (eqb (digitsOf (byte l 0)) 0 || eqb (byte l 1) 32 && hexAt l 2 (digitsOf (byte l 0))) ≡ true
+  pub second : pick (hasBody (byte l 0)) (eqb (byte l 10) 32 && hexAt l 11 32) true ≡ true
+
+pub is-readable : {l : List ℕ} → Readable l → readable l ≡ true
+unfolding readable
+is-readable r = and-true (and-true (and-true (r .known) (r .size)) (r .first)) (r .second)
+
+pub readable-is : (l : List ℕ) → readable l ≡ true → Readable l
+unfolding readable
+readable-is l h =
+    let k : Bool = ltb (digitsOf (byte l 0)) 9 in
+    let s : Bool = eqb (length l) (lengthOf (byte l 0)) in
+    let f : Bool = eqb (digitsOf (byte l 0)) 0 || eqb (byte l 1) 32 && hexAt l 2 (digitsOf (byte l 0)) in
+    let b : Bool = pick (hasBody (byte l 0)) (eqb (byte l 10) 32 && hexAt l 11 32) true in
+    let h3 : (k && s && f) ≡ true = and-first (k && s && f) b h in
+    let h2 : (k && s) ≡ true = and-first (k && s) f h3 in
+    record {
+      known = and-first k s h2;
+      size = and-second k s h2;
+      first = and-second (k && s) f h3;
+      second = and-second (k && s && f) b h;
+    }
+
+pub parsed-readable : (l : List ℕ) → readable l ≡ true
+    → parsed l ≡ line (byte l 0) (numberAt l 2 (digitsOf (byte l 0))) (pick (hasBody (byte l 0)) (bytesAt l 11 16) (zeros 16))
+unfolding parsed
+parsed-readable l h = pick-true h _ _
+
+pub parsed-refused : (l : List ℕ) → readable l ≡ false → parsed l ≡ unreadable
+unfolding parsed
+parsed-refused l h = pick-false h _ _
+
+-- ---- what a line of each form says; c is its letter
+pub parsed-bare : (l : List ℕ) (c : ℕ) → c ≡ byte l 0 → digitsOf c ≡ 0 → length l ≡ 1 → (readable l ≡ true) × (parsed l ≡ line c 0 (zeros 16))
+unfolding numberAt
+parsed-bare l c e d s =
+    let d′ : digitsOf (byte l 0) ≡ 0 = ap digitsOf (sym e) ∙ d in
+    let b : hasBody (byte l 0) ≡ false = bare-no-body (byte l 0) d′ in
+    let r : readable l ≡ true = is-readable (record {
+      known = lt-ltb (digitsOf (byte l 0)) 9 (omega arith);
+      size = eq-eqb (length l) (lengthOf (byte l 0)) (s ∙ sym (length-bare (byte l 0) d′));
+      first = rw (eq-eqb (digitsOf (byte l 0)) 0 d′);
+      second = pick-false b (eqb (byte l 10) 32 && hexAt l 11 32) true;
+    }) in
+    (r, parsed-readable l r ∙ rw (pick-false b, d′, ← e))
+
+pub parsed-number : (l : List ℕ) (c : ℕ) → c ≡ byte l 0 → ltb (digitsOf c) 9 ≡ true → (digitsOf c ≡ 0 → ⊥) → hasBody c ≡ false → length l ≡ 2 + digitsOf c
+    → byte l 1 ≡ 32 → hexAt l 2 (digitsOf c) ≡ true → (readable l ≡ true) × (parsed l ≡ line c (numberAt l 2 (digitsOf c)) (zeros 16))
+parsed-number l c e k d b s space h =
+    let k′ : ltb (digitsOf (byte l 0)) 9 ≡ true = rw e at k in
+    let d′ : digitsOf (byte l 0) ≡ 0 → ⊥ = rw e at d in
+    let b′ : hasBody (byte l 0) ≡ false = rw e at b in
+    let h′ : hexAt l 2 (digitsOf (byte l 0)) ≡ true = rw e at h in
+    let s′ : length l ≡ 2 + digitsOf (byte l 0) = rw e at s in
+    let r : readable l ≡ true = is-readable (record {
+      known = k′;
+      size = eq-eqb (length l) (lengthOf (byte l 0)) (s′ ∙ sym (length-number (byte l 0) d′ b′));
+      first = rw (ne-eqb (digitsOf (byte l 0)) 0 d′, eq-eqb (byte l 1) 32 space, h′);
+      second = pick-false b′ (eqb (byte l 10) 32 && hexAt l 11 32) true;
+    }) in
+    (r, parsed-readable l r ∙ rw (pick-false b′, ← e))
+
+pub parsed-body : (l : List ℕ) (c : ℕ) → c ≡ byte l 0 → hasBody c ≡ true → length l ≡ 43 → byte l 1 ≡ 32 → hexAt l 2 8 ≡ true
+    → byte l 10 ≡ 32 → hexAt l 11 32 ≡ true → (readable l ≡ true) × (parsed l ≡ line c (numberAt l 2 8) (bytesAt l 11 16))
+parsed-body l c e b s space h space′ h′ =
+    let b′ : hasBody (byte l 0) ≡ true = rw e at b in
+    let d : digitsOf (byte l 0) ≡ 8 = body-eight (byte l 0) b′ in
+    let r : readable l ≡ true = is-readable (record {
+      known = lt-ltb (digitsOf (byte l 0)) 9 (omega arith);
+      size = eq-eqb (length l) (lengthOf (byte l 0)) (s ∙ sym (length-body (byte l 0) b′));
+      first = rw (ne-eqb (digitsOf (byte l 0)) 0 (omega arith), eq-eqb (byte l 1) 32 space, d, h);
+      second = pick-true b′ (eqb (byte l 10) 32 && hexAt l 11 32) true ∙ and-true (eq-eqb (byte l 10) 32 space′) h′;
+    }) in
+    (r, parsed-readable l r ∙ rw (pick-true b′, d, ← e))
+
+-- ---- how a line of each form is written
+pub written-bare : (x : Line) → digitsOf (x .letter) ≡ 0 → hasBody (x .letter) ≡ false → written x ≡ x .letter ∷ []
+unfolding written
+written-bare x d b = rw (pick-true (eq-eqb (digitsOf (x .letter)) 0 d), pick-false b)
+
+pub written-number : (x : Line) → (digitsOf (x .letter) ≡ 0 → ⊥) → hasBody (x .letter) ≡ false
+    → written x ≡ x .letter ∷ 32 ∷ hex (digitsOf (x .letter)) (x .number)
+unfolding written
+written-number x d b =
+    rw (pick-false (ne-eqb (digitsOf (x .letter)) 0 d), pick-false b)
+    (ap (λ r. x .letter ∷ r) (append-nil (32 ∷ hex (digitsOf (x .letter)) (x .number))))
+
+pub written-body : (x : Line) → digitsOf (x .letter) ≡ 8 → hasBody (x .letter) ≡ true
+    → written x ≡ x .letter ∷ 32 ∷ (hex 8 (x .number) ++ (32 ∷ hexBytes 16 (x .body)))
+unfolding written
+written-body x d b = rw (pick-false (ne-eqb (digitsOf (x .letter)) 0 (omega arith)), pick-true b, d)
+
+-- ---- a line taken apart at the places of its form
+apart : (l : List ℕ) → 2 ≤ length l → l ≡ byte l 0 ∷ byte l 1 ∷ drop 2 l
+apart l h = drop-cons l 0 0 (omega arith) ∙ ap (λ r. byte l 0 ∷ r) (drop-cons l 1 0 (omega arith))
+
+apart-bare : (l : List ℕ) → length l ≡ 1 → l ≡ byte l 0 ∷ []
+apart-bare l h = drop-cons l 0 0 (omega arith) ∙ ap (λ r. byte l 0 ∷ r) (nothing (drop 1 l) (simp length-drop (omega arith)))
+  where
+    nothing : (r : List ℕ) → length r ≡ 0 → r ≡ []
+    nothing [] e = refl
+    nothing (x ∷ r) e = absurd (omega arith)
+
+apart-number : (l : List ℕ) (n : ℕ) → length l ≡ 2 + n → l ≡ byte l 0 ∷ byte l 1 ∷ part 2 n l
+unfolding part
+apart-number l n h =
+    apart l (omega arith) ∙ ap (λ r. byte l 0 ∷ byte l 1 ∷ r) (sym (take-all n (drop 2 l) (simp length-drop (omega arith))))
+
+apart-body : (l : List ℕ) → length l ≡ 43 → l ≡ byte l 0 ∷ byte l 1 ∷ (part 2 8 l ++ (byte l 10 ∷ part 11 32 l))
+unfolding part
+apart-body l h =
+    apart l (omega arith)
+    ∙ ap (λ r. byte l 0 ∷ byte l 1 ∷ r) (
+    sym (take-append-drop 8 (drop 2 l))
+    ∙ ap (λ r. part 2 8 l ++ r) (
+    drop-drop 8 2 l
+    ∙ drop-cons l 10 0 (omega arith)
+    ∙ ap (λ r. byte l 10 ∷ r) (sym (take-all 32 (drop 11 l) (simp length-drop (omega arith))))))
+
+-- ---- the arguments of a readable line
+first-argument : (l : List ℕ) → Readable l → (digitsOf (byte l 0) ≡ 0 → ⊥) → (byte l 1 ≡ 32) × (hexAt l 2 (digitsOf (byte l 0)) ≡ true)
+first-argument l r d =
+    let h : (eqb (byte l 1) 32 && hexAt l 2 (digitsOf (byte l 0))) ≡ true = rw (ne-eqb (digitsOf (byte l 0)) 0 d) at (r .first) in (
+      eqb-true (byte l 1) 32 (and-first (eqb (byte l 1) 32) (hexAt l 2 (digitsOf (byte l 0))) h),
+      and-second (eqb (byte l 1) 32) (hexAt l 2 (digitsOf (byte l 0))) h,
+    )
+
+second-argument : (l : List ℕ) → Readable l → hasBody (byte l 0) ≡ true → (byte l 10 ≡ 32) × (hexAt l 11 32 ≡ true)
+second-argument l r b =
+    let h : (eqb (byte l 10) 32 && hexAt l 11 32) ≡ true = sym (pick-true b (eqb (byte l 10) 32 && hexAt l 11 32) true) ∙ r .second in
+    (eqb-true (byte l 10) 32 (and-first (eqb (byte l 10) 32) (hexAt l 11 32) h), and-second (eqb (byte l 10) 32) (hexAt l 11 32) h)
+
+-- the first argument's digits, also where it has none
+first-digits : (l : List ℕ) → Readable l → hexAt l 2 (digitsOf (byte l 0)) ≡ true
+first-digits l r =
+    by-test
+    (λ t. hexAt l 2 (digitsOf (byte l 0)) ≡ true)
+    (eqb (digitsOf (byte l 0)) 0)
+    (λ e. ap (hexAt l 2) (eqb-true (digitsOf (byte l 0)) 0 e) ∙ (unfold hexAt all in refl))
+    (λ e. first-argument l r (eqb-false (digitsOf (byte l 0)) 0 e) .1)
+
+-- ---- a readable line is what its letter, number and body write
+pub written-parsed : (l : List ℕ) → readable l ≡ true → written (parsed l) ≡ l
+written-parsed l h =
+    let r : Readable l = readable-is l h in
+    let c : ℕ = byte l 0 in
+    let n : ℕ = digitsOf c in
+    let x : Line = line c (numberAt l 2 n) (pick (hasBody c) (bytesAt l 11 16) (zeros 16)) in
+    let size : length l ≡ lengthOf c = eqb-true (length l) (lengthOf c) (r .size) in
+    ap written (parsed-readable l h)
+    ∙ by-form
+    (written x ≡ l)
+    c
+    (λ d b. written-bare x d b ∙ sym (apart-bare l (size ∙ length-bare c d)))
+    (λ d b.
+    let whole : length l ≡ 2 + n = size ∙ length-number c d b in
+    let a = first-argument l r d in
+    written-number x d b
+    ∙ ap (λ s. c ∷ s ∷ hex n (numberAt l 2 n)) (sym (a .0))
+    ∙ ap (λ y. c ∷ byte l 1 ∷ y) (hex-numberAt l 2 n (omega arith) (a .1))
+    ∙ sym (apart-number l n whole))
+    (λ d b.
+    let whole : length l ≡ 43 = size ∙ length-body c b in
+    let a = first-argument l r (omega arith) in
+    let e = second-argument l r b in
+    let key : hex 8 (numberAt l 2 n) ≡ part 2 8 l =
+    ap (λ k. hex 8 (numberAt l 2 k)) d ∙ hex-numberAt l 2 8 (omega arith) (sym (ap (hexAt l 2) d) ∙ a .1) in
+    let body : hexBytes 16 (x .body) ≡ part 11 32 l =
+    ap (hexBytes 16) (pick-true b (bytesAt l 11 16) (zeros 16)) ∙ hexBytes-bytesAt l 11 16 (omega arith) (e .1) in
+    written-body x d b
+    ∙ ap (λ s. c ∷ s ∷ (hex 8 (numberAt l 2 n) ++ (32 ∷ hexBytes 16 (x .body)))) (sym (a .0))
+    ∙ ap (λ y. c ∷ byte l 1 ∷ (y ++ (32 ∷ hexBytes 16 (x .body)))) key
+    ∙ ap (λ s. c ∷ byte l 1 ∷ (part 2 8 l ++ (s ∷ hexBytes 16 (x .body)))) (sym (e .0))
+    ∙ ap (λ y. c ∷ byte l 1 ∷ (part 2 8 l ++ (byte l 10 ∷ y))) body
+    ∙ sym (apart-body l whole))
+
+-- ---- its letter, number and body are in their ranges
+pub parsed-proper : (l : List ℕ) → readable l ≡ true → Proper (parsed l)
+parsed-proper l h =
+    let r : Readable l = readable-is l h in
+    let b : Bool = hasBody (byte l 0) in
+    rw (parsed-readable l h)
+    (record {
+      known = r .known;
+      range = numberAt-lt l 2 (digitsOf (byte l 0)) (first-digits l r);
+      long = by-pick (λ s. length s ≡ 16) b (bytesAt l 11 16) (zeros 16) (λ e. length-bytesAt l 11 16) (λ e. length-zeros 16);
+      bytes = λ i q.
+          by-pick
+          (λ s. byte s i < 256)
+          b
+          (bytesAt l 11 16)
+          (zeros 16)
+          (λ e. bytesAt-lt l 11 16 (second-argument l r e .1) i q)
+          (λ e. omega (arith, byte-zeros 16 i));
+      none = λ e. pick-false e (bytesAt l 11 16) (zeros 16);
+    })
+
+-- so its letter is not 0, which stands for a line that is not readable
+pub proper-letter : (x : Line) → Proper x → x .letter ≡ 0 → ⊥
+unfolding digitsOf pick
+proper-letter x p e = not-both (p .known) (ap (λ c. ltb (digitsOf c) 9) e)
+
+-- ---- what is written is readable, and says what was written
+pub parsed-written : (x : Line) → Proper x → (readable (written x) ≡ true) × (parsed (written x) ≡ x)
+parsed-written x p =
+    let c : ℕ = x .letter in
+    let n : ℕ = digitsOf c in
+    by-form
+    ((readable (written x) ≡ true) × (parsed (written x) ≡ x))
+    c
+    (λ d b.
+    let e : written x ≡ c ∷ [] = written-bare x d b in
+    let q = parsed-bare (c ∷ []) c refl d refl in
+    let small : x .number < 16 ^ 0 = rw d at (p .range) in
+    let none : x .number ≡ 0 = omega arith in (
+      ap readable e ∙ q .0,
+      ap parsed e ∙ q .1 ∙ ap (λ v. line c v (zeros 16)) (sym none) ∙ ap (λ y. line c (x .number) y) (sym (p .none b)),
+    ))
+    (λ d b.
+    let y : List ℕ = hex n (x .number) in
+    let l : List ℕ = c ∷ 32 ∷ y in
+    let e : written x ≡ l = written-number x d b in
+    let q = parsed-number l c refl (p .known) d b (omega (arith, length-hex n (x .number))) refl (hexAt-ext l 2 y 0 n (behind c y n) ∙ hexAt-hex n (x .number)) in
+    let back : numberAt l 2 n ≡ x .number = numberAt-ext l 2 y 0 n (behind c y n) ∙ numberAt-hex n (x .number) (p .range) in
+    (ap readable e ∙ q .0, ap parsed e ∙ q .1 ∙ ap (λ v. line c v (zeros 16)) back ∙ ap (λ y. line c (x .number) y) (sym (p .none b))))
+    (λ d b.
+    let k : List ℕ = hex 8 (x .number) in
+    let y : List ℕ = hexBytes 16 (x .body) in
+    let l : List ℕ = c ∷ 32 ∷ (k ++ (32 ∷ y)) in
+    let e : written x ≡ l = written-body x d b in
+    let long : length l ≡ 43 = simp length-append (omega (arith, length-hex 8 (x .number), length-hexBytes 16 (x .body))) in
+    let first : (i : ℕ) → i < 8 → byte l (2 + i) ≡ byte k (0 + i) = key c k (32 ∷ y) (length-hex 8 (x .number)) in
+    let second : (i : ℕ) → i < 32 → byte l (11 + i) ≡ byte y (0 + i) = λ i q. body c k y (length-hex 8 (x .number)) i in
+    let space : byte l 10 ≡ 32 = byte-right 8 k (32 ∷ y) 0 (length-hex 8 (x .number)) in
+    let small : x .number < 16 ^ 8 = rw d at (p .range) in
+    let q = parsed-body l c refl b long refl (hexAt-ext l 2 k 0 8 first ∙ hexAt-hex 8 (x .number)) space (hexAt-ext l 11 y 0 32 second ∙ hexAt-hexBytes 16 (x .body)) in (
+      ap readable e ∙ q .0,
+      ap parsed e
+          ∙ q .1
+          ∙ ap (λ v. line c v (bytesAt l 11 16)) (numberAt-ext l 2 k 0 8 first ∙ numberAt-hex 8 (x .number) small)
+          ∙ ap (λ v. line c (x .number) v) (bytesAt-ext l 11 y 0 16 second ∙ bytesAt-hexBytes 16 (x .body) (p .long) (p .bytes)),
+    ))
+  where
+    -- bytes behind a letter and a space, and behind a key and another space
+    behind : (c : ℕ) (y : List ℕ) (n i : ℕ) → i < n → byte (c ∷ 32 ∷ y) (2 + i) ≡ byte y (0 + i)
+    behind c y n i q =
+        let same : i ≡ 0 + i = omega arith in
+        byte-right 2 (c ∷ 32 ∷ []) y i refl ∙ ap (byte y) same
+
+    key : (c : ℕ) (k r : List ℕ) → length k ≡ 8 → (i : ℕ) → i < 8 → byte (c ∷ 32 ∷ (k ++ r)) (2 + i) ≡ byte k (0 + i)
+    key c k r e i q =
+        let same : i ≡ 0 + i = omega arith in
+        byte-right 2 (c ∷ 32 ∷ []) (k ++ r) i refl ∙ byte-left k r i (omega arith) ∙ ap (byte k) same
+
+    body : (c : ℕ) (k y : List ℕ) → length k ≡ 8 → (i : ℕ) → byte (c ∷ 32 ∷ (k ++ (32 ∷ y))) (11 + i) ≡ byte y (0 + i)
+    body c k y e i =
+        let place : 11 + i ≡ 2 + (8 + (1 + i)) = omega arith in
+        let same : i ≡ 0 + i = omega arith in
+        ap (byte (c ∷ 32 ∷ (k ++ (32 ∷ y)))) place
+        ∙ byte-right 2 (c ∷ 32 ∷ []) (k ++ (32 ∷ y)) (8 + (1 + i)) refl
+        ∙ byte-right 8 k (32 ∷ y) (1 + i) e
+        ∙ byte-right 1 (32 ∷ []) y i refl
+        ∙ ap (byte y) same

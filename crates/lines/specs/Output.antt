@@ -1,0 +1,32 @@
+-- The lines that hallrun prints: each line's number in decimal; behind a granted R a space and the body; behind a granted P a line for each
+-- record: unit, rank, key, body, in the form of arguments. Every line ends in byte 0A. Assumes nothing.
+use Prim.Native.Nat.{ℕ, _+_, _*_, _-_, _/_, _%_}
+use mathlib.Core.List.{List, [], _∷_, _++_}
+use lib.Dec.{ltb}
+use lib.ListN.{length, take, drop}
+use Rattle.buffer.specs.Choice.{pick}
+use Rattle.buffer.specs.Bytes.{zeros, splice}
+use Rattle.lines.specs.Digits.{hex, hexBytes}
+
+-- a number below 100 in decimal
+unfoldable pub decimal : ℕ → List ℕ
+decimal n = pick (ltb n 10) ((48 + n) ∷ []) ((48 + n / 10) ∷ (48 + n % 10) ∷ [])
+
+unfoldable pub numberLine : ℕ → List ℕ
+numberLine n = decimal n ++ (10 ∷ [])
+
+-- a line with zeros behind it, n bytes in all
+unfoldable pub padded : ℕ → List ℕ → List ℕ
+padded n l = l ++ zeros (n - length l)
+
+-- a granted R: 0, a space and the body
+unfoldable pub bodyLine : List ℕ → List ℕ
+bodyLine body = 48 ∷ 32 ∷ (hexBytes 16 body ++ (10 ∷ []))
+
+-- a record of unit u at rank r; the record is its key's four bytes and its body
+unfoldable pub recordLine : ℕ → ℕ → List ℕ → List ℕ
+recordLine u r x = hex 2 u ++ (32 ∷ (hex 2 r ++ (32 ∷ (hexBytes 4 (take 4 x) ++ (32 ∷ (hexBytes 16 (drop 4 x) ++ (10 ∷ [])))))))
+
+-- a line with the digits of bytes x written at a place, and a byte behind them
+unfoldable pub argumentPut : List ℕ → ℕ → List ℕ → ℕ → List ℕ
+argumentPut l at x behind = splice at (2 * length x + 1) (hexBytes (length x) x ++ (behind ∷ [])) l

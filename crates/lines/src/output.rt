@@ -1,0 +1,73 @@
+// The lines that hallrun prints.
+ghost use mathlib.Core.Path.{_≡_};
+ghost use Prim.Native.Nat.{_+_, _*_, _≤_};
+ghost use lib.ListN.{length};
+ghost use Rattle.lines.specs.Output.{numberLine, bodyLine, recordLine, padded, argumentPut};
+use crate::digits::put_byte;
+use crate::digits::put_bytes;
+
+// A line of two or three bytes, with zeros behind it.
+pub struct Short {
+    pub bytes: [u8; 3],
+    pub size: usize,
+}
+
+// The line of a number.
+pub fn number_line(n: u8) -> Short
+    ensures { λ r. ⌜ (r .bytes ≡ padded 3 (numberLine n)) × (r .size ≡ length (numberLine n)) × (r .size ≤ 3) ⌝ }
+{
+    if n < 10 {
+        Short {
+            bytes: [48 + n, 10, 0],
+            size: 2,
+        }
+    } else {
+        Short {
+            bytes: [48 + n / 10, 48 + n % 10, 10],
+            size: 3,
+        }
+    }
+}
+
+// An argument of digits at a place, and the byte behind it.
+fn put_argument(line: &mut [u8], at: usize, from: &[u8], behind: u8)
+    requires { ⌜ at + (2 * length (now from) + 1) ≤ length (now line) ⌝ }
+    ensures { λ _. ⌜ now (line .exit) ≡ argumentPut (now (line .entry)) at (now (from .entry)) behind ⌝ }
+{
+    let end = at + 2 * from.len();
+    put_bytes(&mut line[at..end], from);
+    line[end] = behind;
+}
+
+// The line of a granted read.
+pub fn body_line(body: &[u8]) -> [u8; 35]
+    requires { ⌜ length (now body) ≡ 16 ⌝ }
+    ensures { λ r. ⌜ r ≡ bodyLine (now (body .entry)) ⌝ }
+{
+    let mut line = [0u8; 35];
+    line[0] = 48;
+    line[1] = 32;
+    put_argument(&mut line, 2, body, 10);
+    line
+}
+
+// The line of a record, from the front.
+fn put_record(line: &mut [u8], unit: u8, rank: u8, slot: &[u8])
+    requires { ⌜ (length (now line) ≡ 48) × (length (now slot) ≡ 20) ⌝ }
+    ensures { λ _. ⌜ now (line .exit) ≡ recordLine unit rank (now (slot .entry)) ⌝ }
+{
+    put_argument(line, 0, &[unit], 32);
+    put_argument(line, 3, &[rank], 32);
+    put_argument(line, 6, &slot[0..4], 32);
+    put_argument(line, 15, &slot[4..20], 10);
+}
+
+// The line of a record in a granted list.
+pub fn record_line(unit: u8, rank: u8, slot: &[u8]) -> [u8; 48]
+    requires { ⌜ length (now slot) ≡ 20 ⌝ }
+    ensures { λ r. ⌜ r ≡ recordLine unit rank (now (slot .entry)) ⌝ }
+{
+    let mut line = [0u8; 48];
+    put_record(&mut line, unit, rank, slot);
+    line
+}

@@ -1,0 +1,23 @@
+// Lines of a text.
+ghost use mathlib.Core.Path.{_≡_};
+ghost use Prim.Native.Nat.{_≤_};
+ghost use lib.ListN.{length};
+ghost use Rattle.lines.specs.Text.{lineEnd};
+
+// Where the line that starts at a place ends: at the first byte 0A, or at the end of the text.
+pub fn line_end(text: &[u8], from: usize) -> usize
+    ensures { λ r. ⌜ (r ≡ lineEnd (now (text .entry)) from) × (r ≤ length (now (text .entry))) ⌝ }
+{
+    let n = text.len();
+    if n < from {
+        return n;
+    }
+    let mut i = from;
+    while i < n {
+        if text[i] == 10 {
+            return i;
+        }
+        i += 1;
+    }
+    n
+}

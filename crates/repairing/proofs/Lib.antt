@@ -1,0 +1,9 @@
+pub mod Turns
+pub mod Kept
+pub mod Rebuilding
+pub mod Restoring
+pub mod Making
+pub mod Remaking
+pub mod Serving
+pub mod Repaired
+pub mod Verdicts

@@ -1,0 +1,91 @@
+-- `repairing::rebuild_units` meets its contract. Assumes nothing.
+use borrow.Author.Needs.{needs}
+use mathlib.Core.Path.{refl, sym, _∙_}
+use mathlib.Core.Logic.{⊎-elim}
+use Prim.Native.Nat.{_-_}
+use Rattle.lookup.specs.States.{state-byte}
+use Rattle.repairing.proofs.Restoring.{Restoring, restoring-start, restoring-unit, restoring-members, restoring-off, restoring-on, restoring-end}
+use Rattle.repairing.proofs.rebuild_units.Statement.{statement}
+use Rattle.repairing.proofs.rebuild_units.Tie as tie
+use Rattle.repairing.proofs.rebuild_units.Reads as reads
+use Rattle.repairing.proofs.rebuild_units.Lts as lts
+use Rattle.lookup.proofs.state.Reads as state-reads
+use Rattle.lookup.proofs.members.Reads as members-reads
+use Rattle.repairing.proofs.rebuild_unit.Reads as rebuild-unit-reads
+use Rattle.lookup.proofs.weights.Reads as weights-reads
+
+abbrev Inv-loop : tie.InvT-loop
+Inv-loop s₀ g table members p₀ s p = Restoring s₀ g s p
+
+abbrev μ-loop : tie.MeasureT-loop
+μ-loop s₀ g table members p₀ s p = 4 - p
+
+members-requires : tie.Need-members-requires Inv-loop μ-loop
+members-requires c κs = (c .before .before .pre .0 .sized, c .before .before .pre .0 .group)
+
+loop-holds : tie.Need-loop-holds Inv-loop μ-loop
+loop-holds c = restoring-start (c .before .before .before .pre .0)
+
+mul-u : tie.Need-mul-u Inv-loop μ-loop
+mul-u c = search needs
+
+add-u : tie.Need-add-u Inv-loop μ-loop
+add-u c = search needs
+
+state-requires : tie.Need-state-requires Inv-loop μ-loop
+state-requires c κs = search needs
+
+weights-requires : tie.Need-weights-requires Inv-loop μ-loop
+weights-requires c κs =
+    let t = c .before .before in
+    let l = t .before .before .before in
+    let e = l .before .before .before .before in
+    (restoring-unit (e .pre .0) (l .loop .inv) (search needs) refl, state-byte _ _ ∙ sym (t .state .ensures) ∙ c .before .if1 .taken, restoring-members (e .pre .0) (l .loop .inv) (search needs) refl _ (l .before .members .ensures), e .pre .1)
+
+rebuild-unit-requires : tie.Need-rebuild-unit-requires Inv-loop μ-loop
+rebuild-unit-requires c κs =
+    let e = c .before .before .before .before .before .before .before .before .before .before .before in
+    (c .before .weights .ensures, e .pre .1)
+
+add-p : tie.Need-add-p Inv-loop μ-loop
+add-p c = search needs
+
+loop-less : tie.Need-loop-less Inv-loop μ-loop
+loop-less c = search needs
+
+loop-again : tie.Need-loop-again Inv-loop μ-loop
+loop-again c =
+    let l = c .before .before .before .before in
+    let e = l .before .before .before .before in
+    let state = c .before .state .ensures in
+    ⊎-elim
+    (λ w. restoring-on (e .pre .0) (l .loop .inv) (search needs) refl (w .2 .ensures) (w .7 ∙ w .4 .ensures))
+    (λ w. rw (w .1) (restoring-off (e .pre .0) (l .loop .inv) (search needs) refl (λ k. w .0 .left (state ∙ sym (state-byte _ _) ∙ k))))
+    (c .if1 .came)
+
+same-length : tie.Need-same-length Inv-loop μ-loop
+same-length c = search needs
+
+returns : tie.Need-returns Inv-loop μ-loop
+returns c =
+    let e = c .before .before .before .before .before in
+    restoring-end (e .pre .0) (c .before .loop .inv) (search needs)
+
+pub rebuild-units-spec : {M : Type 1} → statement M
+rebuild-units-spec =
+    tie.close
+    (tie.spec
+    Inv-loop
+    μ-loop
+    members-requires
+    loop-holds
+    mul-u
+    add-u
+    state-requires
+    weights-requires
+    rebuild-unit-requires
+    add-p
+    loop-less
+    loop-again
+    same-length
+    returns)

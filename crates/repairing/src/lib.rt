@@ -1,0 +1,170 @@
+// Repair of a group: its lost data units are rebuilt, its lost check units are made from the data, and all of them are put in service.
+ghost use mathlib.Core.Path.{_≡_};
+ghost use mathlib.Core.Bool.{true};
+ghost use Prim.Native.Nat.{_+_, _*_, _<_};
+ghost use Rattle.field.specs.Table.{products};
+ghost use Rattle.group.specs.CheckRecord.{checkRecord};
+ghost use Rattle.model.specs.Layout.{bytes, view};
+ghost use Rattle.model.specs.Changes.{repaired};
+ghost use Rattle.model.specs.Numbers.{Call, repair, firstOf, refusalsIn};
+ghost use Rattle.model.specs.Perform.{outcome, plain, perform};
+ghost use Rattle.lookup.specs.Sized.{Sized};
+ghost use Rattle.lookup.specs.Slots.{Recipe};
+ghost use Rattle.repairing.specs.Groups.{Group, CheckPlace, Repairable};
+ghost use Rattle.repairing.specs.Steps.{slotsOf, unitRebuilt, unitsRebuilt, unitMade, unitsMade, dataServing, checksServing};
+
+// Rebuilds the slots of data unit u, which is out, rank by rank.
+fn rebuild_unit(s: &mut [u8], u: u8, members: [u8; 4], weights: [u8; 4], table: &[u8; 256])
+    requires { ⌜ Recipe (now s) u members weights × (now table ≡ products) ⌝ }
+    ensures { λ _. ⌜ now (s .exit) ≡ bytes (unitRebuilt (view (now (s .entry))) u) ⌝ }
+{
+    let b = s[5];
+    let mut r: u8 = 0;
+    while r < b {
+        let mut slot = [0u8; 20];
+        lookup::rebuild_slot(&mut slot, s, u, r, members, weights, table);
+        let at = lookup::slot_at(b, u, r);
+        buffer::copy(&mut s[at..at + 20], &slot);
+        r += 1;
+    }
+}
+
+// Rebuilds the data units of group g that are out, from the first four members in service.
+fn rebuild_units(s: &mut [u8], g: u8, table: &[u8; 256])
+    requires { ⌜ Repairable (now s) g × (now table ≡ products) ⌝ }
+    ensures { λ _. ⌜ now (s .exit) ≡ bytes (unitsRebuilt (view (now (s .entry))) g 4) ⌝ }
+{
+    let members = lookup::members(s, g);
+    let mut p: u8 = 0;
+    while p < 4 {
+        let u = 4 * g + p;
+        if lookup::state(s, u) == 2 {
+            let weights = lookup::weights(s, u, members, table);
+            rebuild_unit(s, u, members, weights, table);
+        }
+        p += 1;
+    }
+}
+
+// The check record of rank r at check place j of group g, made from the data.
+fn check_record(s: &[u8], g: u8, j: u8, r: u8, table: &[u8; 256]) -> [u8; 32]
+    requires { ⌜ CheckPlace (now s) g j r × (now table ≡ products) ⌝ }
+    ensures { λ z. ⌜ z ≡ checkRecord j (slotsOf (view (now (s .entry))) g r) ⌝ }
+{
+    let b = s[5];
+    let mut made = [0u8; 32];
+    let mut p: u8 = 0;
+    while p < 4 {
+        let at = lookup::slot_at(b, 4 * g + p, r);
+        group::follow(&mut made, j, p, &s[at..at + 4], &s[at + 4..at + 20], table);
+        p += 1;
+    }
+    made
+}
+
+// Makes check unit j of group g from the data, rank by rank.
+fn make_unit(s: &mut [u8], g: u8, j: u8, table: &[u8; 256])
+    requires { ⌜ Group (now s) g × (j < 3) × (now table ≡ products) ⌝ }
+    ensures { λ _. ⌜ now (s .exit) ≡ bytes (unitMade (view (now (s .entry))) g j) ⌝ }
+{
+    let b = s[5];
+    let mut r: u8 = 0;
+    while r < b {
+        let made = check_record(s, g, j, r, table);
+        let at = lookup::check_at(b, 3 * g + j, r);
+        buffer::copy(&mut s[at..at + 32], &made);
+        r += 1;
+    }
+}
+
+// Makes the check units of group g that are out from the data.
+fn make_units(s: &mut [u8], g: u8, table: &[u8; 256])
+    requires { ⌜ Group (now s) g × (now table ≡ products) ⌝ }
+    ensures { λ _. ⌜ now (s .exit) ≡ bytes (unitsMade (view (now (s .entry))) g 3) ⌝ }
+{
+    let mut j: u8 = 0;
+    while j < 3 {
+        if s[24 + buffer::wide(3 * g + j)] == 2 {
+            make_unit(s, g, j, table);
+        }
+        j += 1;
+    }
+}
+
+// Puts the data units of group g that are out in service.
+fn serve_data(s: &mut [u8], g: u8)
+    requires { ⌜ Group (now s) g ⌝ }
+    ensures { λ _. ⌜ now (s .exit) ≡ bytes (dataServing (view (now (s .entry))) g 4) ⌝ }
+{
+    let mut p: u8 = 0;
+    while p < 4 {
+        let at = 8 + buffer::wide(4 * g + p);
+        if s[at] == 2 {
+            s[at] = 1;
+        }
+        p += 1;
+    }
+}
+
+// Puts the check units of group g that are out in service.
+fn serve_checks(s: &mut [u8], g: u8)
+    requires { ⌜ Group (now s) g ⌝ }
+    ensures { λ _. ⌜ now (s .exit) ≡ bytes (checksServing (view (now (s .entry))) g 3) ⌝ }
+{
+    let mut j: u8 = 0;
+    while j < 3 {
+        let at = 24 + buffer::wide(3 * g + j);
+        if s[at] == 2 {
+            s[at] = 1;
+        }
+        j += 1;
+    }
+}
+
+// Repairs group g, which is not beyond recovery.
+fn repair_group(s: &mut [u8], g: u8)
+    requires { ⌜ Repairable (now s) g ⌝ }
+    ensures { λ _. ⌜ now (s .exit) ≡ bytes (repaired (view (now (s .entry))) g) ⌝ }
+{
+    let table = field::table();
+    rebuild_units(s, g, &table);
+    make_units(s, g, &table);
+    serve_data(s, g);
+    serve_checks(s, g);
+}
+
+// The number of a repair, of a store that is sound or not.
+fn repair_number(s: &[u8], ok: bool, group: u32) -> u8
+    requires { ⌜ (ok ≡ true → Sized (now s)) ⌝ }
+    ensures { λ r. ⌜ r ≡ firstOf (refusalsIn ok (view (now (s .entry))) (Call.repair group)) ⌝ }
+{
+    let above = 3 < group;
+    if above {
+        return 2;
+    }
+    if !ok {
+        return 1;
+    }
+    let g = group as u8;
+    let absent = buffer::byte_at(s, 6) <= 4 * g;
+    if absent {
+        return 3;
+    }
+    if lookup::beyond(s, g) {
+        return 8;
+    }
+    0 // no row holds
+}
+
+// Repairs a group: its units that are out are rebuilt and put in service. The group is judged as the number it is.
+pub fn repair(s: &mut [u8], group: u32) -> u8
+    ensures { λ r. ⌜ outcome (plain r) (now (s .exit)) ≡ perform (now (s .entry)) (Call.repair group) ⌝ }
+{
+    let ok = soundness::is_sound(s);
+    let number = repair_number(s, ok, group);
+    if number != 0 {
+        return number;
+    }
+    repair_group(s, group as u8);
+    0
+}
