@@ -36,6 +36,11 @@ slot-room {s} h u r l m =
 pub slot-fits : {s : List ℕ} → Sized s → (u r : ℕ) → u < 16 → r < byte s 5 → slotAt (byte s 5) u r + slotBytes ≤ length s
 slot-fits {s} h u r l m = omega (arith, slot-room h u r l m, h .long)
 
+pub slots-fit : {s : List ℕ} → Sized s → (u n : ℕ) → u < 16 → n ≤ byte s 5 → slotAt (byte s 5) u 0 + slotBytes * n ≤ length s
+slots-fit {s} h u n l m =
+    let p : suc u * byte s 5 ≤ 16 * byte s 5 = mul-le-mul-right (byte s 5) l in
+    omega (arith, h .long)
+
 pub check-fits : {s : List ℕ} → Sized s → (c r : ℕ) → c < 12 → r < byte s 5 → checkAt (byte s 5) c r + checkBytes ≤ length s
 check-fits {s} h c r l m =
     let p : suc c * byte s 5 ≤ 12 * byte s 5 = mul-le-mul-right (byte s 5) l in

@@ -7,7 +7,7 @@ use native.Mathlib.Omega.{arith}
 use native.Mathlib.Nat.{mul-le-mul-left}
 use lib.Dec.{eqb, ltb}
 use lib.ListN.{length, getD, take, drop, length-append, length-take, length-drop}
-use lib.Seq.{take-all}
+use lib.Seq.{take-all, drop-at}
 use borrow.Author.Tests.{eq-eqb, ne-eqb, eqb-true, ltb-true, ltb-false}
 use Rattle.buffer.specs.Choice.{pick}
 use Rattle.buffer.specs.ChoiceLaws.{by-pick, pick-true, pick-false, pick-ext}
@@ -25,10 +25,11 @@ use Rattle.group.specs.ParityLaws.{sum4-ext}
 use Rattle.group.specs.Members.{firstFour}
 use Rattle.group.specs.MembersLaws.{Members}
 use Rattle.group.specs.Rebuilding.{fourBodies, weighed, rebuilt}
-use Rattle.group.specs.RebuildingLaws.{length-weighed}
+use Rattle.group.specs.WeighedLaws.{length-weighed}
 use Rattle.model.specs.Layout.{view, slotAt, checkAt, keyOf}
-use Rattle.model.specs.Reads.{servesIn, holds, keeper, listedKey, wholeSlot}
+use Rattle.model.specs.Reads.{servesIn, holds, keeper, listedKey, listedFill, wholeSlot}
 use Rattle.lookup.specs.Sized.{Sized, slot-fits, check-fits}
+use Rattle.lookup.specs.Keys.{listed-has-key}
 use Rattle.lookup.specs.Groups.{Recoverable, recoverable-known, group-four}
 
 -- ---- where a member of group g holds the body or the parity of rank r
@@ -171,3 +172,13 @@ own-slots s u n h l =
     let inside : slotBytes * r + slotBytes ≤ slotBytes * n = (let m : slotBytes * suc r ≤ slotBytes * n = mul-le-mul-left slotBytes k in omega arith) in
     let place : at + slotBytes * r ≡ slotAt (byte s 5) u r = omega arith in
     part-part at (slotBytes * n) (slotBytes * r) slotBytes s inside ∙ ap (λ i. part i slotBytes s) place ∙ slot-part s u r ∙ slot-own s u r h)
+
+-- ---- the body of a whole slot
+pub body-own : (s : List ℕ) (u r : ℕ) → (byte s (8 + u) ≡ 2 → ⊥) → part (slotAt (byte s 5) u r + keyBytes) bodyBytes s ≡ drop keyBytes (wholeSlot (view s) u r)
+body-own s u r h = sym (drop-part (slotAt (byte s 5) u r) keyBytes bodyBytes s) ∙ ap (drop keyBytes) (slot-part s u r ∙ slot-own s u r h)
+
+pub body-out : {s : List ℕ} {u : ℕ} {members weights : List ℕ} → Recipe s u members weights → (r : ℕ) (body : List ℕ) → r < byte s 5 → r < listedFill (view s) u
+    → body ≡ weighed weights (λ i. holds (view s) (u / 4) r (getD members i 0)) → body ≡ drop keyBytes (wholeSlot (view s) u r)
+body-out {s} {u} recipe r body l k e =
+    sym (drop-at (listedKey (view s) u r) body keyBytes (out-key-long (recipe .unit) r l (recipe .out)))
+    ∙ ap (drop keyBytes) (slot-rebuilt recipe r body (listed-has-key s u r k) (e ∙ body-rebuilt recipe r _ (λ i q. refl)))

@@ -4,6 +4,7 @@ pub mod Layout
 pub mod LayoutLaws
 pub mod StoreLaws
 pub mod RunLaws
+pub mod RunTurns
 pub mod Reads
 pub mod Sound
 pub mod Numbers
@@ -14,4 +15,3 @@ pub mod Perform
 pub mod PerformLaws
 pub mod Demand1
 pub mod history
-pub mod RunTurns

@@ -4,9 +4,9 @@ use Prim.Native.Nat.{ℕ, suc, _+_, _*_, _≤_, _<_}
 use mathlib.Core.Path.{_≡_, refl, sym, ap, _∙_}
 use mathlib.Core.List.{List, [], _∷_, _++_}
 use native.Mathlib.Omega.{arith}
-use native.Mathlib.Nat.{mul-one, mul-le-mul-right, one-mul}
+use native.Mathlib.Nat.{mul-le-mul-right, one-mul}
 use native.Mathlib.Numerals.{add-one}
-use lib.ListN.{length, take, drop, getD, set, length-set}
+use lib.ListN.{length, set}
 use lib.Seq.{drop-drop, set-split, getD-take}
 use lib.Dec.{eqb}
 use Rattle.buffer.specs.Choice.{pick}
@@ -16,8 +16,8 @@ use Rattle.buffer.specs.Table.{tab, upd}
 use Rattle.buffer.specs.TableLaws.{tab-ext, tab-one, tab-zeros, splice-chunk, upd-map}
 use Rattle.group.specs.Widths.{slotBytes, checkBytes}
 use Rattle.model.specs.Layout.{Store, bytes, view, storeBytes, unitsIn, levelIn, slotAt, checkAt, withSlots, withChecks}
-use Rattle.model.specs.LayoutLaws.{Shaped, Same, bytes-ext, bytes-view, view-shaped, view-bytes, length-bytes, byte-front, view-dstate, view-cstate, slot-read, check-read, len-ds, len-cs, len-slots, len-checks}
-use Rattle.model.specs.RunLaws.{upd2, run, run-one, run-unit, length-upd2, splice-run}
+use Rattle.model.specs.LayoutLaws.{Shaped, Same, bytes-ext, bytes-view, view-shaped, length-bytes, byte-front, view-dstate, view-cstate, slot-read, check-read, len-ds, len-cs, len-slots, len-checks}
+use Rattle.model.specs.RunLaws.{upd2, run, run-one, run-unit, splice-run}
 
 -- ---- a store with one of its parts replaced: its front, the states of its data units, and those of its check units
 unfoldable pub withFront : Store → List ℕ → Store

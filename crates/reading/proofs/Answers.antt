@@ -1,11 +1,11 @@
 -- The ways out of read, read in place and list are what `perform` says. Assumes nothing.
-use Prim.Native.Nat.{ℕ, _+_, _*_, _/_, _≤_, _<_}
+use Prim.Native.Nat.{ℕ, _+_, _-_}
 use mathlib.Core.Path.{_≡_, refl, sym, ap, ap₂, _∙_}
 use mathlib.Core.Bool.{Bool, true, false, not, _&&_}
-use mathlib.Core.List.{List, _++_, append-nil}
+use mathlib.Core.List.{List, [], _++_, append-nil}
 use native.Mathlib.Omega.{arith}
 use lib.Dec.{eqb}
-use lib.ListN.{length, drop, drop-of-length-le}
+use lib.ListN.{length, take, drop, drop-of-length-le}
 use borrow.Author.Tests.{eq-eqb, ne-eqb}
 use Rattle.buffer.specs.Choice.{pick}
 use Rattle.buffer.specs.ChoiceLaws.{pick-true, pick-false}
@@ -37,12 +37,23 @@ pub list-refused : (s out : List ℕ) (r n : ℕ) → r ≡ numberIn s (Call.lis
 unfolding perform answerIn afterIn reply output pick
 list-refused s out r n e h f = rw (f, ← e, ne-eqb r 0 h)
 
-pub list-granted : (s out new : List ℕ) (n : ℕ) → 0 ≡ numberIn s (Call.list out) → n ≡ totalIn (view s) → new ≡ listingIn (view s) ++ drop (length (listingIn (view s))) out
-    → outcome (listed 0 n new) s ≡ perform s (Call.list out)
+pub list-granted : (s out new : List ℕ) (r n : ℕ) → r ≡ numberIn s (Call.list out) → r ≡ 0 → n ≡ pick (eqb r 0) (totalIn (view s)) 0
+    → new ≡ listingIn (view s) ++ drop (length (listingIn (view s))) out → outcome (listed r n new) s ≡ perform s (Call.list out)
 unfolding perform answerIn afterIn reply output givenIn grantedIn pick
-list-granted s out new n e f g = rw (f, g, ← e)
+list-granted s out new r n e z f g = rw (f, g, ← e, z)
 
 -- ---- read in place
+-- the part that code hands back: nothing, or the 16 bytes behind the key of a slot
+pub part-empty : (s : List ℕ) (p : Place) → p ≡ record { at = 0; size = 0 } → [] ≡ part (p .at) (p .size) s
+unfolding part
+part-empty s p e = sym (ap (λ (q : Place). part (q .at) (q .size) s) e)
+
+pub part-body : (s : List ℕ) (p : Place) (slot at : ℕ) → p ≡ record { at = slot + keyBytes; size = bodyBytes } → at ≡ slot → take (at + 20 - (at + 4)) (drop (at + 4) s) ≡ part (p .at) (p .size) s
+unfolding part
+part-body s p slot at e f =
+    let w : at + 20 - (at + 4) ≡ 16 = omega arith in
+    rw (w, f) (sym (ap (λ (q : Place). part (q .at) (q .size) s) e))
+
 module _ (s : List ℕ) (k : ℕ) where
   -- refused as read into a buffer that fits
   pub nowhere : (n : ℕ) → n ≡ numberIn s (Call.read k (zeros bodyBytes)) → (n ≡ 0 → ⊥) → placeIn s k ≡ record { at = 0; size = 0 }

@@ -1,17 +1,15 @@
 -- The verdicts of read and list: each way out of the cascade gives the number of the first row that holds. Assumes nothing.
-use Prim.Native.Nat.{ℕ, _+_, _*_, _/_, _≤_, _<_}
+use Prim.Native.Nat.{ℕ, suc, _+_, _*_, _/_, _≤_, _<_}
 use mathlib.Core.Path.{_≡_, refl, sym, ap, _∙_}
 use mathlib.Core.Bool.{Bool, true, false, not, _&&_}
 use mathlib.Core.List.{List}
 use native.Mathlib.Omega.{arith}
 use lib.Dec.{eqb, ltb, leb}
 use lib.Seq.{getD-take}
-use borrow.Author.Tests.{eq-eqb, ne-eqb, lt-ltb, le-ltb, le-leb, lt-leb, eqb-true, eqb-false}
+use borrow.Author.Tests.{eq-eqb, ne-eqb, lt-ltb, le-ltb, le-leb, lt-leb}
 use Rattle.buffer.specs.Choice.{pick}
-use Rattle.buffer.specs.ChoiceLaws.{by-test}
+use Rattle.buffer.specs.ChoiceLaws.{by-test, pick-false}
 use Rattle.buffer.specs.TestLaws.{not-both, and-true}
-use Rattle.buffer.specs.Range.{count}
-use Rattle.buffer.specs.RangeLaws.{count-zero}
 use Rattle.buffer.specs.Bytes.{byte}
 use Rattle.group.specs.Widths.{bodyBytes, slotBytes}
 use Rattle.model.specs.Units.{unitOf}
@@ -19,14 +17,14 @@ use Rattle.model.specs.Layout.{Store, view, unitsIn}
 use Rattle.model.specs.Reads.{homeIn, beyondIn, listedFill, listedRank, lostIn, totalIn}
 use Rattle.model.specs.Numbers.{firstOf}
 use Rattle.lookup.specs.Sized.{Sized}
-use Rattle.lookup.specs.Groups.{Recoverable, Whole}
+use Rattle.lookup.specs.Groups.{Recoverable, Whole, none-lost}
 use Rattle.reading.specs.Rows.{readNumber, listNumber}
 use Rattle.reading.specs.Found.{Placed, Verdict}
 use Rattle.reading.specs.Listing.{Counted}
 
 -- a refusal hands no place on
-refusal : {s : List ℕ} {ok : Bool} {k n : ℕ} (number unit rank : ℕ) → 0 < number → number ≡ readNumber ok (view s) k n → Verdict s ok k n number unit rank
-refusal number unit rank h e = record { given = e; placed = λ z. absurd (omega arith) }
+pub refusal : {s : List ℕ} {ok : Bool} {k n : ℕ} (m : ℕ) {number unit rank : ℕ} → number ≡ suc m → suc m ≡ readNumber ok (view s) k n → Verdict s ok k n number unit rank
+refusal m e f = record { given = e ∙ f; placed = λ z. absurd (omega arith); room = λ z. absurd (omega arith) }
 
 -- the unit that the code looks in is the key's
 pub home-is : (s : List ℕ) (k u : ℕ) → u ≡ unitOf (byte s 6) k → u ≡ homeIn (view s) k
@@ -35,37 +33,34 @@ home-is s k u e = e ∙ ap (λ m. unitOf m k) (sym (getD-take 8 s 6 0 (omega ari
 
 -- ---- read
 module _ (s : List ℕ) (ok : Bool) (k n : ℕ) where
-  pub no-key : k ≡ 0 → (u r : ℕ) → Verdict s ok k n 2 u r
+  pub no-key : k ≡ 0 → 2 ≡ readNumber ok (view s) k n
   unfolding readNumber firstOf pick
-  no-key h u r = refusal 2 u r (omega arith) (rw (eq-eqb k 0 h))
+  no-key h = rw (eq-eqb k 0 h)
 
   module _ (key : k ≡ 0 → ⊥) where
-    pub no-room : (n ≡ bodyBytes → ⊥) → (u r : ℕ) → Verdict s ok k n 2 u r
+    pub no-room : (n ≡ bodyBytes → ⊥) → 2 ≡ readNumber ok (view s) k n
     unfolding readNumber firstOf pick
-    no-room h u r = refusal 2 u r (omega arith) (rw (ne-eqb k 0 key, ne-eqb n bodyBytes h))
+    no-room h = rw (ne-eqb k 0 key, ne-eqb n bodyBytes h)
 
     module _ (room : n ≡ bodyBytes) where
-      pub unsound : ok ≡ false → (u r : ℕ) → Verdict s ok k n 1 u r
+      pub unsound : ok ≡ false → 1 ≡ readNumber ok (view s) k n
       unfolding readNumber firstOf pick
-      unsound h u r = refusal 1 u r (omega arith) (rw (ne-eqb k 0 key, eq-eqb n bodyBytes room, h))
+      unsound h = rw (ne-eqb k 0 key, eq-eqb n bodyBytes room, h)
 
       -- the tests of a sound store, at the key's unit
       module _ (good : ok ≡ true) (u : ℕ) (home : u ≡ homeIn (view s) k) where
-        pub lost : (eqb (view s .dstate u) 2 && beyondIn (view s) (u / 4)) ≡ true → (r : ℕ) → Verdict s ok k n 8 u r
+        pub lost : (eqb (view s .dstate u) 2 && beyondIn (view s) (u / 4)) ≡ true → 8 ≡ readNumber ok (view s) k n
         unfolding readNumber firstOf pick
-        lost h r = refusal 8 u r (omega arith) (rw (ne-eqb k 0 key, eq-eqb n bodyBytes room, good, ← home, h))
+        lost h = rw (ne-eqb k 0 key, eq-eqb n bodyBytes room, good, ← home, h)
 
         module _ (safe : (eqb (view s .dstate u) 2 && beyondIn (view s) (u / 4)) ≡ false) where
-          pub absent : listedFill (view s) u ≤ listedRank (view s) u k → (r : ℕ) → Verdict s ok k n 6 u r
+          pub absent : listedFill (view s) u ≤ listedRank (view s) u k → 6 ≡ readNumber ok (view s) k n
           unfolding readNumber firstOf pick
-          absent h r =
-              refusal 6 u r (omega arith)
-              (rw (ne-eqb k 0 key, eq-eqb n bodyBytes room, good, ← home, safe, le-leb (listedFill (view s) u) (listedRank (view s) u k) h))
+          absent h = rw (ne-eqb k 0 key, eq-eqb n bodyBytes room, good, ← home, safe, le-leb (listedFill (view s) u) (listedRank (view s) u k) h)
 
           pub present : listedRank (view s) u k < listedFill (view s) u → 0 ≡ readNumber ok (view s) k n
           unfolding readNumber firstOf pick
-          present h =
-              rw (ne-eqb k 0 key, eq-eqb n bodyBytes room, good, ← home, safe, lt-leb (listedFill (view s) u) (listedRank (view s) u k) h)
+          present h = rw (ne-eqb k 0 key, eq-eqb n bodyBytes room, good, ← home, safe, lt-leb (listedFill (view s) u) (listedRank (view s) u k) h)
 
 -- a unit that is not lost can be read or rebuilt
 pub safe-unit : {s : List ℕ} {u : ℕ} → Sized s → u < 16 → (eqb (view s .dstate u) 2 && beyondIn (view s) (u / 4)) ≡ false → Recoverable s u
@@ -76,3 +71,36 @@ safe-unit {s} {u} h l e =
       unit = l;
       whole = λ out. by-test (λ t. t ≡ false) (beyondIn (view s) (u / 4)) (λ b. not-both (and-true (eq-eqb (byte s (8 + u)) 2 out) b) e) (λ b. refl);
     }
+
+-- ---- list
+pub not-counted : {s : List ℕ} {ok : Bool} {n : ℕ} (m : ℕ) → suc m ≡ listNumber ok (view s) n → Counted s ok n (suc m) 0
+not-counted m e = record { given = e; records = sym (pick-false (ne-eqb (suc m) 0 (λ z. omega arith)) _ _); whole = λ z. absurd (omega arith); room = λ z. absurd (omega arith) }
+
+-- nothing is lost
+pub safe-store : {s : List ℕ} → Sized s → lostIn (view s) ≡ false → Whole s
+safe-store {s} h e = record { sized = h; units = λ u l. safe-unit h l (none-lost s e u l) .whole }
+
+module _ (s : List ℕ) (ok : Bool) (n : ℕ) where
+  pub list-unsound : ok ≡ false → 1 ≡ listNumber ok (view s) n
+  unfolding listNumber firstOf pick
+  list-unsound h = rw h
+
+  module _ (good : ok ≡ true) where
+    pub list-lost : lostIn (view s) ≡ true → 8 ≡ listNumber ok (view s) n
+    unfolding listNumber firstOf pick
+    list-lost h = rw (good, h)
+
+    module _ (safe : lostIn (view s) ≡ false) where
+      pub list-short : n < slotBytes * totalIn (view s) → 7 ≡ listNumber ok (view s) n
+      unfolding listNumber firstOf pick
+      list-short h = rw (good, safe, lt-ltb n (slotBytes * totalIn (view s)) h)
+
+      pub counted : (c : ℕ) → Sized s → c ≡ totalIn (view s) → slotBytes * totalIn (view s) ≤ n → Counted s ok n 0 c
+      unfolding listNumber firstOf pick
+      counted c h e l =
+          record {
+            given = rw (good, safe, le-ltb n (slotBytes * totalIn (view s)) l);
+            records = e;
+            whole = λ z. safe-store h safe;
+            room = λ z. l;
+          }

@@ -12,6 +12,8 @@ ghost use Rattle.model.specs.Layout.{view};
 ghost use Rattle.model.specs.Reads.{listedFill, wholeSlot, totalIn, listingIn};
 ghost use Rattle.lookup.specs.Sized.{Sized};
 ghost use Rattle.lookup.specs.Groups.{Recoverable, Whole};
+ghost use Rattle.model.specs.Numbers.{Call};
+ghost use Rattle.model.specs.Perform.{copied, lent, listed, outcome, perform, placeIn};
 ghost use Rattle.reading.specs.Found.{Placed, Verdict};
 ghost use Rattle.reading.specs.Listing.{Counted};
 
@@ -76,4 +78,124 @@ fn copy_body(s: &[u8], u: u8, r: u8, out: &mut [u8])
         let at = lookup::slot_at(s[5], u, r) + 4;
         buffer::copy(out, &s[at..at + 16]);
     }
+}
+
+// Reads the body of a key into a buffer of 16 bytes.
+pub fn read(s: &[u8], key: u32, out: &mut [u8]) -> u8
+    ensures { λ r. ⌜ outcome (copied r (now (out .exit))) (now (s .entry)) ≡ perform (now (s .entry)) (Call.read key (now (out .entry))) ⌝ }
+{
+    let found = look_up(s, soundness::is_sound(s), key, out.len());
+    if found.number != 0 {
+        return found.number;
+    }
+    copy_body(s, found.unit, found.rank, out);
+    0
+}
+
+// The body of a key as the part of the store that holds it; empty where a read is refused or the key's unit is out.
+pub fn read_in_place(s: &[u8], key: u32) -> &[u8]
+    ensures answer { λ r. ⌜ outcome (lent (now r)) (now (s .entry)) ≡ perform (now (s .entry)) (Call.readInPlace key) ⌝ }
+    ensures place { λ r. ⌜ now r ≡ part (placeIn (now (s .entry)) key .at) (placeIn (now (s .entry)) key .size) (now (s .entry)) ⌝ }
+{
+    let found = look_up(s, soundness::is_sound(s), key, 16);
+    if found.number != 0 {
+        return &s[0..0];
+    }
+    if lookup::state(s, found.unit) == 2 {
+        return &s[0..0];
+    }
+    let at = lookup::slot_at(s[5], found.unit, found.rank);
+    &s[at + 4..at + 20]
+}
+
+// A number, and how many records were listed.
+pub struct Listing {
+    pub number: u8,
+    pub count: usize,
+}
+
+// The verdict on a list into len bytes, with its count; ok says whether the store is sound.
+fn count_records(s: &[u8], ok: bool, len: usize) -> Listing
+    requires { ⌜ (ok ≡ true → Sized (now s)) ⌝ }
+    ensures { λ l. ⌜ Counted (now (s .entry)) ok len (l .number) (l .count) ⌝ }
+{
+    if !ok {
+        return Listing {
+            number: 1,
+            count: 0,
+        };
+    }
+    if lookup::lost(s) {
+        return Listing {
+            number: 8,
+            count: 0,
+        };
+    }
+    let count = lookup::total(s);
+    if len < 20 * count {
+        return Listing {
+            number: 7,
+            count: 0,
+        };
+    }
+    Listing { number: 0, count }
+}
+
+// Rebuilds the first n slots of data unit u, which is out, one behind the other.
+fn rebuild_unit(s: &[u8], u: u8, n: u8, out: &mut [u8], table: &[u8; 256])
+    requires { ⌜ Recoverable (now s) u × (byte (now s) (8 + u) ≡ 2) × (n ≤ byte (now s) 5) × (length (now out) ≡ slotBytes * n) × (now table ≡ products) ⌝ }
+    ensures { λ _. ⌜ now (out .exit) ≡ tab n (wholeSlot (view (now (s .entry))) u) ⌝ }
+{
+    let members = lookup::members(s, u / 4);
+    let weights = lookup::weights(s, u, members, table);
+    let mut at = 0;
+    let mut r: u8 = 0;
+    while r < n {
+        lookup::rebuild_slot(&mut out[at..at + 20], s, u, r, members, weights, table);
+        at += 20;
+        r += 1;
+    }
+}
+
+// Copies the first n slots of data unit u, rebuilt where the unit is out, one behind the other.
+fn copy_unit(s: &[u8], u: u8, n: u8, out: &mut [u8], table: &[u8; 256])
+    requires { ⌜ Recoverable (now s) u × (n ≤ byte (now s) 5) × (length (now out) ≡ slotBytes * n) × (now table ≡ products) ⌝ }
+    ensures { λ _. ⌜ now (out .exit) ≡ tab n (wholeSlot (view (now (s .entry))) u) ⌝ }
+{
+    if lookup::state(s, u) == 2 {
+        rebuild_unit(s, u, n, out, table);
+    } else {
+        let at = lookup::slot_at(s[5], u, 0);
+        let end = at + 20 * buffer::wide(n);
+        buffer::copy(out, &s[at..end]);
+    }
+}
+
+// Writes the records of a store of which nothing is lost, unit by unit; what stands behind them stays.
+fn write_records(s: &[u8], out: &mut [u8], table: &[u8; 256])
+    requires { ⌜ Whole (now s) × (slotBytes * totalIn (view (now s)) ≤ length (now out)) × (now table ≡ products) ⌝ }
+    ensures { λ _. ⌜ now (out .exit) ≡ listingIn (view (now (s .entry))) ++ drop (length (listingIn (view (now (s .entry))))) (now (out .entry)) ⌝ }
+{
+    let mut at = 0;
+    let mut u: u8 = 0;
+    while u < 16 {
+        let n = lookup::listed_fill(s, u);
+        let end = at + 20 * buffer::wide(n);
+        copy_unit(s, u, n, &mut out[at..end], table);
+        at = end;
+        u += 1;
+    }
+}
+
+// Writes key and body of every record, 20 bytes each, by unit and then rank; bytes behind are not written.
+pub fn list(s: &[u8], out: &mut [u8]) -> Listing
+    ensures { λ r. ⌜ outcome (listed (r .number) (r .count) (now (out .exit))) (now (s .entry)) ≡ perform (now (s .entry)) (Call.list (now (out .entry))) ⌝ }
+{
+    let verdict = count_records(s, soundness::is_sound(s), out.len());
+    if verdict.number != 0 {
+        return verdict;
+    }
+    let table = field::table();
+    write_records(s, out, &table);
+    verdict
 }

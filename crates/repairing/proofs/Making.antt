@@ -15,7 +15,8 @@ use Rattle.buffer.specs.TableLaws.{Wide}
 use Rattle.buffer.specs.LoopWrites.{Stepping, stepping-start, stepping-turn, stepping-end}
 use Rattle.group.specs.Widths.{keyBytes, bodyBytes, slotBytes, checkBytes}
 use Rattle.group.specs.CheckRecord.{checkRecord, patched}
-use Rattle.group.specs.CheckRecordLaws.{checkRecord-ext, length-checkRecord, length-key, length-body, length-patched, patched-all}
+use Rattle.group.specs.CheckRecordLaws.{checkRecord-ext, length-checkRecord, length-key, length-body, length-patched}
+use Rattle.group.specs.MakingLaws.{patched-all}
 use Rattle.model.specs.Layout.{Store, bytes, view, slotAt, checkAt, withChecks}
 use Rattle.model.specs.LayoutLaws.{Shaped, bytes-view, view-shaped, view-bytes}
 use Rattle.model.specs.RunLaws.{upd2, run, run-unit, length-run}

@@ -153,7 +153,7 @@ fn repair_number(s: &[u8], ok: bool, group: u32) -> u8
     if lookup::beyond(s, g) {
         return 8;
     }
-    0
+    0 // no row holds
 }
 
 // Repairs a group: its units that are out are rebuilt and put in service. The group is judged as the number it is.

@@ -2,11 +2,47 @@
 pub mod lay_out;
 
 ghost use mathlib.Core.Path.{_≡_};
-ghost use Rattle.model.specs.Perform.{outcome, plain, layOut};
+ghost use Rattle.model.specs.Numbers.{Call};
+ghost use Rattle.model.specs.Perform.{outcome, plain, perform, layOut};
 
 #[no_mangle]
 pub extern "C" fn lhrs_lay_out(store: &mut [u8], b: u32) -> u8
     ensures { λ r. ⌜ outcome (plain r) (now (store .exit)) ≡ layOut (now (store .entry)) b ⌝ }
 {
     lay_out::lay_out(store, b)
+}
+
+#[no_mangle]
+pub extern "C" fn lhrs_teach(store: &mut [u8], key: u32, body: &[u8]) -> u8
+    ensures { λ r. ⌜ outcome (plain r) (now (store .exit)) ≡ perform (now (store .entry)) (Call.teach key (now (body .entry))) ⌝ }
+{
+    writing::teach(store, key, body)
+}
+
+#[no_mangle]
+pub extern "C" fn lhrs_correct(store: &mut [u8], key: u32, body: &[u8]) -> u8
+    ensures { λ r. ⌜ outcome (plain r) (now (store .exit)) ≡ perform (now (store .entry)) (Call.correct key (now (body .entry))) ⌝ }
+{
+    writing::correct(store, key, body)
+}
+
+#[no_mangle]
+pub extern "C" fn lhrs_erase(store: &mut [u8], key: u32) -> u8
+    ensures { λ r. ⌜ outcome (plain r) (now (store .exit)) ≡ perform (now (store .entry)) (Call.erase key) ⌝ }
+{
+    writing::erase(store, key)
+}
+
+#[no_mangle]
+pub extern "C" fn lhrs_out(store: &mut [u8], unit: u32) -> u8
+    ensures { λ r. ⌜ outcome (plain r) (now (store .exit)) ≡ perform (now (store .entry)) (Call.unitOut unit) ⌝ }
+{
+    writing::unit_out(store, unit)
+}
+
+#[no_mangle]
+pub extern "C" fn lhrs_repair(store: &mut [u8], group: u32) -> u8
+    ensures { λ r. ⌜ outcome (plain r) (now (store .exit)) ≡ perform (now (store .entry)) (Call.repair group) ⌝ }
+{
+    repairing::repair(store, group)
 }

@@ -1,27 +1,27 @@
 -- The check units of a group follow a write, one after the other: what holds at each turn of that loop, and the slot that is written behind it.
 -- Assumes nothing.
-use Prim.Native.Nat.{ℕ, zero, suc, _+_, _*_, _/_, _%_, _≤_, _<_}
+use Prim.Native.Nat.{ℕ, suc, _+_, _*_, _/_, _%_, _≤_, _<_}
 use mathlib.Core.Path.{_≡_, refl, sym, ap, ap₂, _∙_}
 use mathlib.Core.List.{List}
-use mathlib.Core.Bool.{Bool, true, false, _&&_}
+use mathlib.Core.Bool.{Bool, true, _&&_}
 use mathlib.Core.Bool as bool
 use native.Mathlib.Omega.{arith}
 use native.Mathlib.Numerals.{add-one}
 use lib.Dec.{eqb, ltb}
 use lib.ListN.{length, take, drop}
-use borrow.Author.Tests.{eq-eqb, ne-eqb, eqb-true, lt-ltb, le-ltb}
+use borrow.Author.Tests.{eq-eqb, eqb-true, lt-ltb, le-ltb}
 use Rattle.buffer.specs.Choice.{pick}
 use Rattle.buffer.specs.ChoiceLaws.{by-pick, pick-true, pick-false}
-use Rattle.buffer.specs.TestLaws.{and-true, and-first, and-second, and-false-second, and-ext, ltb-suc, by-both, not-both}
+use Rattle.buffer.specs.TestLaws.{and-true, and-first, and-second, and-false-second, and-ext, ltb-suc, by-both}
 use Rattle.buffer.specs.Bytes.{byte, part, splice}
 use Rattle.group.specs.Widths.{keyBytes, bodyBytes, slotBytes, checkBytes}
 use Rattle.group.specs.Body.{addBody}
 use Rattle.group.specs.CheckRecord.{patched}
-use Rattle.group.specs.CheckRecordLaws.{length-key, length-body, length-patched}
+use Rattle.group.specs.CheckRecordLaws.{length-key, length-patched}
 use Rattle.model.specs.Layout.{Store, bytes, view, slotAt, checkAt, withSlots, withChecks}
 use Rattle.model.specs.LayoutLaws.{Shaped, Same, bytes-ext, bytes-view, view-shaped}
 use Rattle.model.specs.RunLaws.{upd2}
-use Rattle.model.specs.StoreLaws.{SlotIn, checks-size, checks-shaped, checks-ext, checks-none, checks-check, checks-again, splice-slot, splice-check, check-end, size-of, cstate-at, check-at, check-put, slot-put, long-at, same-long}
+use Rattle.model.specs.StoreLaws.{SlotIn, checks-size, checks-shaped, checks-ext, checks-none, checks-check, checks-again, size-of, cstate-at, check-at, check-put, slot-put, same-long}
 use Rattle.model.specs.Changes.{written}
 use Rattle.model.specs.ChangeLaws.{length-change}
 use Rattle.writing.specs.Following.{followed}

@@ -1,6 +1,6 @@
 -- What a granted call may rely on, and that what its code leaves is what the call is to leave. Assumes nothing.
 use Prim.Native.Nat.{ℕ, pred, _-_, _≤_, _<_}
-use mathlib.Core.Path.{_≡_, refl, sym, ap, _∙_}
+use mathlib.Core.Path.{_≡_, sym, ap, _∙_}
 use mathlib.Core.Bool.{Bool, true}
 use mathlib.Core.List.{List}
 use native.Mathlib.Omega.{arith}
@@ -14,7 +14,7 @@ use Rattle.model.specs.Reads.{homeIn, fillIn, rankIn}
 use Rattle.model.specs.Numbers.{Call, teach, correct, erase, unitOut, firstOf, refusalsIn}
 use Rattle.model.specs.Changes.{written, erased, unitLost}
 use Rattle.model.specs.Perform.{grantedIn}
-use Rattle.model.specs.PerformLaws.{row-failed}
+use Rattle.model.specs.PerformLaws.{none-holds}
 use Rattle.model.specs.StoreLaws.{SlotIn, size-of}
 use Rattle.model.specs.Sound.{sound}
 use Rattle.lookup.specs.Sized.{Sized, sound-sized}
@@ -47,40 +47,27 @@ module _ (s : List ℕ) (ok : Bool) (r : ℕ) (z : r ≡ 0) where
   pub teaches : (k : ℕ) (x : List ℕ) → r ≡ firstOf (refusalsIn ok (view s) (Call.teach k x)) → Teaches s ok k x
   unfolding refusalsIn
   teaches k x e =
-      let a = row-failed _ _ _ (sym e ∙ z) in
-      let b = row-failed _ _ _ (a .1) in
-      let c = row-failed _ _ _ (b .1) in
-      let d = row-failed _ _ _ (c .1) in
-      let f = row-failed _ _ _ (d .1) in
-      let g = row-failed _ _ _ (f .1) in
-      record { sound = not-false ok (c .0); body = eqb-true _ _ (not-false _ (b .0)); room = rw (size-of s) (leb-false _ _ (g .0)) }
+      let f = none-holds ok (view s) (Call.teach k x) r e z in
+      record { sound = not-false ok (f .1 .1 .0); body = eqb-true _ _ (not-false _ (f .1 .0)); room = rw (size-of s) (leb-false _ _ (f .1 .1 .1 .1 .1 .0)) }
 
   pub corrects : (k : ℕ) (x : List ℕ) → r ≡ firstOf (refusalsIn ok (view s) (Call.correct k x)) → Corrects s ok k x
   unfolding refusalsIn
   corrects k x e =
-      let a = row-failed _ _ _ (sym e ∙ z) in
-      let b = row-failed _ _ _ (a .1) in
-      let c = row-failed _ _ _ (b .1) in
-      let d = row-failed _ _ _ (c .1) in
-      let f = row-failed _ _ _ (d .1) in
-      record { sound = not-false ok (c .0); body = eqb-true _ _ (not-false _ (b .0)); present = leb-false _ _ (f .0) }
+      let f = none-holds ok (view s) (Call.correct k x) r e z in
+      record { sound = not-false ok (f .1 .1 .0); body = eqb-true _ _ (not-false _ (f .1 .0)); present = leb-false _ _ (f .1 .1 .1 .1 .0) }
 
   pub erases : (k : ℕ) → r ≡ firstOf (refusalsIn ok (view s) (Call.erase k)) → Erases s ok k
   unfolding refusalsIn
   erases k e =
-      let a = row-failed _ _ _ (sym e ∙ z) in
-      let b = row-failed _ _ _ (a .1) in
-      let c = row-failed _ _ _ (b .1) in
-      let d = row-failed _ _ _ (c .1) in
-      record { sound = not-false ok (b .0); present = leb-false _ _ (d .0) }
+      let f = none-holds ok (view s) (Call.erase k) r e z in
+      record { sound = not-false ok (f .1 .0); present = leb-false _ _ (f .1 .1 .1 .0) }
 
   pub loses : (w : ℕ) → r ≡ firstOf (refusalsIn ok (view s) (Call.unitOut w)) → Loses ok w
   unfolding refusalsIn
   loses w e =
-      let a = row-failed _ _ _ (sym e ∙ z) in
-      let b = row-failed _ _ _ (a .1) in
-      let l : w ≤ 27 = ltb-false 27 w (a .0) in
-      record { sound = not-false ok (b .0); unit = omega arith }
+      let f = none-holds ok (view s) (Call.unitOut w) r e z in
+      let l : w ≤ 27 = ltb-false 27 w (f .0) in
+      record { sound = not-false ok (f .1 .0); unit = omega arith }
 
 -- ---- the slots that they write, and what is left
 pub slot-long : (k : ℕ) (x slot : List ℕ) → slot ≡ slotOf k x → length x ≡ bodyBytes → length slot ≡ slotBytes

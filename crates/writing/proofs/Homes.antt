@@ -8,7 +8,7 @@ use Rattle.buffer.specs.Bytes.{byte}
 use Rattle.buffer.specs.Range.{first}
 use Rattle.model.specs.Units.{unitOf}
 use Rattle.model.specs.Layout.{view, keyOf}
-use Rattle.model.specs.Reads.{homeIn, fillIn, rankIn}
+use Rattle.model.specs.Reads.{homeIn, fillIn}
 use Rattle.model.specs.StoreLaws.{units-of}
 use Rattle.lookup.specs.Sized.{Sized}
 use Rattle.lookup.specs.Keys.{rank-in}

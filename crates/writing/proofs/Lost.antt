@@ -1,20 +1,20 @@
 -- A unit's bytes cleared and its state set are the unit lost. Assumes nothing.
-use Prim.Native.Nat.{ℕ, suc, _+_, _*_, _-_, _≤_, _<_}
+use Prim.Native.Nat.{ℕ, _+_, _*_, _-_, _≤_, _<_}
 use mathlib.Core.Path.{_≡_, refl, sym, ap, _∙_}
 use mathlib.Core.List.{List}
 use native.Mathlib.Omega.{arith}
 use lib.Dec.{eqb}
 use lib.ListN.{length, set}
-use borrow.Author.Tests.{ne-eqb, eqb-true, eqb-false, eq-eqb}
+use borrow.Author.Tests.{ne-eqb, eqb-true, eq-eqb}
 use Rattle.buffer.specs.Choice.{pick}
-use Rattle.buffer.specs.ChoiceLaws.{pick-true, pick-false}
+use Rattle.buffer.specs.ChoiceLaws.{pick-false}
 use Rattle.buffer.specs.TestLaws.{same-test}
 use Rattle.buffer.specs.Bytes.{byte, zeros, part, splice}
 use Rattle.buffer.specs.ByteLaws.{length-zeros}
 use Rattle.buffer.specs.SpliceLaws.{length-part}
 use Rattle.buffer.specs.Table.{upd}
 use Rattle.group.specs.Widths.{slotBytes, checkBytes}
-use Rattle.model.specs.Layout.{Store, bytes, view, storeBytes, slotAt, checkAt, withSlots, withChecks}
+use Rattle.model.specs.Layout.{Store, bytes, view, slotAt, checkAt, withSlots, withChecks}
 use Rattle.model.specs.LayoutLaws.{Shaped, Same, Long, bytes-ext, bytes-view, view-shaped}
 use Rattle.model.specs.RunLaws.{run, run-unit, length-run}
 use Rattle.model.specs.StoreLaws.{withDstates, withCstates, size-of, slots-shaped, checks-shaped, slots-clear, checks-clear, slots-within, checks-within, dstate-set, cstate-set}

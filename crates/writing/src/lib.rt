@@ -1,32 +1,19 @@
 // Teach, correct, erase and unit out: a slot is written and its group's check units follow; a unit's bytes are cleared.
 ghost use mathlib.Core.Path.{_≡_};
-ghost use Prim.Native.Nat.{_+_, _*_, _-_, _≤_, _<_};
+ghost use Prim.Native.Nat.{_+_, _*_, _-_, _<_};
 ghost use mathlib.Core.Bool.{true};
 ghost use lib.ListN.{length};
-ghost use Rattle.buffer.specs.Bytes.{byte};
 ghost use Rattle.field.specs.Table.{products};
 ghost use Rattle.group.specs.Body.{addBody};
-ghost use Rattle.group.specs.CheckRecord.{patched};
 ghost use Rattle.model.specs.Layout.{bytes, view, slotOf, withChecks};
 ghost use Rattle.model.specs.StoreLaws.{SlotIn};
 ghost use Rattle.model.specs.LayoutLaws.{Long};
-ghost use Rattle.model.specs.Reads.{outsIn};
 ghost use Rattle.model.specs.Numbers.{Call, teach, correct, erase, unitOut, firstOf, refusalsIn};
 ghost use Rattle.model.specs.Perform.{plain, outcome, perform};
 ghost use Rattle.model.specs.Changes.{written, erased, unitLost};
 ghost use Rattle.lookup.specs.Sized.{Sized};
 ghost use Rattle.writing.specs.Following.{followed};
 ghost use Rattle.writing.specs.Homes.{Homed};
-
-// How many units of group g are out.
-fn outs(s: &[u8], g: u8) -> u8
-    requires { ⌜ Sized (now s) × (g < 4) ⌝ }
-    ensures { λ r. ⌜ (r ≡ outsIn (view (now (s .entry))) g) × (r ≤ 7) ⌝ }
-{
-    let d = 8 + 4 * buffer::wide(g);
-    let c = 24 + 3 * buffer::wide(g);
-    group::outs(&s[d..d + 4], &s[c..c + 3])
-}
 
 // Each check unit in service of u's group follows, at rank r, the new key and the change of body of the record there.
 fn follow_checks(s: &mut [u8], u: u8, r: u8, key: &[u8], change: &[u8], table: &[u8; 256])
@@ -171,7 +158,7 @@ fn teach_number(s: &[u8], ok: bool, key: u32, body: &[u8]) -> u8
         return 1;
     }
     let home = home_of(s, key);
-    let out = 0 < outs(s, home.unit / 4);
+    let out = 0 < lookup::outs(s, home.unit / 4);
     if out {
         return 4;
     }
@@ -203,7 +190,7 @@ fn correct_number(s: &[u8], ok: bool, key: u32, body: &[u8]) -> u8
         return 1;
     }
     let home = home_of(s, key);
-    let out = 0 < outs(s, home.unit / 4);
+    let out = 0 < lookup::outs(s, home.unit / 4);
     if out {
         return 4;
     }
@@ -227,7 +214,7 @@ fn erase_number(s: &[u8], ok: bool, key: u32) -> u8
         return 1;
     }
     let home = home_of(s, key);
-    let out = 0 < outs(s, home.unit / 4);
+    let out = 0 < lookup::outs(s, home.unit / 4);
     if out {
         return 4;
     }

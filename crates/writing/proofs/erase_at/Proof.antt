@@ -18,7 +18,7 @@ write-slot-requires-2 : tie.Need-write-slot-requires-2
 write-slot-requires-2 c κs =
     let w = c .before .before .before .before in
     let e = w .before .before .before .before .before .before .before .before .before .before .before in
-    (written-in _ _ _ _ _ (e .pre .0) (search needs) (w .write-slot .ensures) _ (e .pre .1), refl, e .pre .2)
+    (written-in _ _ _ _ _ (e .pre .0) (search needs) (w .write-slot .ensures) _ (search needs), search needs, e .pre .2)
 
 returns : tie.Need-returns
 unfolding zeros part

@@ -1,9 +1,7 @@
 -- `writing::teach_number` meets its contract. Assumes nothing.
-use mathlib.Core.Bool.{not}
 use borrow.Author.Tests.{not-false}
 use Rattle.buffer.specs.Choice.{pick}
 use Rattle.model.specs.Numbers.{firstOf, refusalsIn}
-use mathlib.Core.Path.{sym, _∙_}
 use Rattle.model.specs.StoreLaws.{size-of}
 use borrow.Author.Needs.{needs}
 use Rattle.writing.proofs.teach_number.Statement.{statement}

@@ -1,0 +1,77 @@
+-- `reading::copy_body` meets its contract. Assumes nothing.
+use mathlib.Core.Path.{_≡_, sym, ap, _∙_}
+use Prim.Native.Nat.{_+_}
+use native.Mathlib.Omega.{arith}
+use borrow.Author.Needs.{needs}
+use Rattle.buffer.specs.Bytes.{byte}
+use Rattle.model.specs.Layout.{slotAt}
+use Rattle.lookup.specs.Sized.{slot-fits}
+use Rattle.lookup.specs.States.{state-byte}
+use Rattle.lookup.specs.Slots.{body-own, body-out}
+use Rattle.lookup.proofs.Lent.{part-lent}
+use Rattle.reading.proofs.copy_body.Statement.{statement}
+use Rattle.reading.proofs.copy_body.Tie as tie
+
+weights-requires : tie.Need-weights-requires
+weights-requires c κs =
+    let members = c .before in
+    let test = members .before .before in
+    let start = test .before .before .before .before in
+    let out = state-byte (start .args .s .now) (start .args .u) ∙ sym (test .before .state .ensures) ∙ test .if1 .taken in
+    (start .pre .0, out, members .members .ensures, members .before .table .ensures)
+
+rebuild-body-requires : tie.Need-rebuild-body-requires
+rebuild-body-requires c κs =
+    let weights = c .before .before in
+    let table = weights .before .before .before in
+    let start = table .before .before .before .before .before in
+    let p = start .pre in
+    let recipe = weights .weights .ensures in
+    (p .3, p .0 .sized, omega (arith, p .0 .unit), p .1, recipe .low, recipe .small, table .table .ensures)
+
+part-copy-end : tie.Need-part-copy-end
+part-copy-end c =
+    let start = c .before .before .before .before .before .before .before in
+    omega (arith, slot-fits (start .pre .0 .sized) (start .args .u) (start .args .r) (start .pre .0 .unit) (start .pre .1))
+
+returns : tie.Need-returns
+returns c =
+    let built = c .before .before in
+    let weights = built .before .before .before in
+    let start = weights .before .before .before .before .before .before .before .before in
+    body-out (weights .weights .ensures) (start .args .r) _ (start .pre .1) (start .pre .2) (built .rebuild-body .ensures)
+
+returns-2 : tie.Need-returns-2
+returns-2 c =
+    let copied = c .before .before in
+    let at = copied .before .before .before in
+    let test = at .before .before in
+    let start = test .before .before .before .before in
+    let s = start .args .s .now in
+    let u = start .args .u in
+    let r = start .args .r in
+    copied .copy .ensures
+    ∙ part-lent s (at .slot-at .result + 4) 16 (slotAt (byte s 5) u r + 4) (ap (λ i. i + 4) (at .slot-at .ensures .0))
+    ∙ body-own s u r (λ h. test .if1 .left (test .before .state .ensures ∙ sym (state-byte s u) ∙ h))
+
+pub copy-body-spec : {M : Type 1} → statement M
+copy-body-spec =
+    tie.close
+    (tie.spec
+    (λ c κs. search needs)
+    (λ c κs. search needs)
+    (λ c κs. search needs)
+    weights-requires
+    rebuild-body-requires
+    (λ c. search needs)
+    (λ c κs. search needs)
+    (λ c. search needs)
+    (λ c. search needs)
+    (λ c. search needs)
+    (λ c. search needs)
+    part-copy-end
+    (λ c κs. search needs)
+    (λ c. search needs)
+    returns
+    (λ c. search needs)
+    returns-2)

@@ -1,0 +1,126 @@
+-- `reading::look_up` meets its contract. Assumes nothing.
+use mathlib.Core.Path.{_≡_, refl, sym, _∙_}
+use native.Mathlib.Omega.{arith}
+use borrow.Author.Needs.{needs}
+use borrow.Author.Tests.{not-true, not-false}
+use Rattle.lookup.specs.Keys.{Known}
+use Rattle.lookup.specs.Groups.{recoverable-known}
+use Rattle.reading.proofs.Verdicts.{refusal, home-is, no-key, no-room, unsound, lost, absent, present, safe-unit}
+use Rattle.reading.proofs.look_up.Statement.{statement}
+use Rattle.reading.proofs.look_up.Tie as tie
+
+returns : tie.Need-returns
+returns c = refusal 1 (c .refused .ensures) (no-key _ _ _ _ (c .before .if1 .taken))
+
+returns-2 : tie.Need-returns-2
+returns-2 c =
+    let room = c .before in
+    refusal 1 (c .refused2 .ensures) (no-room _ _ _ _ (room .before .if1 .left) (room .if2 .taken))
+
+returns-3 : tie.Need-returns-3
+returns-3 c =
+    let good = c .before in
+    let room = good .before in
+    refusal 0 (c .refused3 .ensures) (unsound _ _ _ _ (room .before .if1 .left) (room .if2 .left) (not-true _ (good .if3 .taken)))
+
+shared-slice-read-unit-of : tie.Need-shared-slice-read-unit-of
+shared-slice-read-unit-of c =
+    let good = c .before in
+    omega (arith, good .before .before .before .before .pre (not-false _ (good .if3 .left)) .long)
+
+unit-of-requires : tie.Need-unit-of-requires
+unit-of-requires c κs =
+    let good = c .before in
+    good .before .before .before .before .pre (not-false _ (good .if3 .left)) .unit
+
+gone-requires : tie.Need-gone-requires
+gone-requires c κs =
+    let good = c .before .before in
+    let sized = good .before .before .before .before .pre (not-false _ (good .if3 .left)) in
+    (sized, omega (arith, c .unit-of .ensures .1, sized .units))
+
+returns-4 : tie.Need-returns-4
+returns-4 c =
+    let gone = c .before .before in
+    let unit = gone .before in
+    let good = unit .before .before in
+    let room = good .before in
+    let start = room .before .before .before in
+    refusal 7 (c .refused4 .ensures)
+    (lost (start .args .s .now) _ _ _ (room .before .if1 .left) (room .if2 .left) (not-false _ (good .if3 .left)) _ (home-is _ _ _ (unit .unit-of .ensures .0)) (sym (gone .gone .ensures) ∙ c .before .if4 .taken))
+
+listed-fill-requires : tie.Need-listed-fill-requires
+listed-fill-requires c κs =
+    let gone = c .before in
+    let unit = gone .before in
+    let good = unit .before .before in
+    let sized = good .before .before .before .before .pre (not-false _ (good .if3 .left)) in
+    recoverable-known (safe-unit sized (omega (arith, unit .unit-of .ensures .1, sized .units)) (sym (gone .gone .ensures) ∙ c .if4 .left))
+
+listed-rank-requires : tie.Need-listed-rank-requires
+listed-rank-requires c κs =
+    let gone = c .before .before in
+    let unit = gone .before in
+    let good = unit .before .before in
+    let sized = good .before .before .before .before .pre (not-false _ (good .if3 .left)) in
+    let known = recoverable-known (safe-unit sized (omega (arith, unit .unit-of .ensures .1, sized .units)) (sym (gone .gone .ensures) ∙ c .before .if4 .left)) in
+    (known, c .listed-fill .ensures .0, c .listed-fill .ensures .1)
+
+returns-5 : tie.Need-returns-5
+returns-5 c =
+    let found = c .before .before in
+    let fill = found .before in
+    let safe = fill .before in
+    let unit = safe .before .before in
+    let good = unit .before .before in
+    let room = good .before in
+    let start = room .before .before .before in
+    refusal 5 (c .refused5 .ensures)
+    (absent (start .args .s .now) _ _ _ (room .before .if1 .left) (room .if2 .left) (not-false _ (good .if3 .left)) _ (home-is _ _ _ (unit .unit-of .ensures .0)) (sym (safe .before .gone .ensures) ∙ safe .if4 .left)
+    (rw (← fill .listed-fill .ensures .0, ← found .listed-rank .ensures .0) (c .before .if5 .taken)))
+
+returns-6 : tie.Need-returns-6
+returns-6 c =
+    let found = c .before in
+    let fill = found .before in
+    let safe = fill .before in
+    let unit = safe .before .before in
+    let good = unit .before .before in
+    let room = good .before in
+    let start = room .before .before .before in
+    let sized = start .pre (not-false _ (good .if3 .left)) in
+    let safe-one = sym (safe .before .gone .ensures) ∙ safe .if4 .left in
+    let home = home-is (start .args .s .now) (start .args .key) (unit .unit-of .result) (unit .unit-of .ensures .0) in
+    let listed = rw (fill .listed-fill .ensures .0) at (c .if5 .left) in
+    record {
+      given = present (start .args .s .now) _ _ _ (room .before .if1 .left) (room .if2 .left) (not-false _ (good .if3 .left)) _ home safe-one (rw (found .listed-rank .ensures .0) at listed);
+      placed = λ z. record {
+        there = safe-unit sized (omega (arith, unit .unit-of .ensures .1, sized .units)) safe-one;
+        home = home;
+        found = found .listed-rank .ensures .0;
+        listed = listed;
+        small = omega (arith, c .if5 .left, fill .listed-fill .ensures .1);
+      };
+      room = λ z. room .if2 .left;
+    }
+
+pub look-up-spec : {M : Type 1} → statement M
+look-up-spec =
+    tie.close
+    (tie.spec
+    (λ c κs. search needs)
+    returns
+    (λ c κs. search needs)
+    returns-2
+    (λ c κs. search needs)
+    returns-3
+    shared-slice-read-unit-of
+    unit-of-requires
+    gone-requires
+    (λ c κs. search needs)
+    returns-4
+    listed-fill-requires
+    listed-rank-requires
+    (λ c κs. search needs)
+    returns-5
+    returns-6)

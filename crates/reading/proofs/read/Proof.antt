@@ -1,0 +1,52 @@
+-- `reading::read` meets its contract. Assumes nothing.
+use mathlib.Core.Path.{_≡_, refl, sym, ap, _∙_}
+use native.Mathlib.Omega.{arith}
+use lib.ListN.{length}
+use borrow.Author.Needs.{needs}
+use Rattle.lookup.specs.Sized.{sound-sized}
+use Rattle.reading.specs.Rows.{read-rows}
+use Rattle.reading.proofs.Answers.{read-refused, read-granted, body-is}
+use Rattle.reading.proofs.read.Statement.{statement}
+use Rattle.reading.proofs.read.Tie as tie
+
+look-up-requires : tie.Need-look-up-requires
+look-up-requires c κs = λ e. sound-sized (sym (c .is-sound .ensures) ∙ e)
+
+returns : tie.Need-returns
+returns c =
+    let look = c .before .before in
+    let start = look .before .before .before .before in
+    let s = start .args .s .now in
+    let out = start .args .out .now in
+    read-refused s (start .args .key) out (look .look-up .result .number) (look .look-up .ensures .given ∙ read-rows s _ _ _ out (look .before .is-sound .ensures) refl) (c .if1 .taken)
+
+copy-body-requires : tie.Need-copy-body-requires
+copy-body-requires c κs =
+    let test = c .before in
+    let verdict = test .before .before .look-up .ensures in
+    let placed = verdict .placed (test .if1 .left) in
+    (placed .there, placed .small, placed .listed, verdict .room (test .if1 .left))
+
+returns-2 : tie.Need-returns-2
+returns-2 c =
+    let copied = c .before .before in
+    let test = copied .before .before in
+    let look = test .before .before in
+    let start = look .before .before .before .before in
+    let s = start .args .s .now in
+    let out = start .args .out .now in
+    let key = start .args .key in
+    let placed = look .look-up .ensures .placed (test .if1 .left) in
+    let body = body-is s key (look .look-up .result .unit) (look .look-up .result .rank) _ (placed .home) (placed .found) (copied .copy-body .ensures) in
+    read-granted s key out _ (sym (test .if1 .left) ∙ look .look-up .ensures .given ∙ read-rows s _ _ _ out (look .before .is-sound .ensures) refl) body (omega arith)
+
+pub read-spec : {M : Type 1} → statement M
+read-spec =
+    tie.close
+    (tie.spec
+    (λ c κs. search needs)
+    look-up-requires
+    returns
+    copy-body-requires
+    (λ c. search needs)
+    returns-2)
