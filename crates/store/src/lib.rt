@@ -3,7 +3,7 @@ pub mod lay_out;
 
 ghost use mathlib.Core.Path.{_≡_};
 ghost use Rattle.model.specs.Numbers.{Call};
-ghost use Rattle.model.specs.Perform.{outcome, plain, perform, layOut};
+ghost use Rattle.model.specs.Perform.{outcome, plain, copied, perform, layOut};
 
 #[no_mangle]
 pub extern "C" fn lhrs_lay_out(store: &mut [u8], b: u32) -> u8
@@ -45,4 +45,11 @@ pub extern "C" fn lhrs_repair(store: &mut [u8], group: u32) -> u8
     ensures { λ r. ⌜ outcome (plain r) (now (store .exit)) ≡ perform (now (store .entry)) (Call.repair group) ⌝ }
 {
     repairing::repair(store, group)
+}
+
+#[no_mangle]
+pub extern "C" fn lhrs_read(store: &[u8], key: u32, out: &mut [u8]) -> u8
+    ensures { λ r. ⌜ outcome (copied r (now (out .exit))) (now (store .entry)) ≡ perform (now (store .entry)) (Call.read key (now (out .entry))) ⌝ }
+{
+    reading::read(store, key, out)
 }
