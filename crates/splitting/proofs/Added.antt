@@ -1,0 +1,85 @@
+-- The steps that add a unit leave what grow is to leave. Assumes nothing.
+use Prim.Native.Nat.{ℕ, _+_, _*_, _/_, _%_, _≤_, _<_}
+use mathlib.Core.Path.{_≡_, refl, ap, _∙_}
+use mathlib.Core.List.{List}
+use mathlib.Core.Bool.{Bool, not, _&&_}
+use native.Mathlib.Omega.{arith}
+use native.Mathlib.Numerals.{add-one}
+use lib.Dec.{eqb, ltb}
+use lib.ListN.{length, getD, set}
+use Rattle.buffer.specs.Choice.{pick}
+use Rattle.buffer.specs.ChoiceLaws.{by-pick}
+use Rattle.buffer.specs.RangeLaws.{first-le}
+use Rattle.buffer.specs.Bytes.{zeros}
+use Rattle.buffer.specs.ByteLaws.{length-zeros}
+use Rattle.group.specs.Widths.{slotBytes}
+use Rattle.model.specs.Units.{splitPointer, touched, broughtUp, moves}
+use Rattle.model.specs.Layout.{Store, bytes, view, levelIn, keyOf, withSlots, withChecks}
+use Rattle.model.specs.LayoutLaws.{Shaped, Same, bytes-ext, view-shaped}
+use Rattle.model.specs.StoreLaws.{withFront, withDstates, withCstates, slots-shaped}
+use Rattle.model.specs.Reads.{fillIn}
+use Rattle.model.specs.Changes.{keep, rows, recordsIn, dealt, grown, grownState}
+use Rattle.splitting.specs.Steps.{Split, marked, levelled, madeRecord, remade, ofFirst, ofBoth}
+use Rattle.splitting.proofs.Lists.{kept-holds}
+use Rattle.splitting.proofs.Holding.{Holds, holds-step}
+use Rattle.splitting.proofs.StepLaws.{marked-change, levelled-change, remade-change}
+use Rattle.splitting.proofs.Places.{pick-or}
+
+-- a unit has no more records than ranks
+pub fill-most : (v : Store) (u : ℕ) → fillIn v u ≤ v .size
+unfolding fillIn
+fill-most v u = first-le (v .size) (λ r. eqb (keyOf (v .slot u r)) 0)
+
+-- ---- the records dealt out
+dealt-long : (v : Store) (m : ℕ) → Shaped v → splitPointer m < 16 → (u r : ℕ) → u < 16 → r < v .size → length (dealt v m u r) ≡ slotBytes
+unfolding dealt recordsIn
+dealt-long v m h hn u r a b =
+    let n : ℕ = splitPointer m in
+    let each : (p : List ℕ → Bool) → length (getD (keep p (rows (fillIn v n) (v .slot n))) r (zeros slotBytes)) ≡ slotBytes =
+    λ p. kept-holds (λ x. length x ≡ slotBytes) p (fillIn v n) (v .slot n) (λ k l. h .slot n k hn (omega (arith, fill-most v n))) r (zeros slotBytes) (length-zeros slotBytes) in
+    by-pick (λ (x : List ℕ). length x ≡ slotBytes) (eqb u m) _ _ (λ _. each (λ x. moves m (keyOf x))) (λ _.
+    by-pick (λ (x : List ℕ). length x ≡ slotBytes) (eqb u n) _ _ (λ _. each (λ x. not (moves m (keyOf x)))) (λ _. h .slot u r a b))
+
+-- ---- all the steps
+unfoldable pub added : Store → ℕ → ℕ → ℕ → Store
+added v n m k = remade (ofBoth m) (levelled (ofFirst n) k (levelled (ofFirst m) k (marked (withSlots v (dealt v m)) (m + 1) m 1)))
+
+states-added : (v : Store) (n m k c : ℕ) → n ≡ splitPointer m → k ≡ levelIn v
+    → pick (ofFirst n c) (pick (ltb (c % 3) k) 1 0) (pick (ofFirst m c) (pick (ltb (c % 3) k) 1 0) (v .cstate c)) ≡ grownState v m c
+unfolding grownState broughtUp
+states-added v n m k c en ek = pick-or (ofFirst m c) (ofFirst n c) (pick (ltb (c % 3) k) 1 0) (v .cstate c) ∙ rw (en, ek)
+
+pub added-grown : (v : Store) (n m k : ℕ) → n ≡ splitPointer m → k ≡ levelIn v → Same (added v n m k) (grown v m)
+unfolding added remade levelled marked withSlots withFront withDstates withCstates withChecks madeRecord grown
+added-grown v n m k en ek = record {
+  front = ap (set (v .front) 6) (add-one m);
+  size = refl;
+  dstate = λ u l. refl;
+  cstate = λ c l. states-added v n m k c en ek;
+  slot = λ u r a b. refl;
+  check = λ c r a b. ap (λ x. pick (touched m (c / 3) && eqb x 1) (madeRecord (withSlots v (dealt v m)) c r) (v .check c r)) (states-added v n m k c en ek);
+  rest = refl;
+}
+
+-- the bytes after each step
+module _ {s s₁ : List ℕ} {n m : ℕ} (sp : Split s n m) (e₁ : s₁ ≡ bytes (withSlots (view s) (dealt (view s) m))) where
+  pub dealt-holds : Holds s s₁ (withSlots (view s) (dealt (view s) m))
+  dealt-holds =
+      let h : Shaped (view s) = view-shaped s (sp .sized .long) in
+      let shaped : Shaped (withSlots (view s) (dealt (view s) m)) = slots-shaped (view s) _ h (dealt-long (view s) m h (omega (arith, sp .from, sp .apart, sp .unit))) in
+      unfold withSlots in record { shaped = shaped; size = refl; rest = refl; state = e₁ }
+
+  module _ {s₂ : List ℕ} (e₂ : s₂ ≡ bytes (marked (view s₁) (m + 1) m 1)) where
+    pub marked-holds : Holds s s₂ (marked (withSlots (view s) (dealt (view s) m)) (m + 1) m 1)
+    marked-holds = holds-step (marked-change (m + 1) m 1) dealt-holds e₂
+
+    module _ (k : ℕ) {s₃ : List ℕ} (e₃ : s₃ ≡ bytes (levelled (ofFirst m) k (view s₂))) where
+      pub new-holds : Holds s s₃ (levelled (ofFirst m) k (marked (withSlots (view s) (dealt (view s) m)) (m + 1) m 1))
+      new-holds = holds-step (levelled-change (ofFirst m) k) marked-holds e₃
+
+      module _ {s₄ : List ℕ} (e₄ : s₄ ≡ bytes (levelled (ofFirst n) k (view s₃))) where
+        pub old-holds : Holds s s₄ (levelled (ofFirst n) k (levelled (ofFirst m) k (marked (withSlots (view s) (dealt (view s) m)) (m + 1) m 1)))
+        old-holds = holds-step (levelled-change (ofFirst n) k) new-holds e₄
+
+        pub all-added : {s₅ : List ℕ} → k ≡ levelIn (view s) → s₅ ≡ bytes (remade (ofBoth m) (view s₄)) → s₅ ≡ bytes (grown (view s) m)
+        all-added {s₅} ek e₅ = holds-step (remade-change (ofBoth m)) old-holds e₅ .state ∙ (unfold added in bytes-ext _ _ (added-grown (view s) n m k (sp .from) ek))

@@ -1,0 +1,10 @@
+pub mod Lists
+pub mod Holding
+pub mod StepLaws
+pub mod Places
+pub mod DealLoop
+pub mod MergeLoop
+pub mod CheckLoops
+pub mod Added
+pub mod Removed
+pub mod Rows

@@ -1,0 +1,102 @@
+-- What grow, shrink and raise may rely on where their rows give 0, and what a sound store gives them. Assumes nothing.
+use Prim.Native.Nat.{ℕ, suc, pred, _+_, _-_, _/_, _≤_, _<_}
+use mathlib.Core.Path.{_≡_, refl, sym, ap, _∙_}
+use mathlib.Core.Bool.{Bool, true, false, not, _||_}
+use mathlib.Core.List.{List}
+use native.Mathlib.Omega.{arith}
+use lib.Dec.{eqb, ltb, leb}
+use lib.ListN.{set}
+use lib.Seq.{getD-take}
+use borrow.Author.Tests.{not-false, leb-false, ltb-false, ne-eqb}
+use Rattle.buffer.specs.TestLaws.{not-both}
+use Rattle.buffer.specs.Bytes.{byte, zeros}
+use Rattle.group.specs.Widths.{checkBytes}
+use Rattle.model.specs.Units.{splitPointer}
+use Rattle.model.specs.Layout.{view, bytes, unitsIn, levelIn}
+use Rattle.model.specs.LayoutLaws.{Long, bytes-view, view-shaped}
+use Rattle.model.specs.StoreLaws.{withFront, size-of, front-set}
+use Rattle.model.specs.Reads.{fillIn}
+use Rattle.model.specs.Sound.{sound}
+use Rattle.model.specs.Numbers.{Call, grow, shrink, raise, firstOf, refusalsIn}
+use Rattle.model.specs.Changes.{raised}
+use Rattle.model.specs.PerformLaws.{row-failed}
+use Rattle.model.proofs.history.SoundSays.{same-true, zeroed-says, clauses}
+use Rattle.lookup.specs.Sized.{Sized, sound-sized}
+use Rattle.splitting.specs.Steps.{Blank}
+
+-- ---- M and K, as the code reads them
+pub units-of : (s : List ℕ) → byte s 6 ≡ unitsIn (view s)
+unfolding unitsIn view
+units-of s = sym (getD-take 8 s 6 0 (omega arith))
+
+pub level-of : (s : List ℕ) → byte s 7 ≡ levelIn (view s)
+unfolding levelIn view
+level-of s = sym (getD-take 8 s 7 0 (omega arith))
+
+pub pred-of : (n : ℕ) → n - 1 ≡ pred n
+pred-of ℕ.zero = refl
+pred-of (suc n) = omega arith
+
+-- ---- a store that was tested
+pub sized : (s : List ℕ) {ok : Bool} → ok ≡ sound s → ok ≡ true → Sized s
+sized s e h = sound-sized (sym e ∙ h)
+
+pub blank : (s : List ℕ) {ok : Bool} → ok ≡ sound s → ok ≡ true → Blank s
+blank s e h c r a b out =
+    let zero : (eqb (view s .cstate c) 1 || _) ≡ true = zeroed-says (view s) (clauses s (sym e ∙ h) .zeros) .checks c r a (rw (← size-of s) b) in
+    same-true (view s .check c r) (zeros checkBytes) (or-else (ne-eqb (view s .cstate c) 1 (unfold view in out)) zero)
+  where
+    or-else : {s t : Bool} → s ≡ false → (s || t) ≡ true → t ≡ true
+    or-else e f = rw e at f
+
+-- ---- what the tests leave
+pub record Grows (s : List ℕ) (ok : Bool) : Type 0 where
+  pub sound : ok ≡ true
+  pub few : byte s 6 < 16
+
+pub record Shrinks (s : List ℕ) (ok : Bool) : Type 0 where
+  pub sound : ok ≡ true
+  pub some : 1 < byte s 6
+  pub room : fillIn (view s) (splitPointer (byte s 6 - 1)) + fillIn (view s) (byte s 6 - 1) ≤ byte s 5
+
+pub record Raises (s : List ℕ) (ok : Bool) : Type 0 where
+  pub sound : ok ≡ true
+  pub low : byte s 7 < 3
+
+module _ (s : List ℕ) {ok : Bool} {r : ℕ} (z : r ≡ 0) where
+  pub grows : r ≡ firstOf (refusalsIn ok (view s) Call.grow) → Grows s ok
+  unfolding refusalsIn
+  grows e =
+      let a = row-failed _ _ _ (sym e ∙ z) in
+      let b = row-failed _ _ _ (a .1) in
+      record { sound = not-false ok (a .0); few = rw (units-of s) (leb-false _ _ (b .0)) }
+
+  pub shrinks : r ≡ firstOf (refusalsIn ok (view s) Call.shrink) → Shrinks s ok
+  unfolding refusalsIn
+  shrinks e =
+      let a = row-failed _ _ _ (sym e ∙ z) in
+      let b = row-failed _ _ _ (a .1) in
+      let c = row-failed _ _ _ (b .1) in
+      let d = row-failed _ _ _ (c .1) in
+      let f = row-failed _ _ _ (d .1) in
+      record {
+        sound = not-false ok (a .0);
+        some = rw (units-of s) (leb-false _ _ (b .0));
+        room = rw (pred-of (byte s 6), units-of s, size-of s) (ltb-false _ _ (f .0));
+      }
+
+  pub raises : r ≡ firstOf (refusalsIn ok (view s) Call.raise) → Raises s ok
+  unfolding refusalsIn
+  raises e =
+      let a = row-failed _ _ _ (sym e ∙ z) in
+      let b = row-failed _ _ _ (a .1) in
+      let c = row-failed _ _ _ (b .1) in
+      let d = row-failed _ _ _ (c .1) in
+      record { sound = not-false ok (a .0); low = rw (level-of s) (leb-false _ _ (d .0)) }
+
+-- ---- the level raised
+pub raised-bytes : (s : List ℕ) (k : ℕ) → Long s → k ≡ byte s 7 + 1 → set s 7 k ≡ bytes (raised (view s))
+unfolding raised withFront
+raised-bytes s k l e =
+    let more : k ≡ suc (levelIn (view s)) = e ∙ rw (level-of s) (omega arith) in
+    front-set (view s) (view-shaped s l) s (sym (bytes-view s l)) (set s 7 k) 7 k (omega arith) refl ∙ rw more

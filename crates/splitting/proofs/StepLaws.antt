@@ -1,0 +1,118 @@
+-- The steps of grow and shrink are changes of a store's parts. Assumes nothing.
+use Prim.Native.Nat.{ℕ, _+_, _*_, _/_, _%_, _<_}
+use mathlib.Core.Path.{_≡_, refl, sym, ap, _∙_}
+use mathlib.Core.List.{List}
+use mathlib.Core.Bool.{Bool, _&&_, _||_}
+use native.Mathlib.Omega.{arith}
+use lib.Dec.{eqb, leb, ltb}
+use lib.ListN.{length, set, length-set}
+use lib.Seq.{getD-set-other}
+use Rattle.buffer.specs.Choice.{pick}
+use Rattle.buffer.specs.ChoiceLaws.{by-pick}
+use Rattle.buffer.specs.Bytes.{byte, zeros}
+use Rattle.buffer.specs.ByteLaws.{length-zeros}
+use Rattle.buffer.specs.Table.{upd}
+use Rattle.group.specs.Widths.{bodyBytes, slotBytes, checkBytes}
+use Rattle.group.specs.CheckRecordLaws.{checkRecord-ext, length-checkRecord}
+use Rattle.model.specs.Layout.{Store, withSlots, withChecks}
+use Rattle.model.specs.LayoutLaws.{Shaped, Same}
+use Rattle.model.specs.StoreLaws.{withFront, withDstates, withCstates}
+use Rattle.splitting.specs.Steps.{cleared, marked, levelled, wiped, madeRecord, unitMade, remade}
+use Rattle.splitting.proofs.Holding.{Change}
+
+-- ---- changes of one part
+slots-change : (f : Store → ℕ → ℕ → List ℕ) → ((t : Store) → Shaped t → (u r : ℕ) → u < 16 → r < t .size → length (f t u r) ≡ slotBytes)
+    → ((s t : Store) → Same s t → (u r : ℕ) → u < 16 → r < t .size → f s u r ≡ f t u r) → Change (λ t. withSlots t (f t))
+unfolding withSlots
+slots-change f long same = record {
+  shaped = λ t h. record { front = h .front; size = h .size; slot = long t h; check = h .check };
+  same = λ s t h. record { front = h .front; size = h .size; dstate = h .dstate; cstate = h .cstate; slot = same s t h; check = h .check; rest = h .rest };
+  size = λ t. refl;
+  rest = λ t. refl;
+}
+
+checks-change : (f : Store → ℕ → ℕ → List ℕ) → ((t : Store) → Shaped t → (c r : ℕ) → c < 12 → r < t .size → length (f t c r) ≡ checkBytes)
+    → ((s t : Store) → Same s t → (c r : ℕ) → c < 12 → r < t .size → f s c r ≡ f t c r) → Change (λ t. withChecks t (f t))
+unfolding withChecks
+checks-change f long same = record {
+  shaped = λ t h. record { front = h .front; size = h .size; slot = h .slot; check = long t h };
+  same = λ s t h. record { front = h .front; size = h .size; dstate = h .dstate; cstate = h .cstate; slot = h .slot; check = same s t h; rest = h .rest };
+  size = λ t. refl;
+  rest = λ t. refl;
+}
+
+-- ---- the slots of a unit from a rank on
+pub cleared-change : (u q : ℕ) → Change (λ t. cleared t u q)
+unfolding cleared
+cleared-change u q =
+    slots-change
+    (λ t w r. pick (eqb w u && leb q r) (zeros slotBytes) (t .slot w r))
+    (λ t h w r a b. by-pick (λ (x : List ℕ). length x ≡ slotBytes) (eqb w u && leb q r) (zeros slotBytes) (t .slot w r) (λ _. length-zeros slotBytes) (λ _. h .slot w r a b))
+    (λ s t h w r a b. rw (h .slot w r a b))
+
+-- ---- how many units there are, and the state of one
+pub marked-change : (m u state : ℕ) → Change (λ t. marked t m u state)
+unfolding marked withFront withDstates upd
+marked-change m u state = record {
+  shaped = λ t h. record {
+    front = length-set (t .front) 6 m ∙ h .front;
+    size = getD-set-other (t .front) 6 5 m 0 (λ e. omega arith) ∙ h .size;
+    slot = h .slot;
+    check = h .check;
+  };
+  same = λ s t h. record {
+    front = ap (λ x. set x 6 m) (h .front);
+    size = h .size;
+    dstate = λ w l. rw (h .dstate w l);
+    cstate = h .cstate;
+    slot = h .slot;
+    check = h .check;
+    rest = h .rest;
+  };
+  size = λ t. refl;
+  rest = λ t. refl;
+}
+
+-- ---- the check units that a test picks
+module _ (p : ℕ → Bool) where
+  pub levelled-change : (k : ℕ) → Change (levelled p k)
+  unfolding levelled withCstates
+  levelled-change k = record {
+    shaped = λ t h. record { front = h .front; size = h .size; slot = h .slot; check = h .check };
+    same = λ s t h. record {
+      front = h .front;
+      size = h .size;
+      dstate = h .dstate;
+      cstate = λ c l. rw (h .cstate c l);
+      slot = h .slot;
+      check = h .check;
+      rest = h .rest;
+    };
+    size = λ t. refl;
+    rest = λ t. refl;
+  }
+
+  pub wiped-change : Change (wiped p)
+  unfolding wiped
+  wiped-change =
+      checks-change
+      (λ t c r. pick (p c) (zeros checkBytes) (t .check c r))
+      (λ t h c r a b. by-pick (λ (x : List ℕ). length x ≡ checkBytes) (p c) (zeros checkBytes) (t .check c r) (λ _. length-zeros checkBytes) (λ _. h .check c r a b))
+      (λ s t h c r a b. rw (h .check c r a b))
+
+-- a record made from the data
+pub made-long : (t : Store) → Shaped t → (c r : ℕ) → c < 12 → r < t .size → length (madeRecord t c r) ≡ checkBytes
+unfolding madeRecord
+made-long t h c r a b = length-checkRecord bodyBytes (c % 3) (λ p. t .slot (4 * (c / 3) + p) r) (λ p l. h .slot (4 * (c / 3) + p) r (omega arith) b)
+
+pub made-same : (s t : Store) → Same s t → (c r : ℕ) → c < 12 → r < t .size → madeRecord s c r ≡ madeRecord t c r
+unfolding madeRecord
+made-same s t h c r a b = checkRecord-ext (c % 3) _ _ (λ p l. h .slot (4 * (c / 3) + p) r (omega arith) b)
+
+pub remade-change : (p : ℕ → Bool) → Change (remade p)
+unfolding remade
+remade-change p =
+    checks-change
+    (λ t c r. pick (p c && eqb (t .cstate c) 1) (madeRecord t c r) (t .check c r))
+    (λ t h c r a b. by-pick (λ (x : List ℕ). length x ≡ checkBytes) (p c && eqb (t .cstate c) 1) _ _ (λ _. made-long t h c r a b) (λ _. h .check c r a b))
+    (λ s t h c r a b. rw (h .check c r a b, h .cstate c a, made-same s t h c r a b))

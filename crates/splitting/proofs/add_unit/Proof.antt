@@ -1,0 +1,87 @@
+-- `splitting::add_unit` meets its contract. Assumes nothing.
+use borrow.Author.Needs.{needs}
+use mathlib.Core.Path.{_≡_, _∙_}
+use native.Mathlib.Omega.{arith}
+use Rattle.model.specs.Layout.{view, levelIn}
+use Rattle.splitting.specs.Steps.{Split}
+use Rattle.splitting.proofs.Holding.{holds-long}
+use Rattle.splitting.proofs.Rows.{level-of}
+use Rattle.splitting.proofs.Added.{dealt-holds, marked-holds, new-holds, old-holds, all-added}
+use Rattle.splitting.proofs.add_unit.Statement.{statement}
+use Rattle.splitting.proofs.add_unit.Tie as tie
+
+slice-read-level : tie.Need-slice-read-level
+slice-read-level c = omega (arith, c .before .before .before .pre .0 .long)
+
+deal-out-requires : tie.Need-deal-out-requires
+deal-out-requires c κs =
+    let p = c .before .before .before in
+    let e = p .before .before in
+    record { sized = e .pre .0; from = p .split-pointer .ensures .0; apart = p .split-pointer .ensures .1; unit = e .pre .2 }
+
+mark-requires : tie.Need-mark-requires
+mark-requires c κs =
+    let d = c .before .before .before in
+    let p = d .before .before .before .before in
+    let e = p .before .before in
+    let sp : Split (e .args .s .now) (p .split-pointer .result) (e .args .m) = record { sized = e .pre .0; from = p .split-pointer .ensures .0; apart = p .split-pointer .ensures .1; unit = e .pre .2 } in
+    (holds-long (dealt-holds sp (d .deal-out .ensures)), e .pre .2)
+
+set-first-requires : tie.Need-set-first-requires
+set-first-requires c κs =
+    let k = c .before .before .before in
+    let d = k .before .before .before .before in
+    let p = d .before .before .before .before in
+    let e = p .before .before in
+    let sp : Split (e .args .s .now) (p .split-pointer .result) (e .args .m) = record { sized = e .pre .0; from = p .split-pointer .ensures .0; apart = p .split-pointer .ensures .1; unit = e .pre .2 } in
+    (holds-long (marked-holds sp (d .deal-out .ensures) (k .mark .ensures)), e .pre .2)
+
+set-first-requires-2 : tie.Need-set-first-requires-2
+set-first-requires-2 c κs =
+    let f = c .before .before .before in
+    let k = f .before .before .before .before in
+    let d = k .before .before .before .before in
+    let p = d .before .before .before .before in
+    let e = p .before .before in
+    let sp : Split (e .args .s .now) (p .split-pointer .result) (e .args .m) = record { sized = e .pre .0; from = p .split-pointer .ensures .0; apart = p .split-pointer .ensures .1; unit = e .pre .2 } in
+    (holds-long (new-holds sp (d .deal-out .ensures) (k .mark .ensures) _ (f .set-first .ensures)), omega (arith, sp .apart, sp .unit))
+
+make-groups-requires : tie.Need-make-groups-requires
+make-groups-requires c κs =
+    let f2 = c .before .before .before .before in
+    let f = f2 .before .before .before .before in
+    let k = f .before .before .before .before in
+    let d = k .before .before .before .before in
+    let t = d .before .before in
+    let p = t .before .before in
+    let e = p .before .before in
+    let sp : Split (e .args .s .now) (p .split-pointer .result) (e .args .m) = record { sized = e .pre .0; from = p .split-pointer .ensures .0; apart = p .split-pointer .ensures .1; unit = e .pre .2 } in
+    (holds-long (old-holds sp (d .deal-out .ensures) (k .mark .ensures) _ (f .set-first .ensures) (f2 .set-first2 .ensures)), sp .from, sp .apart, sp .unit, t .table .ensures)
+
+returns : tie.Need-returns
+returns c =
+    let g = c .before .before in
+    let f2 = g .before .before .before .before .before in
+    let f = f2 .before .before .before .before in
+    let k = f .before .before .before .before in
+    let d = k .before .before .before .before in
+    let p = d .before .before .before .before in
+    let e = p .before .before in
+    let sp : Split (e .args .s .now) (p .split-pointer .result) (e .args .m) = record { sized = e .pre .0; from = p .split-pointer .ensures .0; apart = p .split-pointer .ensures .1; unit = e .pre .2 } in
+    all-added sp (d .deal-out .ensures) (k .mark .ensures) _ (f .set-first .ensures) (f2 .set-first2 .ensures) (level-of (e .args .s .now)) (g .make-groups .ensures)
+
+pub add-unit-spec : {M : Type 1} → statement M
+add-unit-spec =
+    tie.close
+    (tie.spec
+    (λ c κs. search needs)
+    slice-read-level
+    (λ c κs. search needs)
+    deal-out-requires
+    (λ c. search needs)
+    mark-requires
+    set-first-requires
+    set-first-requires-2
+    make-groups-requires
+    (λ c. search needs)
+    returns)

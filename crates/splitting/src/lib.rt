@@ -1,0 +1,165 @@
+// Growing and shrinking a store by a unit, and raising its level.
+pub mod dealing;
+pub mod making;
+pub mod states;
+
+ghost use mathlib.Core.Path.{_≡_};
+ghost use mathlib.Core.Bool.{true};
+ghost use Prim.Native.Nat.{_+_, _≤_, _<_};
+ghost use Rattle.buffer.specs.Bytes.{byte};
+ghost use Rattle.model.specs.Units.{splitPointer};
+ghost use Rattle.model.specs.Layout.{bytes, view};
+ghost use Rattle.model.specs.Reads.{fillIn};
+ghost use Rattle.model.specs.Numbers.{Call, grow, shrink, raise, firstOf, refusalsIn};
+ghost use Rattle.model.specs.Changes.{grown, shrunk};
+ghost use Rattle.model.specs.Perform.{outcome, plain, perform};
+ghost use Rattle.lookup.specs.Sized.{Sized};
+ghost use Rattle.splitting.specs.Steps.{Blank};
+
+// Adds unit m: the records of the unit that is split are dealt out, and the check units of both groups are made anew.
+fn add_unit(s: &mut [u8], m: u8)
+    requires { ⌜ Sized (now s) × (1 ≤ m) × (m < 16) ⌝ }
+    ensures { λ _. ⌜ now (s .exit) ≡ bytes (grown (view (now (s .entry))) m) ⌝ }
+{
+    let n = lookup::split_pointer(m);
+    let level = s[7];
+    let table = field::table();
+    dealing::deal_out(s, n, m);
+    states::mark(s, m + 1, m, 1);
+    states::set_first(s, m, level);
+    states::set_first(s, n, level);
+    making::make_groups(s, n, m, &table);
+}
+
+// Removes unit m, the last: its records go behind those of the unit that it was split from.
+fn remove_unit(s: &mut [u8], m: u8)
+    requires { ⌜ Sized (now s) × Blank (now s) × (1 ≤ m) × (m < 16) × (fillIn (view (now s)) (splitPointer m) + fillIn (view (now s)) m ≤ byte (now s) 5) ⌝ }
+    ensures { λ _. ⌜ now (s .exit) ≡ bytes (shrunk (view (now (s .entry))) m) ⌝ }
+{
+    let n = lookup::split_pointer(m);
+    let table = field::table();
+    dealing::merge_into(s, n, m);
+    states::mark(s, m, m, 0);
+    states::set_first(s, m, 0);
+    making::clear_first(s, m);
+    making::make_groups(s, n, m, &table);
+}
+
+// The number of a grow, for a store that is sound or not.
+fn grow_number(s: &[u8], ok: bool) -> u8
+    requires { ⌜ (ok ≡ true → Sized (now s)) ⌝ }
+    ensures { λ r. ⌜ r ≡ firstOf (refusalsIn ok (view (now (s .entry))) Call.grow) ⌝ }
+{
+    if !ok {
+        return 1;
+    }
+    let m = buffer::byte_at(s, 6);
+    let full = 16 <= m;
+    if full {
+        return 9;
+    }
+    let out = 0 < lookup::outs(s, m / 4);
+    if out {
+        return 4;
+    }
+    let other = 0 < lookup::outs(s, lookup::split_pointer(m) / 4);
+    if other {
+        return 4;
+    }
+    0
+}
+
+// The number of a shrink.
+fn shrink_number(s: &[u8], ok: bool) -> u8
+    requires { ⌜ (ok ≡ true → Sized (now s)) ⌝ }
+    ensures { λ r. ⌜ r ≡ firstOf (refusalsIn ok (view (now (s .entry))) Call.shrink) ⌝ }
+{
+    if !ok {
+        return 1;
+    }
+    let units = buffer::byte_at(s, 6);
+    let alone = units <= 1;
+    if alone {
+        return 9;
+    }
+    let m = units - 1;
+    let out = 0 < lookup::outs(s, m / 4);
+    if out {
+        return 4;
+    }
+    let n = lookup::split_pointer(m);
+    let other = 0 < lookup::outs(s, n / 4);
+    if other {
+        return 4;
+    }
+    let narrow = buffer::byte_at(s, 5) < lookup::fill(s, n) + lookup::fill(s, m);
+    if narrow {
+        return 7;
+    }
+    0
+}
+
+// The number of a raise.
+fn raise_number(s: &[u8], ok: bool) -> u8
+    requires { ⌜ (ok ≡ true → Sized (now s)) ⌝ }
+    ensures { λ r. ⌜ r ≡ firstOf (refusalsIn ok (view (now (s .entry))) Call.raise) ⌝ }
+{
+    if !ok {
+        return 1;
+    }
+    let m = buffer::byte_at(s, 6);
+    let between = 0 < lookup::split_pointer(m);
+    if between {
+        return 9;
+    }
+    let full = 16 <= m;
+    if full {
+        return 9;
+    }
+    let top = 3 <= buffer::byte_at(s, 7);
+    if top {
+        return 9;
+    }
+    0
+}
+
+// Grows the store by a unit.
+pub fn grow(s: &mut [u8]) -> u8
+    ensures { λ r. ⌜ outcome (plain r) (now (s .exit)) ≡ perform (now (s .entry)) Call.grow ⌝ }
+{
+    let ok = soundness::is_sound(s);
+    let number = grow_number(s, ok);
+    if number != 0 {
+        return number;
+    }
+    let m = buffer::byte_at(s, 6);
+    add_unit(s, m);
+    0
+}
+
+// Shrinks the store by its last unit.
+pub fn shrink(s: &mut [u8]) -> u8
+    ensures { λ r. ⌜ outcome (plain r) (now (s .exit)) ≡ perform (now (s .entry)) Call.shrink ⌝ }
+{
+    let ok = soundness::is_sound(s);
+    let number = shrink_number(s, ok);
+    if number != 0 {
+        return number;
+    }
+    let units = buffer::byte_at(s, 6);
+    remove_unit(s, units - 1);
+    0
+}
+
+// Raises the store's level by one.
+pub fn raise(s: &mut [u8]) -> u8
+    ensures { λ r. ⌜ outcome (plain r) (now (s .exit)) ≡ perform (now (s .entry)) Call.raise ⌝ }
+{
+    let ok = soundness::is_sound(s);
+    let number = raise_number(s, ok);
+    if number != 0 {
+        return number;
+    }
+    s[7] = s[7] + 1;
+    0
+}
