@@ -6,7 +6,6 @@ use mathlib.Core.List.{List}
 use native.Mathlib.Omega.{arith}
 use lib.Dec.{eqb, ltb, leb}
 use lib.ListN.{set}
-use lib.Seq.{getD-take}
 use borrow.Author.Tests.{not-false, leb-false, ltb-false, ne-eqb}
 use Rattle.buffer.specs.TestLaws.{not-both}
 use Rattle.buffer.specs.Bytes.{byte, zeros}
@@ -14,25 +13,17 @@ use Rattle.group.specs.Widths.{checkBytes}
 use Rattle.model.specs.Units.{splitPointer}
 use Rattle.model.specs.Layout.{view, bytes, unitsIn, levelIn}
 use Rattle.model.specs.LayoutLaws.{Long, bytes-view, view-shaped}
-use Rattle.model.specs.StoreLaws.{withFront, size-of, front-set}
+use Rattle.model.specs.StoreLaws.{withFront, size-of, units-of, level-of, front-set}
 use Rattle.model.specs.Reads.{fillIn}
 use Rattle.model.specs.Sound.{sound}
 use Rattle.model.specs.Numbers.{Call, grow, shrink, raise, firstOf, refusalsIn}
 use Rattle.model.specs.Changes.{raised}
-use Rattle.model.specs.PerformLaws.{row-failed}
+use Rattle.model.specs.PerformLaws.{none-holds}
 use Rattle.model.proofs.history.SoundSays.{same-true, zeroed-says, clauses}
 use Rattle.lookup.specs.Sized.{Sized, sound-sized}
 use Rattle.splitting.specs.Steps.{Blank}
 
--- ---- M and K, as the code reads them
-pub units-of : (s : List ℕ) → byte s 6 ≡ unitsIn (view s)
-unfolding unitsIn view
-units-of s = sym (getD-take 8 s 6 0 (omega arith))
-
-pub level-of : (s : List ℕ) → byte s 7 ≡ levelIn (view s)
-unfolding levelIn view
-level-of s = sym (getD-take 8 s 7 0 (omega arith))
-
+-- ---- the last unit's number, as the code computes it
 pub pred-of : (n : ℕ) → n - 1 ≡ pred n
 pred-of ℕ.zero = refl
 pred-of (suc n) = omega arith
@@ -67,32 +58,24 @@ module _ (s : List ℕ) {ok : Bool} {r : ℕ} (z : r ≡ 0) where
   pub grows : r ≡ firstOf (refusalsIn ok (view s) Call.grow) → Grows s ok
   unfolding refusalsIn
   grows e =
-      let a = row-failed _ _ _ (sym e ∙ z) in
-      let b = row-failed _ _ _ (a .1) in
-      record { sound = not-false ok (a .0); few = rw (units-of s) (leb-false _ _ (b .0)) }
+      let free = none-holds ok (view s) Call.grow r e z in
+      record { sound = not-false ok (free .0); few = rw (units-of s) (leb-false _ _ (free .1 .0)) }
 
   pub shrinks : r ≡ firstOf (refusalsIn ok (view s) Call.shrink) → Shrinks s ok
   unfolding refusalsIn
   shrinks e =
-      let a = row-failed _ _ _ (sym e ∙ z) in
-      let b = row-failed _ _ _ (a .1) in
-      let c = row-failed _ _ _ (b .1) in
-      let d = row-failed _ _ _ (c .1) in
-      let f = row-failed _ _ _ (d .1) in
+      let free = none-holds ok (view s) Call.shrink r e z in
       record {
-        sound = not-false ok (a .0);
-        some = rw (units-of s) (leb-false _ _ (b .0));
-        room = rw (pred-of (byte s 6), units-of s, size-of s) (ltb-false _ _ (f .0));
+        sound = not-false ok (free .0);
+        some = rw (units-of s) (leb-false _ _ (free .1 .0));
+        room = rw (pred-of (byte s 6), units-of s, size-of s) (ltb-false _ _ (free .1 .1 .1 .1 .0));
       }
 
   pub raises : r ≡ firstOf (refusalsIn ok (view s) Call.raise) → Raises s ok
   unfolding refusalsIn
   raises e =
-      let a = row-failed _ _ _ (sym e ∙ z) in
-      let b = row-failed _ _ _ (a .1) in
-      let c = row-failed _ _ _ (b .1) in
-      let d = row-failed _ _ _ (c .1) in
-      record { sound = not-false ok (a .0); low = rw (level-of s) (leb-false _ _ (d .0)) }
+      let free = none-holds ok (view s) Call.raise r e z in
+      record { sound = not-false ok (free .0); low = rw (level-of s) (leb-false _ _ (free .1 .1 .1 .0)) }
 
 -- ---- the level raised
 pub raised-bytes : (s : List ℕ) (k : ℕ) → Long s → k ≡ byte s 7 + 1 → set s 7 k ≡ bytes (raised (view s))

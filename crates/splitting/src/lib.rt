@@ -87,12 +87,12 @@ fn shrink_number(s: &[u8], ok: bool) -> u8
     if out {
         return 4;
     }
-    let n = lookup::split_pointer(m);
-    let other = 0 < lookup::outs(s, n / 4);
+    let into = lookup::split_pointer(m);
+    let other = 0 < lookup::outs(s, into / 4);
     if other {
         return 4;
     }
-    let narrow = buffer::byte_at(s, 5) < lookup::fill(s, n) + lookup::fill(s, m);
+    let narrow = buffer::byte_at(s, 5) < lookup::fill(s, into) + lookup::fill(s, m);
     if narrow {
         return 7;
     }
@@ -112,8 +112,8 @@ fn raise_number(s: &[u8], ok: bool) -> u8
     if between {
         return 9;
     }
-    let full = 16 <= m;
-    if full {
+    let whole = 16 <= m;
+    if whole {
         return 9;
     }
     let top = 3 <= buffer::byte_at(s, 7);

@@ -5,7 +5,7 @@ use native.Mathlib.Omega.{arith}
 use Rattle.model.specs.Layout.{view, levelIn}
 use Rattle.splitting.specs.Steps.{Split}
 use Rattle.splitting.proofs.Holding.{holds-long}
-use Rattle.splitting.proofs.Rows.{level-of}
+use Rattle.model.specs.StoreLaws.{level-of}
 use Rattle.splitting.proofs.Added.{dealt-holds, marked-holds, new-holds, old-holds, all-added}
 use Rattle.splitting.proofs.add_unit.Statement.{statement}
 use Rattle.splitting.proofs.add_unit.Tie as tie

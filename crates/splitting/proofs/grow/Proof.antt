@@ -6,7 +6,8 @@ use Rattle.model.specs.Layout.{bytes, view}
 use Rattle.model.specs.Changes.{grown}
 use Rattle.model.specs.Perform.{grantedIn}
 use Rattle.model.specs.PerformLaws.{of-grow, refused, granted}
-use Rattle.splitting.proofs.Rows.{units-of, sized, grows}
+use Rattle.model.specs.StoreLaws.{units-of}
+use Rattle.splitting.proofs.Rows.{sized, grows}
 use Rattle.splitting.proofs.grow.Statement.{statement}
 use Rattle.splitting.proofs.grow.Tie as tie
 

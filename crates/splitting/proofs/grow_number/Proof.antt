@@ -6,7 +6,7 @@ use borrow.Author.Tests.{not-false, leb-false}
 use Rattle.buffer.specs.Choice.{pick}
 use Rattle.model.specs.Layout.{view, unitsIn}
 use Rattle.model.specs.Numbers.{firstOf, refusalsIn}
-use Rattle.splitting.proofs.Rows.{units-of}
+use Rattle.model.specs.StoreLaws.{units-of}
 use Rattle.splitting.proofs.grow_number.Statement.{statement}
 use Rattle.splitting.proofs.grow_number.Tie as tie
 

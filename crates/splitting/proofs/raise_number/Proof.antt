@@ -6,7 +6,7 @@ use borrow.Author.Tests.{not-false}
 use Rattle.buffer.specs.Choice.{pick}
 use Rattle.model.specs.Layout.{view, unitsIn, levelIn}
 use Rattle.model.specs.Numbers.{firstOf, refusalsIn}
-use Rattle.splitting.proofs.Rows.{units-of, level-of}
+use Rattle.model.specs.StoreLaws.{units-of, level-of}
 use Rattle.splitting.proofs.raise_number.Statement.{statement}
 use Rattle.splitting.proofs.raise_number.Tie as tie
 

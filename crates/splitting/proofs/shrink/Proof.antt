@@ -10,7 +10,8 @@ use Rattle.model.specs.Reads.{fillIn}
 use Rattle.model.specs.Changes.{shrunk}
 use Rattle.model.specs.Perform.{grantedIn}
 use Rattle.model.specs.PerformLaws.{of-shrink, refused, granted}
-use Rattle.splitting.proofs.Rows.{units-of, pred-of, sized, blank, shrinks}
+use Rattle.model.specs.StoreLaws.{units-of}
+use Rattle.splitting.proofs.Rows.{pred-of, sized, blank, shrinks}
 use Rattle.splitting.proofs.shrink.Statement.{statement}
 use Rattle.splitting.proofs.shrink.Tie as tie
 

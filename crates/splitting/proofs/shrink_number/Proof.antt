@@ -6,9 +6,9 @@ use native.Mathlib.Omega.{arith}
 use borrow.Author.Tests.{not-false, leb-false}
 use Rattle.buffer.specs.Choice.{pick}
 use Rattle.model.specs.Layout.{view, unitsIn}
-use Rattle.model.specs.StoreLaws.{size-of}
+use Rattle.model.specs.StoreLaws.{size-of, units-of}
 use Rattle.model.specs.Numbers.{firstOf, refusalsIn}
-use Rattle.splitting.proofs.Rows.{units-of, pred-of}
+use Rattle.splitting.proofs.Rows.{pred-of}
 use Rattle.splitting.proofs.shrink_number.Statement.{statement}
 use Rattle.splitting.proofs.shrink_number.Tie as tie
 
