@@ -1,16 +1,16 @@
 -- A slot as it is, or rebuilt where its unit is out. Assumes nothing.
 use Prim.Native.Nat.{ℕ, suc, _+_, _*_, _-_, _/_, _%_, _≤_, _<_}
-use mathlib.Core.Path.{_≡_, refl, sym, ap, ap₂, _∙_}
-use mathlib.Core.Bool.{Bool, true, false}
+use mathlib.Core.Path.{_≡_, refl, sym, ap, _∙_}
+use mathlib.Core.Bool.{true}
 use mathlib.Core.List.{List, _++_}
 use native.Mathlib.Omega.{arith}
 use native.Mathlib.Nat.{mul-le-mul-left}
 use lib.Dec.{eqb, ltb}
-use lib.ListN.{length, getD, take, drop, length-append, length-take, length-drop}
+use lib.ListN.{length, getD, drop, length-append, length-take, length-drop}
 use lib.Seq.{take-all, drop-at}
 use borrow.Author.Tests.{eq-eqb, ne-eqb, eqb-true, ltb-true, ltb-false}
 use Rattle.buffer.specs.Choice.{pick}
-use Rattle.buffer.specs.ChoiceLaws.{by-pick, pick-true, pick-false, pick-ext}
+use Rattle.buffer.specs.ChoiceLaws.{by-pick, pick-true, pick-false}
 use Rattle.buffer.specs.RangeLaws.{below-four}
 use Rattle.buffer.specs.Bytes.{byte, zeros, part}
 use Rattle.buffer.specs.SpliceLaws.{length-part, part-part}

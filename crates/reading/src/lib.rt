@@ -14,7 +14,7 @@ ghost use Rattle.lookup.specs.Sized.{Sized};
 ghost use Rattle.lookup.specs.Groups.{Recoverable, Whole};
 ghost use Rattle.model.specs.Numbers.{Call};
 ghost use Rattle.model.specs.Perform.{copied, lent, listed, outcome, perform, placeIn};
-ghost use Rattle.reading.specs.Found.{Placed, Verdict};
+ghost use Rattle.reading.specs.Found.{Verdict};
 ghost use Rattle.reading.specs.Listing.{Counted};
 
 // The verdict on a read: its number, and where that is 0 the unit and the rank of the key.
