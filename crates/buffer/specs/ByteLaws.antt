@@ -27,18 +27,15 @@ pub byte-part : (at n : ℕ) (s : List ℕ) (i : ℕ) → i < n → byte (part a
 unfolding part
 byte-part at n s i h = getD-take n (drop at s) i 0 h ∙ getD-drop at s i 0
 
-front : (at : ℕ) (s : List ℕ) → at ≤ length s → length (take at s) ≡ at
-front at s h = length-take-le at s h
-
 pub byte-splice-before : (at n : ℕ) (new s : List ℕ) (i : ℕ) → at ≤ length s → i < at → byte (splice at n new s) i ≡ byte s i
 unfolding splice
 byte-splice-before at n new s i h l =
-    byte-left (take at s) (new ++ drop n (drop at s)) i (rw (front at s h) l) ∙ getD-take at s i 0 l
+    byte-left (take at s) (new ++ drop n (drop at s)) i (rw (length-take-le at s h) l) ∙ getD-take at s i 0 l
 
 pub byte-splice-inside : (at n : ℕ) (new s : List ℕ) (i : ℕ) → at ≤ length s → length new ≡ n → i < n → byte (splice at n new s) (at + i) ≡ byte new i
 unfolding splice
 byte-splice-inside at n new s i h e l =
-    byte-right at (take at s) (new ++ drop n (drop at s)) i (front at s h) ∙ byte-left new (drop n (drop at s)) i (omega arith)
+    byte-right at (take at s) (new ++ drop n (drop at s)) i (length-take-le at s h) ∙ byte-left new (drop n (drop at s)) i (omega arith)
 
 pub byte-splice-behind : (at n : ℕ) (new s : List ℕ) (i : ℕ) → at + n ≤ length s → length new ≡ n → at + n ≤ i → byte (splice at n new s) i ≡ byte s i
 unfolding splice
@@ -46,7 +43,7 @@ byte-splice-behind at n new s i h e l =
     let k : ℕ = i - (at + n) in
     let place : i ≡ at + (n + k) = omega arith in
     ap (λ j. byte (take at s ++ (new ++ drop n (drop at s))) j) place
-    ∙ byte-right at (take at s) (new ++ drop n (drop at s)) (n + k) (front at s (omega arith))
+    ∙ byte-right at (take at s) (new ++ drop n (drop at s)) (n + k) (length-take-le at s (omega arith))
     ∙ byte-right n new (drop n (drop at s)) k e
     ∙ getD-drop n (drop at s) k 0
     ∙ getD-drop at s (n + k) 0
@@ -106,7 +103,7 @@ bytes32-lt x (suc (suc zero)) = omega arith
 bytes32-lt x (suc (suc (suc zero))) = omega arith
 bytes32-lt x (suc (suc (suc (suc i)))) = omega arith
 
--- a number is what its two halves say
+-- a number and its quotient, by their low bytes
 halves : (x : ℕ) → x ≡ x / 65536 * 65536 + x / 256 % 256 * 256 + x % 256
 halves x = omega arith
 

@@ -81,24 +81,21 @@ unfolding splice
 splice-part at n s = sym (cut at n s)
 
 -- ---- a part of a list in which a part was replaced: inside it, before it, behind it
-long : (at : ℕ) (s : List ℕ) → at ≤ length s → length (take at s) ≡ at
-long at s h = length-take-le at s h
-
 pub part-splice-inside : (at n o m : ℕ) (new s : List ℕ) → at ≤ length s → length new ≡ n → o + m ≤ n → part (at + o) m (splice at n new s) ≡ part o m new
 unfolding splice
 part-splice-inside at n o m new s h e l =
-    part-right at o m (take at s) (new ++ drop n (drop at s)) (long at s h) ∙ part-left o m new (drop n (drop at s)) (omega arith)
+    part-right at o m (take at s) (new ++ drop n (drop at s)) (length-take-le at s h) ∙ part-left o m new (drop n (drop at s)) (omega arith)
 
 pub part-splice : (at n : ℕ) (new s : List ℕ) → at ≤ length s → length new ≡ n → part at n (splice at n new s) ≡ new
 unfolding splice part
 part-splice at n new s h e =
-    rw (drop-at (take at s) (new ++ drop n (drop at s)) at (long at s h)) (take-at new (drop n (drop at s)) n e)
+    rw (drop-at (take at s) (new ++ drop n (drop at s)) at (length-take-le at s h)) (take-at new (drop n (drop at s)) n e)
 
 pub part-splice-before : (at n o m : ℕ) (new s : List ℕ) → at ≤ length s → o + m ≤ at → part o m (splice at n new s) ≡ part o m s
 unfolding splice
 part-splice-before at n o m new s h l =
-    part-left o m (take at s) (new ++ drop n (drop at s)) (rw (long at s h) l)
-    ∙ sym (part-left o m (take at s) (drop at s) (rw (long at s h) l))
+    part-left o m (take at s) (new ++ drop n (drop at s)) (rw (length-take-le at s h) l)
+    ∙ sym (part-left o m (take at s) (drop at s) (rw (length-take-le at s h) l))
     ∙ ap (part o m) (take-append-drop at s)
 
 pub part-splice-behind : (at n o m : ℕ) (new s : List ℕ) → at + n ≤ length s → length new ≡ n → at + n ≤ o → part o m (splice at n new s) ≡ part o m s
@@ -106,7 +103,7 @@ unfolding splice
 part-splice-behind at n o m new s h e l =
     let k : ℕ = o - (at + n) in
     let place : o ≡ at + (n + k) = omega arith in
-    let front : length (take at s) ≡ at = long at s (omega arith) in
+    let front : length (take at s) ≡ at = length-take-le at s (omega arith) in
     let mid : length (part at n s) ≡ n = length-part at n s h in
     ap (λ j. part j m (take at s ++ (new ++ drop n (drop at s)))) place
     ∙ part-right at (n + k) m (take at s) (new ++ drop n (drop at s)) front
@@ -121,7 +118,7 @@ pub splice-splice : (at n : ℕ) (x y s : List ℕ) → at ≤ length s → leng
 unfolding splice
 splice-splice at n x y s h e =
     rw
-    (take-at (take at s) (x ++ drop n (drop at s)) at (long at s h), drop-at (take at s) (x ++ drop n (drop at s)) at (long at s h), drop-at x (drop n (drop at s)) n e)
+    (take-at (take at s) (x ++ drop n (drop at s)) at (length-take-le at s h), drop-at (take at s) (x ++ drop n (drop at s)) at (length-take-le at s h), drop-at x (drop n (drop at s)) n e)
 
 pub splice-next : (at n m : ℕ) (x y s : List ℕ) → at ≤ length s → length x ≡ n → splice (at + n) m y (splice at n x s) ≡ splice at (n + m) (x ++ y) s
 unfolding splice
@@ -135,7 +132,7 @@ splice-next at n m x y s h e =
 
 pub splice-inside : (at n o m : ℕ) (x y s : List ℕ) → at ≤ length s → length x ≡ n → o + m ≤ n → splice (at + o) m y (splice at n x s) ≡ splice at n (splice o m y x) s
 splice-inside at n o m x y s h e l =
-    unfold splice in splice-right at o m y (take at s) (x ++ drop n (drop at s)) (long at s h)
+    unfold splice in splice-right at o m y (take at s) (x ++ drop n (drop at s)) (length-take-le at s h)
     ∙ ap (λ t. take at s ++ t) (splice-left o m y x (drop n (drop at s)) (omega arith))
 
 -- a part of a part replaced
@@ -149,7 +146,7 @@ unfolding splice
 splice-behind at n o m x y s h e l =
     let k : ℕ = o - (at + n) in
     let place : o ≡ at + (n + k) = omega arith in
-    let front : length (take at s) ≡ at = long at s (omega arith) in
+    let front : length (take at s) ≡ at = length-take-le at s (omega arith) in
     let mid : length (part at n s) ≡ n = length-part at n s h in
     let tail : List ℕ = drop n (drop at s) in
     let here : splice o m y s ≡ take at s ++ (part at n s ++ splice k m y tail) =

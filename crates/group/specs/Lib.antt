@@ -5,8 +5,11 @@ pub mod Parity
 pub mod ParityLaws
 pub mod CheckRecord
 pub mod CheckRecordLaws
+pub mod FollowLaws
+pub mod MakingLaws
 pub mod Members
 pub mod MembersLaws
 pub mod Rebuilding
+pub mod WeighedLaws
 pub mod RebuildingLaws
 pub mod Values

@@ -11,7 +11,7 @@ use borrow.Author.Tests.{lt-ltb, le-ltb, ltb-true, ltb-false}
 use Rattle.buffer.specs.Choice.{pick}
 use Rattle.buffer.specs.ChoiceLaws.{pick-true, pick-false}
 use Rattle.buffer.specs.Range.{count, first}
-use Rattle.buffer.specs.RangeLaws.{below-four, count-ext, count-append, count-parts, count-not, count-first, first-found, first-holds}
+use Rattle.buffer.specs.RangeLaws.{below-four, count-ext, count-append, count-parts, count-not, count-first, first-le, first-found, first-holds}
 use Rattle.group.specs.Members.{outs, checks, beyond, serves, next, firstFour}
 
 -- ---- who is in service
@@ -42,6 +42,7 @@ serving d c h =
     omega
     (arith, count-append 4 3 (serves d c), places, check, count-not 4 (λ p. eqb (d p) 2), count-parts 3 (λ j. eqb (c j) 1) (λ j. eqb (c j) 2) (λ j. ltb 0 (c j)) (λ j l. in-place (c j) (h j l)))
 
+-- not beyond recovery is the same as four in service
 pub enough : (d c : ℕ → ℕ) → ((j : ℕ) → j < 3 → c j ≤ 2) → beyond d c ≡ false → 4 ≤ count 7 (serves d c)
 unfolding beyond
 enough d c h e = omega (arith, serving d c h, ltb-false (checks c) (outs d c) e)
@@ -51,12 +52,19 @@ unfolding beyond
 too-few d c h e = omega (arith, serving d c h, ltb-true (checks c) (outs d c) e)
 
 -- ---- the first four in service
+-- the next member is at most 7, or where the search began
+pub next-le : (on : ℕ → Bool) (a m : ℕ) → a ≤ m → 7 ≤ m → next on a ≤ m
+unfolding next
+next-le on a m h k = omega (arith, first-le (7 - a) (λ k. on (a + k)))
+
+-- four different members in service, by rising number
 pub record Members (on : ℕ → Bool) (l : List ℕ) : Type 0 where
   pub long : length l ≡ 4
   pub low : (i : ℕ) → i < 4 → getD l i 0 < 7
   pub serving : (i : ℕ) → i < 4 → on (getD l i 0) ≡ true
   pub rising : (i k : ℕ) → i < k → k < 4 → getD l i 0 < getD l k 0
 
+-- four that rise, compared by their places
 rises : (a b e f : ℕ) → a < b → b < e → e < f → (k : ℕ) → k < 4 → (i : ℕ) → i < k → getD (a ∷ b ∷ e ∷ f ∷ []) i 0 < getD (a ∷ b ∷ e ∷ f ∷ []) k 0
 rises a b e f p q r =
     let l : List ℕ = a ∷ b ∷ e ∷ f ∷ [] in

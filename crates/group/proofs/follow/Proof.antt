@@ -6,7 +6,7 @@ use lib.ListN.{length}
 use borrow.Author.Needs.{needs}
 use Rattle.buffer.specs.Bytes.{part, splice}
 use Rattle.group.specs.Body.{addBody, scaleBody}
-use Rattle.group.specs.CheckRecordLaws.{patched-steps}
+use Rattle.group.specs.FollowLaws.{patched-steps}
 use Rattle.group.proofs.follow.Statement.{statement}
 use Rattle.group.proofs.follow.Tie as tie
 

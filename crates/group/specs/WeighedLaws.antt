@@ -1,0 +1,70 @@
+-- Four bodies weighed and added up, byte by byte: each byte is the code's sum of four weighed bytes (`byte-weighed`), and a byte of a parity is the
+-- code's byte at the check place's column (`byte-parity`). Assumes nothing.
+use mathlib.Core.Path.{_≡_, refl, sym, ap, _∙_}
+use mathlib.Core.List.{List, [], _∷_}
+use Prim.Native.Nat.{ℕ, _+_, _<_}
+use native.Mathlib.Omega.{arith}
+use lib.Bits.{bitXor, xor-zero-r}
+use lib.ListN.{length, getD}
+use Rattle.algebra.specs.Xor.{xor-assoc}
+use Rattle.buffer.specs.Bytes.{byte}
+use Rattle.buffer.specs.Range.{entries}
+use Rattle.buffer.specs.RangeLaws.{below-four, entries-of}
+use Rattle.field.specs.Byte.{scale}
+use Rattle.code.specs.Matrix.{entry, column}
+use Rattle.code.specs.Lists.{four}
+use Rattle.code.specs.Bytes.{mixed, encode-bytes}
+use Rattle.group.specs.Body.{scaleBody}
+use Rattle.group.specs.BodyLaws.{length-scale, byte-scale}
+use Rattle.group.specs.Parity.{coefficient, parity}
+use Rattle.group.specs.ParityLaws.{sum4-ext, length-sum4, byte-sum4}
+use Rattle.group.specs.Rebuilding.{weighed}
+
+-- byte k of each of the four
+abbrev pub across : (ℕ → List ℕ) → ℕ → List ℕ
+across bodies k = byte (bodies 0) k ∷ byte (bodies 1) k ∷ byte (bodies 2) k ∷ byte (bodies 3) k ∷ []
+
+regroup : (a b c d : ℕ) → bitXor (bitXor (bitXor a b) c) d ≡ bitXor a (bitXor b (bitXor c (bitXor d 0)))
+regroup a b c d = xor-assoc (bitXor a b) c d ∙ xor-assoc a b (bitXor c d) ∙ ap (λ x. bitXor a (bitXor b (bitXor c x))) (sym (xor-zero-r d))
+
+pub length-weighed : (n : ℕ) (ws : List ℕ) (bodies : ℕ → List ℕ) → ((i : ℕ) → i < 4 → length (bodies i) ≡ n) → length (weighed ws bodies) ≡ n
+unfolding weighed
+length-weighed n ws bodies h = length-sum4 n (λ i. scaleBody (getD ws i 0) (bodies i)) (λ i l. length-scale (getD ws i 0) (bodies i) ∙ h i l)
+
+weighed-four : (n : ℕ) (bodies : ℕ → List ℕ) → ((i : ℕ) → i < 4 → length (bodies i) ≡ n) → (k : ℕ) → k < n → (w x y z : ℕ)
+    → byte (weighed (w ∷ x ∷ y ∷ z ∷ []) bodies) k ≡ mixed (w ∷ x ∷ y ∷ z ∷ []) (across bodies k)
+unfolding weighed
+weighed-four n bodies h k l w x y z =
+    byte-sum4 n (λ i. scaleBody (getD (w ∷ x ∷ y ∷ z ∷ []) i 0) (bodies i)) (λ i q. length-scale (getD (w ∷ x ∷ y ∷ z ∷ []) i 0) (bodies i) ∙ h i q) k
+    ∙ rw
+    (byte-scale w (bodies 0) k (long 0 (omega arith)), byte-scale x (bodies 1) k (long 1 (omega arith)), byte-scale y (bodies 2) k (long 2 (omega arith)), byte-scale z (bodies 3) k (long 3 (omega arith)))
+    (regroup (scale w (byte (bodies 0) k)) (scale x (byte (bodies 1) k)) (scale y (byte (bodies 2) k)) (scale z (byte (bodies 3) k)))
+  where
+    long : (i : ℕ) → i < 4 → k < length (bodies i)
+    long i q = rw (h i q) l
+
+pub byte-weighed : (n : ℕ) (ws : List ℕ) → length ws ≡ 4 → (bodies : ℕ → List ℕ) → ((i : ℕ) → i < 4 → length (bodies i) ≡ n) → (k : ℕ) → k < n
+    → byte (weighed ws bodies) k ≡ mixed ws (across bodies k)
+byte-weighed n ws e bodies h k l =
+    four (λ ws. byte (weighed ws bodies) k ≡ mixed ws (across bodies k)) (weighed-four n bodies h k l) ws e
+
+-- the sum as code writes it, byte by byte
+pub weighed-entries : (n : ℕ) (ws : List ℕ) → length ws ≡ 4 → (bodies : ℕ → List ℕ) → ((i : ℕ) → i < 4 → length (bodies i) ≡ n)
+    → weighed ws bodies ≡ entries n (λ k. mixed ws (across bodies k))
+weighed-entries n ws e bodies h =
+    entries-of (weighed ws bodies) n (λ k. mixed ws (across bodies k)) (length-weighed n ws bodies h) (λ k l. byte-weighed n ws e bodies h k l)
+
+pub weighed-ext : (ws : List ℕ) (f g : ℕ → List ℕ) → ((i : ℕ) → i < 4 → f i ≡ g i) → weighed ws f ≡ weighed ws g
+unfolding weighed
+weighed-ext ws f g h = sum4-ext (λ i. scaleBody (getD ws i 0) (f i)) (λ i. scaleBody (getD ws i 0) (g i)) (λ i l. ap (scaleBody (getD ws i 0)) (h i l))
+
+-- a parity's byte is the code's byte at the check place's column
+parity-weighed : (j : ℕ) (f : ℕ → List ℕ) → parity j f ≡ weighed (column (4 + j)) f
+unfolding parity weighed coefficient
+parity-weighed j f =
+    sum4-ext (λ p. scaleBody (entry p (4 + j)) (f p)) (λ p. scaleBody (getD (column (4 + j)) p 0) (f p))
+    (below-four (λ p. scaleBody (entry p (4 + j)) (f p) ≡ scaleBody (getD (column (4 + j)) p 0) (f p)) refl refl refl refl)
+
+pub byte-parity : (n j : ℕ) (f : ℕ → List ℕ) → ((p : ℕ) → p < 4 → length (f p) ≡ n) → (k : ℕ) → k < n
+    → byte (parity j f) k ≡ encode-bytes (across f k) (4 + j)
+byte-parity n j f h k l = ap (λ x. byte x k) (parity-weighed j f) ∙ byte-weighed n (column (4 + j)) refl f h k l
