@@ -1,6 +1,6 @@
 -- The ends of the tests of one unit: what each `return` says, from what the tests before it found. Assumes nothing.
 use mathlib.Core.Path.{_≡_, sym, ap, ap₂, _∙_}
-use mathlib.Core.Bool.{true, false}
+use mathlib.Core.Bool.{Bool, true, false}
 use mathlib.Core.List.{List}
 use Prim.Native.Nat.{ℕ, _+_, _*_, _/_, _%_, _≤_}
 use native.Mathlib.Omega.{arith}
@@ -10,10 +10,10 @@ use Rattle.buffer.specs.ChoiceLaws.{by-pick}
 use Rattle.buffer.specs.Range.{first}
 use Rattle.buffer.specs.RangeLaws.{first-le, first-le-at}
 use Rattle.buffer.specs.Bytes.{byte}
-use Rattle.model.specs.Layout.{view, slotAt}
+use Rattle.model.specs.Layout.{view, slotAt, checkAt}
 use Rattle.model.specs.Reads.{keeper}
-use Rattle.soundness.specs.Keys.{keyFrom, fillOf, reached, sameLists}
-use Rattle.soundness.specs.Pieces.{columnAt, unkept, dataFill, columnFill}
+use Rattle.soundness.specs.Keys.{keyFrom, fillOf, reached, sameKeys, noKeys, sameLists}
+use Rattle.soundness.specs.Pieces.{zeroBetween, dataKeys, columnKeys, columnAt, unkept, dataFill, columnFill}
 use Rattle.soundness.proofs.Places.{data-list, column-list}
 
 -- where the keys are good they reach no further than the list
@@ -40,15 +40,43 @@ keeper-before s c e =
     first-le-at 3 (λ j. eqb (byte s (24 + (3 * (c / 3) + j))) 1) (c % 3) (omega arith) (eq-eqb _ _ (ap (λ i. byte s (24 + i)) q ∙ e)) in
     omega arith
 
--- ---- the keys of a unit, by the places that the code found
-module _ (s : List ℕ) (u : ℕ) {w at n : ℕ} (width : w ≡ byte s 5) where
-  pub data-fill : at ≡ slotAt (byte s 5) u 0 → n ≡ reached w (byte s 6) u (keyFrom s at 20) → n ≡ dataFill s u
+-- ---- what the callees found at the places that the code computed: unit u's slots at `at`, its b ranks as `w`, its column at `to`
+module _ (s : List ℕ) (u : ℕ) {w : ℕ} (width : w ≡ byte s 5) where
+  pub data-fill : {at n : ℕ} → at ≡ slotAt (byte s 5) u 0 → n ≡ reached w (byte s 6) u (keyFrom s at 20) → n ≡ dataFill s u
   unfolding dataFill
   data-fill e f = f ∙ ap₂ (λ b key. reached b (byte s 6) u key) width (data-list s u e)
 
-  pub column-fill : at ≡ columnAt s u → n ≡ reached w (byte s 6) u (keyFrom s at 32) → n ≡ columnFill s u
+  pub column-fill : {to n : ℕ} → to ≡ columnAt s u → n ≡ reached w (byte s 6) u (keyFrom s to 32) → n ≡ columnFill s u
   unfolding columnFill
   column-fill e f = f ∙ ap₂ (λ b key. reached b (byte s 6) u key) width (column-list s u e)
 
-pub lists-at : (s : List ℕ) {x y w x′ y′ w′ : ℕ} → x ≡ x′ → y ≡ y′ → w ≡ w′ → sameLists s x y w ≡ sameLists s x′ y′ w′
-lists-at s {w = w} {x′ = x′} {y′ = y′} e f g = ap₂ (λ x y. sameLists s x y w) e f ∙ ap (sameLists s x′ y′) g
+  -- the end of its slots
+  end : {at : ℕ} → at ≡ slotAt (byte s 5) u 0 → at + 20 * w ≡ slotAt (byte s 5) u 0 + 20 * byte s 5
+  end e = ap₂ (λ a b. a + 20 * b) e width
+
+  pub unit-zero : {at : ℕ} {r : Bool} → at ≡ slotAt (byte s 5) u 0 → r ≡ zeroBetween s at (at + 20 * w)
+      → r ≡ zeroBetween s (slotAt (byte s 5) u 0) (slotAt (byte s 5) u 0 + 20 * byte s 5)
+  unit-zero e h = h ∙ ap₂ (zeroBetween s) e (end e)
+
+  pub rest-zero : {at n : ℕ} {r : Bool} → at ≡ slotAt (byte s 5) u 0 → n ≡ dataFill s u → r ≡ zeroBetween s (at + 20 * n) (at + 20 * w)
+      → r ≡ zeroBetween s (slotAt (byte s 5) u 0 + 20 * dataFill s u) (slotAt (byte s 5) u 0 + 20 * byte s 5)
+  rest-zero e f h = h ∙ ap₂ (zeroBetween s) (ap₂ (λ a k. a + 20 * k) e f) (end e)
+
+  pub column-same : {at to : ℕ} {r : Bool} → at ≡ slotAt (byte s 5) u 0 → to ≡ columnAt s u → r ≡ sameKeys w (keyFrom s at 20) (keyFrom s to 32)
+      → r ≡ sameKeys (byte s 5) (dataKeys s u) (columnKeys s u)
+  column-same e f h = h ∙ ap₂ (sameKeys w) (data-list s u e) (column-list s u f) ∙ ap (λ b. sameKeys b (dataKeys s u) (columnKeys s u)) width
+
+  pub column-none : {to n k : ℕ} {r : Bool} → to ≡ columnAt s u → n ≡ k → r ≡ noKeys n w (keyFrom s to 32) → r ≡ noKeys k (byte s 5) (columnKeys s u)
+  column-none {to} {k = k} e f h = h ∙ ap₂ (λ i b. noKeys i b (keyFrom s to 32)) f width ∙ ap (noKeys k (byte s 5)) (column-list s u e)
+
+-- ---- and of a check unit
+module _ (s : List ℕ) (c : ℕ) {w at : ℕ} (width : w ≡ byte s 5) (place : at ≡ checkAt (byte s 5) c 0) where
+  pub check-unit-zero : {r : Bool} → r ≡ zeroBetween s at (at + 32 * w) → r ≡ zeroBetween s (checkAt (byte s 5) c 0) (checkAt (byte s 5) c 0 + 32 * byte s 5)
+  check-unit-zero h = h ∙ ap₂ (zeroBetween s) place (ap₂ (λ a b. a + 32 * b) place width)
+
+  pub check-unit-same : {r : Bool} {k to : ℕ} → k ≡ keeper (view s) (c / 3) → to ≡ checkAt (byte s 5) k 0 → r ≡ sameLists s to at w
+      → r ≡ sameLists s (checkAt (byte s 5) (keeper (view s) (c / 3)) 0) (checkAt (byte s 5) c 0) (byte s 5)
+  check-unit-same e f h =
+      h
+      ∙ ap₂ (λ x y. sameLists s x y w) (f ∙ ap (λ i. checkAt (byte s 5) i 0) e) place
+      ∙ ap (sameLists s (checkAt (byte s 5) (keeper (view s) (c / 3)) 0) (checkAt (byte s 5) c 0)) width

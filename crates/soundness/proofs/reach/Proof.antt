@@ -24,19 +24,47 @@ key-requires : tie.Need-key-requires Inv-loop μ-loop
 key-requires c κs = c .before .before .before .before .before .pre .0 .reach (c .before .loop .r) (c .loop-test .taken)
 
 returns : tie.Need-returns Inv-loop μ-loop
-returns c = let turn = c .before .before .before .loop in (reaching-stop (turn .inv) (c .before .before .loop-test .taken) (is-eq (c .before .key .ensures) refl (c .if1 .taken)), turn .inv .sized)
+returns c =
+    let turn = c .before .before .before .loop in
+    (reaching-stop (turn .inv) (c .before .before .loop-test .taken) (is-eq (c .before .key .ensures) refl (c .if1 .taken)), turn .inv .sized)
 
 returns-2 : tie.Need-returns-2 Inv-loop μ-loop
-returns-2 c = let turn = c .before .before .before .before .loop in let key = c .before .before .key in let given = c .before .before .before .before .before .before .before .before .args in let mask-of = c .before .before .before .before .before .before .mask-of in (reaching-fail (turn .inv) (c .before .before .before .loop-test .taken) (is-ne (key .ensures) refl (c .before .if1 .left)) (not-own (given .m) (given .u) (keyFrom (given .s .now) (given .base) (given .step)) (turn .r) (sym (mask-of .ensures _) ∙ is-ne (ap (λ x. bitAnd x (mask-of .result)) (key .ensures)) (c .before .before .before .before .before .wide32 .ensures .0) (c .if2 .taken))), turn .inv .sized)
+returns-2 c =
+    let given = c .before .before .before .before .before .before .before .before .args in
+    let keys = keyFrom (given .s .now) (given .base) (given .step) in
+    let turn = c .before .before .before .before .loop in
+    let key = c .before .before .key .ensures in
+    let some = is-ne key refl (c .before .if1 .left) in
+    let masked = ap (λ x. bitAnd x (c .before .before .before .before .before .before .mask-of .result)) key in
+    let other = sym (c .before .before .before .before .before .before .mask-of .ensures _) ∙ is-ne masked (c .before .before .before .before .before .wide32 .ensures .0) (c .if2 .taken) in
+    (reaching-fail (turn .inv) (c .before .before .before .loop-test .taken) some (not-own (given .m) (given .u) keys (turn .r) other), turn .inv .sized)
 
 is-new-requires : tie.Need-is-new-requires Inv-loop μ-loop
 is-new-requires c κs = record { reach = λ q l. c .before .before .before .before .before .before .before .before .before .before .before .pre .0 .reach q (omega arith); few = omega arith }
 
 returns-3 : tie.Need-returns-3 Inv-loop μ-loop
-returns-3 c = let turn = c .before .before .before .before .before .before .before .before .before .loop in let key = c .before .before .before .before .before .before .before .key in let given = c .before .before .before .before .before .before .before .before .before .before .before .before .before .args in (reaching-fail (turn .inv) (c .before .before .before .before .before .before .before .before .loop-test .taken) (is-ne (key .ensures) refl (c .before .before .before .before .before .before .if1 .left)) (not-new (given .m) (given .u) (keyFrom (given .s .now) (given .base) (given .step)) (turn .r) (is-no (c .before .is-new .ensures ∙ ap (isNew (turn .r) (keyFrom (given .s .now) (given .base) (given .step))) (key .ensures)) (c .if4 .taken))), turn .inv .sized)
+returns-3 c =
+    let given = c .before .before .before .before .before .before .before .before .before .before .before .before .before .args in
+    let keys = keyFrom (given .s .now) (given .base) (given .step) in
+    let turn = c .before .before .before .before .before .before .before .before .before .loop in
+    let key = c .before .before .before .before .before .before .before .key .ensures in
+    let some = is-ne key refl (c .before .before .before .before .before .before .if1 .left) in
+    let new = ap (isNew (turn .r) keys) key in
+    (reaching-fail (turn .inv) (c .before .before .before .before .before .before .before .before .loop-test .taken) some (not-new (given .m) (given .u) keys (turn .r) (is-no (c .before .is-new .ensures ∙ new) (c .if4 .taken))), turn .inv .sized)
 
 loop-again : tie.Need-loop-again Inv-loop μ-loop
-loop-again c = let turn = c .before .before .before .before .before .before .before .loop in let key = c .before .before .before .before .before .key in let given = c .before .before .before .before .before .before .before .before .before .before .before .args in let mask-of = c .before .before .before .before .before .before .before .before .before .mask-of in let place = c .before .before .place in reaching-turn (turn .inv) (c .before .before .before .before .before .before .loop-test .taken) (is-ne (key .ensures) refl (c .before .before .before .before .if1 .left)) (own-new (given .m) (given .u) (keyFrom (given .s .now) (given .base) (given .step)) (turn .r) (sym (mask-of .ensures _) ∙ is-eq (ap (λ x. bitAnd x (mask-of .result)) (key .ensures)) (c .before .before .before .before .before .before .before .before .wide32 .ensures .0) (c .before .before .before .if2 .left)) (⊎-elim (λ w. is-yes (w .1 .ensures ∙ ap (isNew (turn .r) (keyFrom (given .s .now) (given .base) (given .step))) (key .ensures)) (w .2 .left)) (λ w. reaching-new (turn .inv) (place .ensures .0 ∙ ap placeOf (key .ensures)) (w .left)) (c .if3 .came))) (place .ensures .0 ∙ ap placeOf (key .ensures)) (place .ensures .1)
+loop-again c =
+    let given = c .before .before .before .before .before .before .before .before .before .before .before .args in
+    let keys = keyFrom (given .s .now) (given .base) (given .step) in
+    let turn = c .before .before .before .before .before .before .before .loop in
+    let key = c .before .before .before .before .before .key .ensures in
+    let some = is-ne key refl (c .before .before .before .before .if1 .left) in
+    let masked = ap (λ x. bitAnd x (c .before .before .before .before .before .before .before .before .before .mask-of .result)) key in
+    let place = c .before .before .place .ensures .0 ∙ ap placeOf key in
+    let new = ap (isNew (turn .r) keys) key in
+    let own = sym (c .before .before .before .before .before .before .before .before .before .mask-of .ensures _) ∙ is-eq masked (c .before .before .before .before .before .before .before .before .wide32 .ensures .0) (c .before .before .before .if2 .left) in
+    let fresh = ⊎-elim (λ w. is-yes (w .1 .ensures ∙ new) (w .2 .left)) (λ w. reaching-new (turn .inv) place (w .left)) (c .if3 .came) in
+    reaching-turn (turn .inv) (c .before .before .before .before .before .before .loop-test .taken) some (own-new (given .m) (given .u) keys (turn .r) own fresh) place (c .before .before .place .ensures .1)
 
 returns-4 : tie.Need-returns-4 Inv-loop μ-loop
 returns-4 c = (reaching-full (c .before .loop .inv) (c .loop-test .left), c .before .loop .inv .sized)
