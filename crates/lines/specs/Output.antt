@@ -1,6 +1,7 @@
 -- The lines that hallrun prints: each line's number in decimal; behind a granted R a space and the body; behind a granted P a line for each
 -- record: unit, rank, key, body, in the form of arguments. Every line ends in byte 0A. Assumes nothing.
-use Prim.Native.Nat.{ℕ, _+_, _*_, _-_, _/_, _%_}
+use Prim.Native.Nat.{ℕ, _+_, _*_, _-_, _/_, _%_, _≤_}
+use mathlib.Core.Path.{_≡_}
 use mathlib.Core.List.{List, [], _∷_, _++_}
 use lib.Dec.{ltb}
 use lib.ListN.{length, take, drop}
@@ -18,6 +19,12 @@ numberLine n = decimal n ++ (10 ∷ [])
 -- a line with zeros behind it, n bytes in all
 unfoldable pub padded : ℕ → List ℕ → List ℕ
 padded n l = l ++ zeros (n - length l)
+
+-- a line l in an array of three bytes, and its size
+pub record Short (l bytes : List ℕ) (size : ℕ) : Type 0 where
+  pub text : bytes ≡ padded 3 l
+  pub long : size ≡ length l
+  pub within : size ≤ length bytes
 
 -- a granted R: 0, a space and the body
 unfoldable pub bodyLine : List ℕ → List ℕ

@@ -2,27 +2,27 @@
 ghost use mathlib.Core.Path.{_≡_};
 ghost use Prim.Native.Nat.{_+_, _*_, _≤_};
 ghost use lib.ListN.{length};
-ghost use Rattle.lines.specs.Output.{numberLine, bodyLine, recordLine, padded, argumentPut};
+ghost use Rattle.lines.specs.Output.{numberLine, bodyLine, recordLine, Short, argumentPut};
 use crate::digits::put_byte;
 use crate::digits::put_bytes;
 
 // A line of two or three bytes, with zeros behind it.
-pub struct Short {
+pub struct ShortLine {
     pub bytes: [u8; 3],
     pub size: usize,
 }
 
 // The line of a number.
-pub fn number_line(n: u8) -> Short
-    ensures { λ r. ⌜ (r .bytes ≡ padded 3 (numberLine n)) × (r .size ≡ length (numberLine n)) × (r .size ≤ 3) ⌝ }
+pub fn number_line(n: u8) -> ShortLine
+    ensures { λ r. ⌜ Short (numberLine n) (r .bytes) (r .size) ⌝ }
 {
     if n < 10 {
-        Short {
+        ShortLine {
             bytes: [48 + n, 10, 0],
             size: 2,
         }
     } else {
-        Short {
+        ShortLine {
             bytes: [48 + n / 10, 48 + n % 10, 10],
             size: 3,
         }
@@ -40,8 +40,7 @@ fn put_argument(line: &mut [u8], at: usize, from: &[u8], behind: u8)
 }
 
 // The line of a granted read.
-pub fn body_line(body: &[u8]) -> [u8; 35]
-    requires { ⌜ length (now body) ≡ 16 ⌝ }
+pub fn body_line(body: &[u8; 16]) -> [u8; 35]
     ensures { λ r. ⌜ r ≡ bodyLine (now (body .entry)) ⌝ }
 {
     let mut line = [0u8; 35];

@@ -1,12 +1,9 @@
 // Lines of a text.
-ghost use mathlib.Core.Path.{_≡_};
-ghost use Prim.Native.Nat.{_≤_};
-ghost use lib.ListN.{length};
-ghost use Rattle.lines.specs.Text.{lineEnd};
+ghost use Rattle.lines.specs.Text.{Ends};
 
 // Where the line that starts at a place ends: at the first byte 0A, or at the end of the text.
 pub fn line_end(text: &[u8], from: usize) -> usize
-    ensures { λ r. ⌜ (r ≡ lineEnd (now (text .entry)) from) × (r ≤ length (now (text .entry))) ⌝ }
+    ensures { λ r. ⌜ Ends (now (text .entry)) from r ⌝ }
 {
     let n = text.len();
     if n < from {

@@ -1,14 +1,13 @@
 -- The groups of a store, as the bytes of their states show them: units out, groups beyond recovery, and the members in service.
 -- Assumes nothing.
-use Prim.Native.Nat.{ℕ, suc, _+_, _*_, _-_, _/_, _%_, _≤_, _<_}
-use mathlib.Core.Path.{_≡_, refl, sym, ap, ap₂, _∙_}
+use Prim.Native.Nat.{ℕ, _+_, _*_, _-_, _/_, _%_, _≤_, _<_}
+use mathlib.Core.Path.{_≡_, sym, ap, _∙_}
 use mathlib.Core.Bool.{Bool, true, false, not, _&&_}
 use mathlib.Core.List.{List}
 use native.Mathlib.Omega.{arith}
 use lib.Dec.{eqb, ltb}
 use borrow.Author.Tests.{eq-eqb, lt-ltb, ltb-true, ltb-false}
-use Rattle.buffer.specs.Choice.{pick}
-use Rattle.buffer.specs.ChoiceLaws.{by-pick, pick-ext}
+use Rattle.buffer.specs.ChoiceLaws.{pick-ext}
 use Rattle.buffer.specs.Range.{first, count}
 use Rattle.buffer.specs.RangeLaws.{first-ext, first-found, count-ext, count-pos, count-fails, count-zero, count-not, count-append}
 use Rattle.buffer.specs.Bytes.{byte, part}

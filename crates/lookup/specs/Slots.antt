@@ -1,16 +1,16 @@
 -- A slot as it is, or rebuilt where its unit is out. Assumes nothing.
 use Prim.Native.Nat.{ℕ, suc, _+_, _*_, _-_, _/_, _%_, _≤_, _<_}
-use mathlib.Core.Path.{_≡_, refl, sym, ap, ap₂, _∙_}
-use mathlib.Core.Bool.{Bool, true, false}
+use mathlib.Core.Path.{_≡_, refl, sym, ap, _∙_}
+use mathlib.Core.Bool.{true}
 use mathlib.Core.List.{List, _++_}
 use native.Mathlib.Omega.{arith}
 use native.Mathlib.Nat.{mul-le-mul-left}
 use lib.Dec.{eqb, ltb}
-use lib.ListN.{length, getD, take, drop, length-append, length-take, length-drop}
+use lib.ListN.{length, getD, drop, length-append, length-take, length-drop}
 use lib.Seq.{take-all, drop-at}
 use borrow.Author.Tests.{eq-eqb, ne-eqb, eqb-true, ltb-true, ltb-false}
 use Rattle.buffer.specs.Choice.{pick}
-use Rattle.buffer.specs.ChoiceLaws.{by-pick, pick-true, pick-false, pick-ext}
+use Rattle.buffer.specs.ChoiceLaws.{by-pick, pick-true, pick-false}
 use Rattle.buffer.specs.RangeLaws.{below-four}
 use Rattle.buffer.specs.Bytes.{byte, zeros, part}
 use Rattle.buffer.specs.SpliceLaws.{length-part, part-part}
@@ -20,12 +20,10 @@ use Rattle.buffer.specs.TableLaws.{tab-ext, tab-parts}
 use Rattle.code.specs.Matrix.{within}
 use Rattle.code.specs.Weights.{weightsOf}
 use Rattle.group.specs.Widths.{keyBytes, keysBytes, bodyBytes, slotBytes, checkBytes}
-use Rattle.group.specs.Body.{scaleBody}
-use Rattle.group.specs.ParityLaws.{sum4-ext}
 use Rattle.group.specs.Members.{firstFour}
 use Rattle.group.specs.MembersLaws.{Members}
 use Rattle.group.specs.Rebuilding.{fourBodies, weighed, rebuilt}
-use Rattle.group.specs.WeighedLaws.{length-weighed}
+use Rattle.group.specs.WeighedLaws.{length-weighed, weighed-ext}
 use Rattle.model.specs.Layout.{view, slotAt, checkAt, keyOf}
 use Rattle.model.specs.Reads.{servesIn, holds, keeper, listedKey, listedFill, wholeSlot}
 use Rattle.lookup.specs.Sized.{Sized, slot-fits, check-fits}
@@ -80,10 +78,6 @@ pub record Recipe (s : List ℕ) (u : ℕ) (members weights : List ℕ) : Type 0
 -- the first four members in service are four different columns below 7
 pub recipe-members : {s : List ℕ} {u : ℕ} {members : List ℕ} → Recoverable s u → byte s (8 + u) ≡ 2 → members ≡ firstFour (servesIn (view s) (u / 4)) → Members (servesIn (view s) (u / 4)) members
 recipe-members {s} {u} h e f = rw f (group-four (h .sized) (u / 4) (let q = h .unit in omega arith) (h .whole e))
-
-weighed-ext : (ws : List ℕ) (f g : ℕ → List ℕ) → ((i : ℕ) → i < 4 → f i ≡ g i) → weighed ws f ≡ weighed ws g
-unfolding weighed
-weighed-ext ws f g h = sum4-ext _ _ (λ i l. ap (scaleBody (getD ws i 0)) (h i l))
 
 -- four bodies that were read one by one
 pub weighed-held : (ws a b c d : List ℕ) (f : ℕ → List ℕ) → a ≡ f 0 → b ≡ f 1 → c ≡ f 2 → d ≡ f 3 → weighed ws (fourBodies a b c d) ≡ weighed ws f

@@ -6,7 +6,6 @@ use native.Mathlib.Nat.{mod-lt, mul-le-mul-right}
 use lib.Arith.{mod-mul}
 use lib.Dec.{ltb}
 use borrow.Author.Tests.{lt-ltb, le-ltb, ltb-true, ltb-false}
-use Rattle.buffer.specs.Choice.{pick}
 use Rattle.buffer.specs.ChoiceLaws.{by-pick, pick-true, pick-false}
 use Rattle.model.specs.Units.{powerBelow, splitPointer, unitOf}
 

@@ -1,6 +1,16 @@
 // Reading a lent store: where its parts stand, and what the calls look up in it.
 ghost use mathlib.Core.Path.{_≡_};
-ghost use Prim.Native.Nat.{_+_, _*_, _≤_, _<_};
+ghost use mathlib.Core.Bool.{true, _&&_};
+ghost use Prim.Native.Nat.{_+_, _*_, _≤_, _<_, ℕ, _/_};
+ghost use lib.Dec.{eqb};
+ghost use lib.ListN.{length, getD};
+ghost use Rattle.buffer.specs.Bytes.{byte, part};
+ghost use Rattle.buffer.specs.Range.{first};
+ghost use Rattle.field.specs.Table.{products};
+ghost use Rattle.code.specs.Matrix.{within};
+ghost use Rattle.group.specs.Widths.{bodyBytes, slotBytes};
+ghost use Rattle.group.specs.Members.{firstFour};
+ghost use Rattle.group.specs.Rebuilding.{weighed};
 ghost use Rattle.model.specs.Units.{powerBelow, splitPointer, unitOf};
 ghost use Rattle.model.specs.Layout.{view, slotAt, checkAt, keyOf};
 ghost use Rattle.model.specs.Reads.{fillIn, stateIn, outsIn, beyondIn, servesIn, holds, keeper, listedKey, listedFill, listedRank, wholeSlot, lostIn, totalIn};
@@ -8,17 +18,6 @@ ghost use Rattle.lookup.specs.Sized.{Sized};
 ghost use Rattle.lookup.specs.Keys.{keyIn, Within, Known, Lists};
 ghost use Rattle.lookup.specs.Groups.{Recoverable, Whole};
 ghost use Rattle.lookup.specs.Slots.{heldAt, Recipe};
-ghost use Rattle.buffer.specs.Bytes.{byte, part};
-ghost use Rattle.buffer.specs.Range.{first};
-ghost use Prim.Native.Nat.{ℕ, _/_};
-ghost use mathlib.Core.Bool.{true, _&&_};
-ghost use lib.Dec.{eqb};
-ghost use lib.ListN.{length, getD};
-ghost use Rattle.field.specs.Table.{products};
-ghost use Rattle.code.specs.Matrix.{within};
-ghost use Rattle.group.specs.Widths.{bodyBytes, slotBytes};
-ghost use Rattle.group.specs.Members.{firstFour};
-ghost use Rattle.group.specs.Rebuilding.{weighed};
 
 // The product of two bytes.
 fn product(a: u8, b: u8) -> usize

@@ -1,7 +1,7 @@
 -- The ways out of read, read in place and list are what `perform` says. Assumes nothing.
 use Prim.Native.Nat.{ℕ, _+_, _-_}
-use mathlib.Core.Path.{_≡_, refl, sym, ap, ap₂, _∙_}
-use mathlib.Core.Bool.{Bool, true, false, not, _&&_}
+use mathlib.Core.Path.{_≡_, refl, sym, ap, _∙_}
+use mathlib.Core.Bool.{not}
 use mathlib.Core.List.{List, [], _++_, append-nil}
 use native.Mathlib.Omega.{arith}
 use lib.Dec.{eqb}
@@ -14,9 +14,9 @@ use Rattle.buffer.specs.Bytes.{byte, zeros, part}
 use Rattle.group.specs.Widths.{keyBytes, bodyBytes}
 use Rattle.lookup.specs.Keys.{own-rank}
 use Rattle.model.specs.Layout.{view, slotAt}
-use Rattle.model.specs.Reads.{homeIn, rankIn, bodyIn, listedRank, wholeSlot, totalIn, listingIn}
+use Rattle.model.specs.Reads.{homeIn, bodyIn, listedRank, wholeSlot, totalIn, listingIn}
 use Rattle.model.specs.Numbers.{Call, numberIn, refusalsIn, firstOf}
-use Rattle.model.specs.Perform.{Answer, copied, lent, listed, output, reply, Place, placeIn, givenIn, grantedIn, outcome, answerIn, afterIn, perform}
+use Rattle.model.specs.Perform.{copied, lent, listed, output, reply, Place, placeIn, givenIn, grantedIn, outcome, answerIn, afterIn, perform}
 
 -- ---- read
 pub read-refused : (s : List ℕ) (k : ℕ) (out : List ℕ) (r : ℕ) → r ≡ numberIn s (Call.read k out) → (r ≡ 0 → ⊥) → outcome (copied r out) s ≡ perform s (Call.read k out)

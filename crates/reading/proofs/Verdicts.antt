@@ -1,10 +1,10 @@
 -- The verdicts of read and list: each way out of the cascade gives the number of the first row that holds. Assumes nothing.
 use Prim.Native.Nat.{ℕ, suc, _+_, _*_, _/_, _≤_, _<_}
 use mathlib.Core.Path.{_≡_, refl, sym, ap, _∙_}
-use mathlib.Core.Bool.{Bool, true, false, not, _&&_}
+use mathlib.Core.Bool.{Bool, true, false, _&&_}
 use mathlib.Core.List.{List}
 use native.Mathlib.Omega.{arith}
-use lib.Dec.{eqb, ltb, leb}
+use lib.Dec.{eqb}
 use lib.Seq.{getD-take}
 use borrow.Author.Tests.{eq-eqb, ne-eqb, lt-ltb, le-ltb, le-leb, lt-leb}
 use Rattle.buffer.specs.Choice.{pick}
@@ -13,13 +13,13 @@ use Rattle.buffer.specs.TestLaws.{not-both, and-true}
 use Rattle.buffer.specs.Bytes.{byte}
 use Rattle.group.specs.Widths.{bodyBytes, slotBytes}
 use Rattle.model.specs.Units.{unitOf}
-use Rattle.model.specs.Layout.{Store, view, unitsIn}
+use Rattle.model.specs.Layout.{view, unitsIn}
 use Rattle.model.specs.Reads.{homeIn, beyondIn, listedFill, listedRank, lostIn, totalIn}
 use Rattle.model.specs.Numbers.{firstOf}
 use Rattle.lookup.specs.Sized.{Sized}
 use Rattle.lookup.specs.Groups.{Recoverable, Whole, none-lost}
 use Rattle.reading.specs.Rows.{readNumber, listNumber}
-use Rattle.reading.specs.Found.{Placed, Verdict}
+use Rattle.reading.specs.Found.{Verdict}
 use Rattle.reading.specs.Listing.{Counted}
 
 -- a refusal hands no place on

@@ -14,7 +14,7 @@ ghost use Rattle.lookup.specs.Sized.{Sized};
 ghost use Rattle.lookup.specs.Groups.{Recoverable, Whole};
 ghost use Rattle.model.specs.Numbers.{Call};
 ghost use Rattle.model.specs.Perform.{copied, lent, listed, outcome, perform, placeIn};
-ghost use Rattle.reading.specs.Found.{Placed, Verdict};
+ghost use Rattle.reading.specs.Found.{Verdict};
 ghost use Rattle.reading.specs.Listing.{Counted};
 
 // The verdict on a read: its number, and where that is 0 the unit and the rank of the key.
@@ -97,14 +97,14 @@ pub fn read_in_place(s: &[u8], key: u32) -> &[u8]
     ensures answer { λ r. ⌜ outcome (lent (now r)) (now (s .entry)) ≡ perform (now (s .entry)) (Call.readInPlace key) ⌝ }
     ensures place { λ r. ⌜ now r ≡ part (placeIn (now (s .entry)) key .at) (placeIn (now (s .entry)) key .size) (now (s .entry)) ⌝ }
 {
-    let found = look_up(s, soundness::is_sound(s), key, 16);
-    if found.number != 0 {
+    let place = look_up(s, soundness::is_sound(s), key, 16);
+    if place.number != 0 {
         return &s[0..0];
     }
-    if lookup::state(s, found.unit) == 2 {
+    if lookup::state(s, place.unit) == 2 {
         return &s[0..0];
     }
-    let at = lookup::slot_at(s[5], found.unit, found.rank);
+    let at = lookup::slot_at(s[5], place.unit, place.rank);
     &s[at + 4..at + 20]
 }
 
@@ -180,7 +180,7 @@ fn write_records(s: &[u8], out: &mut [u8], table: &[u8; 256])
     let mut u: u8 = 0;
     while u < 16 {
         let n = lookup::listed_fill(s, u);
-        let end = at + 20 * buffer::wide(n);
+        let end = at + 20 * buffer::wide(n); // where the records of this unit end
         copy_unit(s, u, n, &mut out[at..end], table);
         at = end;
         u += 1;

@@ -53,3 +53,24 @@ pub extern "C" fn lhrs_read(store: &[u8], key: u32, out: &mut [u8]) -> u8
 {
     reading::read(store, key, out)
 }
+
+#[no_mangle]
+pub extern "C" fn lhrs_grow(store: &mut [u8]) -> u8
+    ensures { λ r. ⌜ outcome (plain r) (now (store .exit)) ≡ perform (now (store .entry)) Call.grow ⌝ }
+{
+    splitting::grow(store)
+}
+
+#[no_mangle]
+pub extern "C" fn lhrs_shrink(store: &mut [u8]) -> u8
+    ensures { λ r. ⌜ outcome (plain r) (now (store .exit)) ≡ perform (now (store .entry)) Call.shrink ⌝ }
+{
+    splitting::shrink(store)
+}
+
+#[no_mangle]
+pub extern "C" fn lhrs_raise(store: &mut [u8]) -> u8
+    ensures { λ r. ⌜ outcome (plain r) (now (store .exit)) ≡ perform (now (store .entry)) Call.raise ⌝ }
+{
+    splitting::raise(store)
+}

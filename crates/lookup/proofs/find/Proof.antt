@@ -5,7 +5,6 @@ use native.Mathlib.Omega.{arith}
 use lib.Dec.{eqb}
 use borrow.Author.Needs.{needs}
 use Rattle.buffer.specs.Bytes.{be32}
-use Rattle.buffer.specs.RangeLaws.{first-le}
 use Rattle.buffer.specs.LoopTests.{Missing, missing-start, missing-turn, missing-found, missing-end}
 use Rattle.buffer.specs.TestLaws.{is-eq, is-ne}
 use Rattle.lookup.specs.Keys.{keyIn, place-near}

@@ -1,5 +1,4 @@
 -- `lookup::listed_rank` meets its contract. Assumes nothing.
-use native.Mathlib.Omega.{arith}
 use borrow.Author.Needs.{needs}
 use Rattle.lookup.specs.Keys.{within-fewer, listed-rank-found}
 use Rattle.lookup.proofs.listed_rank.Statement.{statement}

@@ -1,6 +1,5 @@
 -- `lookup::weights` meets its contract. Assumes nothing.
 use native.Mathlib.Omega.{arith}
-use borrow.Author.Needs.{needs}
 use Rattle.group.specs.RebuildingLaws.{members-within}
 use Rattle.lookup.specs.Slots.{recipe-members}
 use Rattle.lookup.proofs.weights.Statement.{statement}

@@ -1,5 +1,5 @@
 -- `reading::list` meets its contract. Assumes nothing.
-use mathlib.Core.Path.{_≡_, refl, sym, _∙_}
+use mathlib.Core.Path.{refl, sym, _∙_}
 use borrow.Author.Needs.{needs}
 use Rattle.lookup.specs.Sized.{sound-sized}
 use Rattle.reading.specs.Rows.{list-rows}

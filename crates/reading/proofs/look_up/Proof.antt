@@ -1,9 +1,8 @@
 -- `reading::look_up` meets its contract. Assumes nothing.
-use mathlib.Core.Path.{_≡_, refl, sym, _∙_}
+use mathlib.Core.Path.{sym, _∙_}
 use native.Mathlib.Omega.{arith}
 use borrow.Author.Needs.{needs}
 use borrow.Author.Tests.{not-true, not-false}
-use Rattle.lookup.specs.Keys.{Known}
 use Rattle.lookup.specs.Groups.{recoverable-known}
 use Rattle.reading.proofs.Verdicts.{refusal, home-is, no-key, no-room, unsound, lost, absent, present, safe-unit}
 use Rattle.reading.proofs.look_up.Statement.{statement}

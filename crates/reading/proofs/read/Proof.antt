@@ -1,7 +1,6 @@
 -- `reading::read` meets its contract. Assumes nothing.
-use mathlib.Core.Path.{_≡_, refl, sym, ap, _∙_}
+use mathlib.Core.Path.{refl, sym, _∙_}
 use native.Mathlib.Omega.{arith}
-use lib.ListN.{length}
 use borrow.Author.Needs.{needs}
 use Rattle.lookup.specs.Sized.{sound-sized}
 use Rattle.reading.specs.Rows.{read-rows}

@@ -1,15 +1,14 @@
 -- `reading::read_in_place` meets its contract. Assumes nothing.
-use mathlib.Core.Path.{_≡_, refl, sym, ap, _∙_}
-use mathlib.Core.List.{List, []}
-use Prim.Native.Nat.{ℕ, _+_, _-_}
+use mathlib.Core.Path.{_≡_, sym, _∙_}
+use mathlib.Core.List.{[]}
+use Prim.Native.Nat.{_+_, _-_}
 use native.Mathlib.Omega.{arith}
-use lib.ListN.{take, drop}
 use borrow.Author.Needs.{needs}
-use Rattle.buffer.specs.Bytes.{byte, zeros, part}
+use Rattle.buffer.specs.Bytes.{byte, zeros}
 use Rattle.buffer.specs.ByteLaws.{length-zeros}
 use Rattle.group.specs.Widths.{bodyBytes}
 use Rattle.model.specs.Layout.{slotAt}
-use Rattle.model.specs.Perform.{Place, placeIn}
+use Rattle.model.specs.Perform.{placeIn}
 use Rattle.lookup.specs.Sized.{sound-sized, slot-fits}
 use Rattle.lookup.specs.States.{state-byte}
 use Rattle.reading.specs.Rows.{read-rows}

@@ -6,7 +6,7 @@ use Rattle.lines.proofs.output.body_line.Statement.{statement}
 use Rattle.lines.proofs.output.body_line.Tie as tie
 
 returns : tie.Need-returns
-returns c = body-line _ _ _ refl (c .before .before .before .before .pre) (c .before .put-argument .ensures)
+returns c = body-line _ _ (c .before .before .before .before .args .body .now) refl (search needs) (c .before .put-argument .ensures)
 
 pub body-line-spec : {M : Type 1} → statement M
 body-line-spec =

@@ -10,11 +10,11 @@ use Rattle.lines.proofs.output.number_line.Tie as tie
 
 returns : tie.Need-returns
 unfolding padded numberLine decimal pick zeros
-returns c = (simp (lt-ltb _ _ (c .if1 .taken)), simp (lt-ltb _ _ (c .if1 .taken)), omega arith)
+returns c = record { text = simp (lt-ltb _ _ (c .if1 .taken)); long = simp (lt-ltb _ _ (c .if1 .taken)); within = omega arith }
 
 returns-2 : tie.Need-returns-2
 unfolding padded numberLine decimal pick zeros
-returns-2 c = (simp (le-ltb _ _ (c .if1 .left)), simp (le-ltb _ _ (c .if1 .left)), omega arith)
+returns-2 c = record { text = simp (le-ltb _ _ (c .if1 .left)); long = simp (le-ltb _ _ (c .if1 .left)); within = omega arith }
 
 pub number-line-spec : {M : Type 1} → statement M
 number-line-spec = tie.close (tie.spec (λ c. search needs) (λ c. search needs) (λ c. search needs) returns returns-2)

@@ -35,7 +35,11 @@ returns c =
     let a = c .before .args in
     let s = a .text .now in
     let short : length s < a .from = c .if1 .taken in
-    (sym (first-none (length s) (ends s (a .from)) (λ k l. before-from s (a .from) k (omega arith))), search needs)
+    record {
+      place = sym (first-none (length s) (ends s (a .from)) (λ k l. before-from s (a .from) k (omega arith)));
+      within = search needs;
+      behind = λ l. absurd (omega arith);
+    }
 
 loop-holds : tie.Need-loop-holds Inv-loop μ-loop
 loop-holds c =
@@ -47,7 +51,11 @@ unfolding lineEnd
 returns-2 c =
     let t = c .before .before in
     let i = t .before .loop in
-    (missing-found (i .inv .0) (t .loop-test .taken) (and-true (le-leb _ _ (i .inv .1)) (eq-eqb _ _ (c .if2 .taken))), search needs)
+    record {
+      place = missing-found (i .inv .0) (t .loop-test .taken) (and-true (le-leb _ _ (i .inv .1)) (eq-eqb _ _ (c .if2 .taken)));
+      within = search needs;
+      behind = λ l. i .inv .1;
+    }
 
 loop-again : tie.Need-loop-again Inv-loop μ-loop
 loop-again c =
@@ -58,7 +66,7 @@ loop-again c =
 
 returns-3 : tie.Need-returns-3 Inv-loop μ-loop
 unfolding lineEnd
-returns-3 c = (missing-end (c .before .loop .inv .0) (c .loop-test .left), search needs)
+returns-3 c = record { place = missing-end (c .before .loop .inv .0) (c .loop-test .left); within = search needs; behind = λ l. l }
 
 pub line-end-spec : {M : Type 1} → statement M
 line-end-spec =

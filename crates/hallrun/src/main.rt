@@ -1,0 +1,23 @@
+// Reads lines from standard input, makes the call of each on one record store, and prints the answers.
+mod answer;
+mod print;
+
+use libc::STDIN_FILENO;
+
+// Every line of the text, one after the other.
+fn answer_all(store: &mut [u8], list: &mut [u8], text: &[u8]) {
+    let mut at = 0;
+    while at < text.len() {
+        let end = lines::text::line_end(text, at);
+        answer::answer(store, list, &text[at..end]);
+        at = end + 1;
+    }
+}
+
+fn main() {
+    let mut store = [0u8; 45092];
+    let mut list = [0u8; 20480];
+    let mut text = [0u8; 4096];
+    let size = io::read_full(STDIN_FILENO, &mut text);
+    answer_all(&mut store, &mut list, &text[..size]);
+}
