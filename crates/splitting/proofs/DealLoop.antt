@@ -1,8 +1,8 @@
 -- The loop of `deal_out`: the first t records of unit n are dealt out to units n and m, and what both units hold behind is as it was.
 -- Assumes nothing.
-use Prim.Native.Nat.{ℕ, zero, suc, _+_, _*_, _-_, _≤_, _<_}
+use Prim.Native.Nat.{ℕ, suc, _+_, _-_, _≤_, _<_}
 use mathlib.Core.Path.{_≡_, refl, sym, ap, _∙_}
-use mathlib.Core.List.{List, [], _∷_, _++_}
+use mathlib.Core.List.{List}
 use mathlib.Core.Bool.{Bool, true, false, not, _&&_}
 use native.Mathlib.Omega.{arith}
 use native.Mathlib.Numerals.{add-one}
@@ -13,7 +13,7 @@ use Rattle.buffer.specs.Choice.{pick}
 use Rattle.buffer.specs.ChoiceLaws.{by-pick, pick-true, pick-false}
 use Rattle.buffer.specs.Bytes.{byte, zeros, splice}
 use Rattle.group.specs.Widths.{slotBytes}
-use Rattle.model.specs.Units.{splitPointer, unitOf, moves}
+use Rattle.model.specs.Units.{unitOf, moves}
 use Rattle.model.specs.Layout.{Store, bytes, view, slotAt, keyOf, withSlots}
 use Rattle.model.specs.LayoutLaws.{Shaped, bytes-ext, view-bytes, view-shaped, bytes-view}
 use Rattle.model.specs.RunLaws.{upd2}
@@ -114,9 +114,6 @@ pub record Dealing (s₀ : List ℕ) (n m count : ℕ) (s : List ℕ) (stay left
   pub holds : Holds s₀ s (withSlots (view s₀) (dealing (view s₀) n m t))
 
 module _ (s₀ : List ℕ) (n m count : ℕ) (sp : Split s₀ n m) (hc : count ≤ byte s₀ 5) where
-  v₀ : Store
-  v₀ = view s₀
-
   apart : n ≡ m → ⊥
   apart e = omega (arith, sp .apart)
 

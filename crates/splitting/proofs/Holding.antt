@@ -1,12 +1,12 @@
 -- A store that is changed step by step: the bytes after each step are those of the parts changed so far. Assumes nothing.
-use Prim.Native.Nat.{ℕ, _+_, _≤_, _<_}
+use Prim.Native.Nat.{ℕ}
 use mathlib.Core.Path.{_≡_, refl, sym, ap, _∙_}
 use mathlib.Core.List.{List}
 use native.Mathlib.Omega.{arith}
 use lib.ListN.{length}
 use lib.Seq.{getD-take}
 use Rattle.buffer.specs.Bytes.{byte}
-use Rattle.model.specs.Layout.{Store, bytes, view, storeBytes, withSlots}
+use Rattle.model.specs.Layout.{Store, bytes, view, withSlots}
 use Rattle.model.specs.LayoutLaws.{Shaped, Same, Long, bytes-view, view-shaped, byte-front}
 use Rattle.model.specs.StoreLaws.{size-of, same-long, size-at, long-at, cstate-at}
 use Rattle.model.specs.ChangeLaws.{on-bytes}

@@ -4,7 +4,9 @@ pub mod StepLaws
 pub mod Places
 pub mod DealLoop
 pub mod MergeLoop
-pub mod CheckLoops
 pub mod Added
 pub mod Removed
 pub mod Rows
+pub mod Products
+pub mod Ranks
+pub mod RankLoop

@@ -12,7 +12,6 @@ use Rattle.buffer.specs.Choice.{pick}
 use Rattle.buffer.specs.ChoiceLaws.{by-pick, pick-false}
 use Rattle.buffer.specs.Bytes.{byte, zeros, splice}
 use Rattle.group.specs.Widths.{slotBytes}
-use Rattle.model.specs.Units.{splitPointer}
 use Rattle.model.specs.Layout.{Store, bytes, view, slotAt, withSlots}
 use Rattle.model.specs.LayoutLaws.{Shaped, bytes-ext, view-bytes, view-shaped, bytes-view}
 use Rattle.model.specs.RunLaws.{upd2}

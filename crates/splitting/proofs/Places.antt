@@ -10,18 +10,18 @@ use lib.ListN.{length, set, length-set}
 use lib.Seq.{getD-set-other}
 use borrow.Author.Tests.{eq-eqb, ne-eqb, eqb-true, eqb-false, lt-ltb, le-leb}
 use Rattle.buffer.specs.Choice.{pick}
-use Rattle.buffer.specs.ChoiceLaws.{by-test, by-pick, pick-true, pick-false}
-use Rattle.buffer.specs.TestLaws.{and-ext, same-test}
+use Rattle.buffer.specs.ChoiceLaws.{by-pick, pick-true, pick-false}
+use Rattle.buffer.specs.TestLaws.{and-ext}
 use Rattle.buffer.specs.Bytes.{byte, zeros, splice}
 use Rattle.buffer.specs.Table.{upd}
 use Rattle.group.specs.Widths.{slotBytes, checkBytes}
 use Rattle.model.specs.Units.{splitPointer, touched}
-use Rattle.model.specs.Layout.{Store, bytes, view, slotAt, checkAt, withSlots, withChecks}
+use Rattle.model.specs.Layout.{Store, bytes, view, slotAt, checkAt, withChecks}
 use Rattle.model.specs.LayoutLaws.{Shaped, Same, Long, bytes-ext, bytes-view, view-shaped}
 use Rattle.model.specs.RunLaws.{run}
-use Rattle.model.specs.StoreLaws.{withFront, withDstates, withCstates, slots-ext, slots-clear, slots-within, checks-none, checks-ext, checks-clear, checks-within, size-of, front-set, dstate-set, cstate-set}
+use Rattle.model.specs.StoreLaws.{withFront, withCstates, slots-ext, slots-clear, slots-within, checks-none, checks-ext, checks-clear, checks-within, size-of, front-set, dstate-set, cstate-set}
 use Rattle.splitting.specs.Steps.{cleared, marked, levelled, wiped, madeRecord, remade, isUnit, inGroup, ofFirst, ofBoth}
-use Rattle.splitting.proofs.Holding.{Change, Holds, holds-start, holds-step}
+use Rattle.splitting.proofs.Holding.{Change, holds-start, holds-step}
 
 -- ---- a run to the end of a unit
 run-rest : (f : ℕ → ℕ → List ℕ) (u q m : ℕ) (z : List ℕ) (w r : ℕ) → r < q + m → run f u q m (λ _. z) w r ≡ pick (eqb w u && leb q r) z (f w r)
@@ -59,7 +59,7 @@ clear-check s s′ b from to n c l eb ef et en hc es =
     ∙ ap (λ t. pick t (zeros checkBytes) (v .check d r)) (ap (λ t. eqb d c && t) (le-leb 0 r (omega arith)) ∙ and-true (eqb d c)))
 
 -- ---- the three places of a group
-by-place : {A : Type 0} (c g : ℕ) (a : ℕ → A) (y : A)
+pub by-place : {A : Type 0} (c g : ℕ) (a : ℕ → A) (y : A)
     → pick (eqb c (3 * g + 2)) (a 2) (pick (eqb c (3 * g + 1)) (a 1) (pick (eqb c (3 * g)) (a 0) y)) ≡ pick (eqb (c / 3) g) (a (c % 3)) y
 by-place c g a y =
     by-pick (λ x. x ≡ pick (eqb (c / 3) g) (a (c % 3)) y) (eqb c (3 * g + 2)) _ _ (λ e. at 2 (omega arith) (eqb-true c (3 * g + 2) e)) (λ e2.
@@ -156,18 +156,6 @@ pick-or-and false true false x y = refl
 pick-or-and false false s x y = refl
 
 module _ (p q o : ℕ → Bool) (e : (c : ℕ) → (p c || q c) ≡ o c) (v : Store) where
-  pub levelled-twice : (k : ℕ) → Same (levelled q k (levelled p k v)) (levelled o k v)
-  unfolding levelled withCstates
-  levelled-twice k = record {
-    front = refl;
-    size = refl;
-    dstate = λ u a. refl;
-    cstate = λ c a. pick-or (p c) (q c) (pick (ltb (c % 3) k) 1 0) (v .cstate c) ∙ ap (λ t. pick t (pick (ltb (c % 3) k) 1 0) (v .cstate c)) (e c);
-    slot = λ u r a b. refl;
-    check = λ c r a b. refl;
-    rest = refl;
-  }
-
   pub wiped-twice : Same (wiped q (wiped p v)) (wiped o v)
   unfolding wiped withChecks
   wiped-twice = record {

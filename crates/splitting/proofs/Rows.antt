@@ -1,17 +1,16 @@
 -- What grow, shrink and raise may rely on where their rows give 0, and what a sound store gives them. Assumes nothing.
-use Prim.Native.Nat.{ℕ, suc, pred, _+_, _-_, _/_, _≤_, _<_}
-use mathlib.Core.Path.{_≡_, refl, sym, ap, _∙_}
-use mathlib.Core.Bool.{Bool, true, false, not, _||_}
+use Prim.Native.Nat.{ℕ, suc, pred, _+_, _-_, _≤_, _<_}
+use mathlib.Core.Path.{_≡_, refl, sym, _∙_}
+use mathlib.Core.Bool.{Bool, true, false, _||_}
 use mathlib.Core.List.{List}
 use native.Mathlib.Omega.{arith}
-use lib.Dec.{eqb, ltb, leb}
+use lib.Dec.{eqb}
 use lib.ListN.{set}
 use borrow.Author.Tests.{not-false, leb-false, ltb-false, ne-eqb}
-use Rattle.buffer.specs.TestLaws.{not-both}
 use Rattle.buffer.specs.Bytes.{byte, zeros}
 use Rattle.group.specs.Widths.{checkBytes}
 use Rattle.model.specs.Units.{splitPointer}
-use Rattle.model.specs.Layout.{view, bytes, unitsIn, levelIn}
+use Rattle.model.specs.Layout.{view, bytes, levelIn}
 use Rattle.model.specs.LayoutLaws.{Long, bytes-view, view-shaped}
 use Rattle.model.specs.StoreLaws.{withFront, size-of, units-of, level-of, front-set}
 use Rattle.model.specs.Reads.{fillIn}

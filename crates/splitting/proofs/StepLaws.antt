@@ -1,15 +1,15 @@
 -- The steps of grow and shrink are changes of a store's parts. Assumes nothing.
 use Prim.Native.Nat.{ℕ, _+_, _*_, _/_, _%_, _<_}
-use mathlib.Core.Path.{_≡_, refl, sym, ap, _∙_}
+use mathlib.Core.Path.{_≡_, refl, ap, _∙_}
 use mathlib.Core.List.{List}
-use mathlib.Core.Bool.{Bool, _&&_, _||_}
+use mathlib.Core.Bool.{Bool, _&&_}
 use native.Mathlib.Omega.{arith}
-use lib.Dec.{eqb, leb, ltb}
+use lib.Dec.{eqb, leb}
 use lib.ListN.{length, set, length-set}
 use lib.Seq.{getD-set-other}
 use Rattle.buffer.specs.Choice.{pick}
 use Rattle.buffer.specs.ChoiceLaws.{by-pick}
-use Rattle.buffer.specs.Bytes.{byte, zeros}
+use Rattle.buffer.specs.Bytes.{zeros}
 use Rattle.buffer.specs.ByteLaws.{length-zeros}
 use Rattle.buffer.specs.Table.{upd}
 use Rattle.group.specs.Widths.{bodyBytes, slotBytes, checkBytes}
@@ -17,7 +17,7 @@ use Rattle.group.specs.CheckRecordLaws.{checkRecord-ext, length-checkRecord}
 use Rattle.model.specs.Layout.{Store, withSlots, withChecks}
 use Rattle.model.specs.LayoutLaws.{Shaped, Same}
 use Rattle.model.specs.StoreLaws.{withFront, withDstates, withCstates}
-use Rattle.splitting.specs.Steps.{cleared, marked, levelled, wiped, madeRecord, unitMade, remade}
+use Rattle.splitting.specs.Steps.{cleared, marked, levelled, wiped, madeRecord, remade}
 use Rattle.splitting.proofs.Holding.{Change}
 
 -- ---- changes of one part
@@ -31,7 +31,7 @@ slots-change f long same = record {
   rest = λ t. refl;
 }
 
-checks-change : (f : Store → ℕ → ℕ → List ℕ) → ((t : Store) → Shaped t → (c r : ℕ) → c < 12 → r < t .size → length (f t c r) ≡ checkBytes)
+pub checks-change : (f : Store → ℕ → ℕ → List ℕ) → ((t : Store) → Shaped t → (c r : ℕ) → c < 12 → r < t .size → length (f t c r) ≡ checkBytes)
     → ((s t : Store) → Same s t → (c r : ℕ) → c < 12 → r < t .size → f s c r ≡ f t c r) → Change (λ t. withChecks t (f t))
 unfolding withChecks
 checks-change f long same = record {

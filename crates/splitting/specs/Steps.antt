@@ -1,5 +1,5 @@
 -- The steps of grow and shrink on the parts of a store, and what the functions that take them ask for. Assumes nothing.
-use Prim.Native.Nat.{ℕ, _+_, _*_, _/_, _%_, _≤_, _<_}
+use Prim.Native.Nat.{ℕ, _+_, _*_, _/_, _%_, _<_}
 use mathlib.Core.Path.{_≡_}
 use mathlib.Core.List.{List}
 use mathlib.Core.Bool.{Bool, _&&_}
@@ -7,14 +7,28 @@ use lib.Dec.{eqb, ltb, leb}
 use lib.ListN.{set}
 use Rattle.buffer.specs.Choice.{pick}
 use Rattle.buffer.specs.Bytes.{byte, zeros}
-use Rattle.buffer.specs.Table.{upd}
+use Rattle.buffer.specs.Range.{entries}
+use Rattle.buffer.specs.Table.{tab, upd}
+use Rattle.field.specs.Byte.{scale}
 use Rattle.group.specs.Widths.{slotBytes, checkBytes}
+use Rattle.group.specs.Parity.{coefficient}
 use Rattle.group.specs.CheckRecord.{checkRecord}
 use Rattle.model.specs.Units.{splitPointer, touched}
 use Rattle.model.specs.Layout.{Store, view, withSlots, withChecks}
-use Rattle.model.specs.Reads.{fillIn}
+use Rattle.model.specs.LayoutLaws.{Long}
 use Rattle.model.specs.StoreLaws.{withFront, withDstates, withCstates}
 use Rattle.lookup.specs.Sized.{Sized}
+
+-- the products of every byte with the coefficients of check place 0, a row for each place of a group. The other check places have these coefficients
+-- in another order.
+unfoldable pub scaledRows : List ℕ
+scaledRows = tab 4 (λ p. entries 256 (scale (coefficient p 0)))
+
+-- rank r of group g
+pub record RankIn (s : List ℕ) (g r : ℕ) : Type 0 where
+  pub long : Long s
+  pub group : g < 4
+  pub rank : r < byte s 5
 
 -- unit m of a store, and the unit n that it is split from
 pub record Split (s : List ℕ) (n m : ℕ) : Type 0 where
@@ -60,9 +74,13 @@ wiped p v = withChecks v (λ c r. pick (p c) (zeros checkBytes) (v .check c r))
 unfoldable pub madeRecord : Store → ℕ → ℕ → List ℕ
 madeRecord v c r = checkRecord (c % 3) (λ p. v .slot (4 * (c / 3) + p) r)
 
--- check unit c is made anew
-unfoldable pub unitMade : Store → ℕ → Store
-unitMade v c = withChecks v (λ d r. pick (eqb d c) (madeRecord v d r) (v .check d r))
+-- check unit c, if it is in service, has the record z at rank r
+unfoldable pub putCheck : ℕ → ℕ → List ℕ → Store → Store
+putCheck c r z v = withChecks v (λ d q. pick (eqb d c && (eqb q r && eqb (v .cstate d) 1)) z (v .check d q))
+
+-- the records at rank r of the check units in service of group g are made from the data
+unfoldable pub rankMade : ℕ → ℕ → Store → Store
+rankMade g r v = withChecks v (λ c q. pick (inGroup g c && (eqb q r && eqb (v .cstate c) 1)) (madeRecord v c q) (v .check c q))
 
 -- those in service are made anew
 unfoldable pub remade : (ℕ → Bool) → Store → Store

@@ -1,6 +1,7 @@
 // Growing and shrinking a store by a unit, and raising its level.
 pub mod dealing;
 pub mod making;
+pub mod parities;
 pub mod states;
 
 ghost use mathlib.Core.Path.{_≡_};
@@ -23,12 +24,12 @@ fn add_unit(s: &mut [u8], m: u8)
 {
     let n = lookup::split_pointer(m);
     let level = s[7];
-    let table = field::table();
+    let rows = parities::scaled_rows();
     dealing::deal_out(s, n, m);
     states::mark(s, m + 1, m, 1);
     states::set_first(s, m, level);
     states::set_first(s, n, level);
-    making::make_groups(s, n, m, &table);
+    making::make_groups(s, n, m, &rows);
 }
 
 // Removes unit m, the last: its records go behind those of the unit that it was split from.
@@ -37,12 +38,12 @@ fn remove_unit(s: &mut [u8], m: u8)
     ensures { λ _. ⌜ now (s .exit) ≡ bytes (shrunk (view (now (s .entry))) m) ⌝ }
 {
     let n = lookup::split_pointer(m);
-    let table = field::table();
+    let rows = parities::scaled_rows();
     dealing::merge_into(s, n, m);
     states::mark(s, m, m, 0);
     states::set_first(s, m, 0);
     making::clear_first(s, m);
-    making::make_groups(s, n, m, &table);
+    making::make_groups(s, n, m, &rows);
 }
 
 // The number of a grow, for a store that is sound or not.

@@ -1,80 +1,113 @@
 // Check units made anew from the data, and cleared.
+use crate::parities;
 ghost use mathlib.Core.Path.{_≡_};
-ghost use Prim.Native.Nat.{_+_, _*_, _/_, _<_};
-ghost use Rattle.field.specs.Table.{products};
+ghost use mathlib.Core.List.{_++_};
+ghost use Prim.Native.Nat.{_+_, _*_, _<_};
+ghost use lib.ListN.{length, take, drop};
+ghost use Rattle.buffer.specs.Table.{tab};
+ghost use Rattle.group.specs.Widths.{keyBytes, keysBytes, bodyBytes};
+ghost use Rattle.group.specs.Parity.{parity};
 ghost use Rattle.model.specs.Units.{splitPointer};
 ghost use Rattle.model.specs.Layout.{bytes, view};
 ghost use Rattle.model.specs.LayoutLaws.{Long};
 ghost use Rattle.model.specs.StoreLaws.{CheckIn};
-ghost use Rattle.splitting.specs.Steps.{madeRecord, remade, wiped, unitMade, isUnit, inGroup, ofFirst, ofBoth};
+ghost use Rattle.splitting.specs.Steps.{RankIn, scaledRows, putCheck, rankMade, remade, wiped, isUnit, inGroup, ofFirst, ofBoth};
 
-// The check record of check unit c at rank r, from the slots of its group: they follow one after the other in an empty record.
-fn record_of(s: &[u8], c: u8, r: u8, table: &[u8; 256]) -> [u8; 32]
-    requires { ⌜ CheckIn (now s) c r × (now table ≡ products) ⌝ }
-    ensures { λ z. ⌜ z ≡ madeRecord (view (now (s .entry))) c r ⌝ }
+// The four keys of rank r of group g, one behind the other.
+fn copy_keys(keys: &mut [u8], s: &[u8], g: u8, r: u8)
+    requires { ⌜ RankIn (now s) g r × (length (now keys) ≡ keysBytes) ⌝ }
+    ensures { λ _. ⌜ now (keys .exit) ≡ tab 4 (λ p. take keyBytes (view (now (s .entry)) .slot (4 * g + p) r)) ⌝ }
 {
     let b = s[5];
-    let first = 4 * (c / 3);
-    let mut made = [0u8; 32];
+    let mut at = 0;
     let mut p: u8 = 0;
     while p < 4 {
-        let at = lookup::slot_at(b, first + p, r);
-        group::follow(
-            &mut made,
-            c % 3,
-            p,
-            &s[at..at + 4],
-            &s[at + 4..at + 20],
-            table,
-        );
+        let from = lookup::slot_at(b, 4 * g + p, r);
+        buffer::copy(&mut keys[at..at + 4], &s[from..from + 4]);
+        at += 4;
         p += 1;
     }
-    made
 }
 
-// Makes check unit c anew, rank by rank.
-fn make_unit(s: &mut [u8], c: u8, table: &[u8; 256])
-    requires { ⌜ Long (now s) × (c < 12) × (now table ≡ products) ⌝ }
-    ensures { λ _. ⌜ now (s .exit) ≡ bytes (unitMade (view (now (s .entry))) c) ⌝ }
+// The parities of rank r of group g at the three check places.
+fn fill_parities(
+    x: &mut [u8],
+    y: &mut [u8],
+    z: &mut [u8],
+    s: &[u8],
+    g: u8,
+    r: u8,
+    rows: &[u8; 1024],
+)
+    requires { ⌜ RankIn (now s) g r × (length (now x) ≡ bodyBytes) × (length (now y) ≡ bodyBytes) × (length (now z) ≡ bodyBytes) × (now rows ≡ scaledRows) ⌝ }
+    ensures { λ _. ⌜ (now (x .exit) ≡ parity 0 (λ p. drop keyBytes (view (now (s .entry)) .slot (4 * g + p) r))) × (now (y .exit) ≡ parity 1 (λ p. drop keyBytes (view (now (s .entry)) .slot (4 * g + p) r))) × (now (z .exit) ≡ parity 2 (λ p. drop keyBytes (view (now (s .entry)) .slot (4 * g + p) r))) ⌝ }
+{
+    let size = s[5];
+    let a = lookup::slot_at(size, 4 * g, r);
+    let b = lookup::slot_at(size, 4 * g + 1, r);
+    let c = lookup::slot_at(size, 4 * g + 2, r);
+    let d = lookup::slot_at(size, 4 * g + 3, r);
+    parities::fill(
+        x,
+        y,
+        z,
+        &s[a + 4..a + 20],
+        &s[b + 4..b + 20],
+        &s[c + 4..c + 20],
+        &s[d + 4..d + 20],
+        rows,
+    );
+}
+
+// Check unit c, if it is in service, gets these keys and this parity at rank r.
+fn put_check(s: &mut [u8], c: u8, r: u8, keys: &[u8], parity: &[u8])
+    requires { ⌜ CheckIn (now s) c r × (length (now keys) ≡ keysBytes) × (length (now parity) ≡ bodyBytes) ⌝ }
+    ensures { λ _. ⌜ now (s .exit) ≡ bytes (putCheck c r (now (keys .entry) ++ now (parity .entry)) (view (now (s .entry)))) ⌝ }
+{
+    if s[24 + buffer::wide(c)] == 1 {
+        let at = lookup::check_at(s[5], c, r);
+        buffer::copy(&mut s[at..at + 16], keys);
+        buffer::copy(&mut s[at + 16..at + 32], parity);
+    }
+}
+
+// Makes the check records in service of group g at rank r anew.
+fn make_rank(s: &mut [u8], g: u8, r: u8, rows: &[u8; 1024])
+    requires { ⌜ RankIn (now s) g r × (now rows ≡ scaledRows) ⌝ }
+    ensures { λ _. ⌜ now (s .exit) ≡ bytes (rankMade g r (view (now (s .entry)))) ⌝ }
+{
+    let mut keys = [0u8; 16];
+    copy_keys(&mut keys, s, g, r);
+    let mut x = [0u8; 16];
+    let mut y = [0u8; 16];
+    let mut z = [0u8; 16];
+    fill_parities(&mut x, &mut y, &mut z, s, g, r, rows);
+    put_check(s, 3 * g, r, &keys, &x);
+    put_check(s, 3 * g + 1, r, &keys, &y);
+    put_check(s, 3 * g + 2, r, &keys, &z);
+}
+
+// Makes the check units in service of group g anew, rank by rank.
+fn make_group(s: &mut [u8], g: u8, rows: &[u8; 1024])
+    requires { ⌜ Long (now s) × (g < 4) × (now rows ≡ scaledRows) ⌝ }
+    ensures { λ _. ⌜ now (s .exit) ≡ bytes (remade (inGroup g) (view (now (s .entry)))) ⌝ }
 {
     let b = s[5];
     let mut r: u8 = 0;
     while r < b {
-        let made = record_of(s, c, r, table);
-        let at = lookup::check_at(b, c, r);
-        buffer::copy(&mut s[at..at + 32], &made);
+        make_rank(s, g, r, rows);
         r += 1;
     }
 }
 
-// Makes check unit c anew if it is in service.
-fn make_serving(s: &mut [u8], c: u8, table: &[u8; 256])
-    requires { ⌜ Long (now s) × (c < 12) × (now table ≡ products) ⌝ }
-    ensures { λ _. ⌜ now (s .exit) ≡ bytes (remade (isUnit c) (view (now (s .entry)))) ⌝ }
-{
-    if s[24 + buffer::wide(c)] == 1 {
-        make_unit(s, c, table);
-    }
-}
-
-// Makes the check units in service of group g anew.
-fn make_group(s: &mut [u8], g: u8, table: &[u8; 256])
-    requires { ⌜ Long (now s) × (g < 4) × (now table ≡ products) ⌝ }
-    ensures { λ _. ⌜ now (s .exit) ≡ bytes (remade (inGroup g) (view (now (s .entry)))) ⌝ }
-{
-    make_serving(s, 3 * g, table);
-    make_serving(s, 3 * g + 1, table);
-    make_serving(s, 3 * g + 2, table);
-}
-
 // Makes the check units in service of the groups of unit m and of unit n, which m is split from, anew.
-pub fn make_groups(s: &mut [u8], n: u8, m: u8, table: &[u8; 256])
-    requires { ⌜ Long (now s) × (n ≡ splitPointer m) × (n < m) × (m < 16) × (now table ≡ products) ⌝ }
+pub fn make_groups(s: &mut [u8], n: u8, m: u8, rows: &[u8; 1024])
+    requires { ⌜ Long (now s) × (n ≡ splitPointer m) × (n < m) × (m < 16) × (now rows ≡ scaledRows) ⌝ }
     ensures { λ _. ⌜ now (s .exit) ≡ bytes (remade (ofBoth m) (view (now (s .entry)))) ⌝ }
 {
-    make_group(s, m / 4, table);
+    make_group(s, m / 4, rows);
     if n / 4 != m / 4 {
-        make_group(s, n / 4, table);
+        make_group(s, n / 4, rows);
     }
 }
 

@@ -1,8 +1,6 @@
 -- `splitting::add_unit` meets its contract. Assumes nothing.
 use borrow.Author.Needs.{needs}
-use mathlib.Core.Path.{_≡_, _∙_}
 use native.Mathlib.Omega.{arith}
-use Rattle.model.specs.Layout.{view, levelIn}
 use Rattle.splitting.specs.Steps.{Split}
 use Rattle.splitting.proofs.Holding.{holds-long}
 use Rattle.model.specs.StoreLaws.{level-of}
@@ -56,7 +54,7 @@ make-groups-requires c κs =
     let p = t .before .before in
     let e = p .before .before in
     let sp : Split (e .args .s .now) (p .split-pointer .result) (e .args .m) = record { sized = e .pre .0; from = p .split-pointer .ensures .0; apart = p .split-pointer .ensures .1; unit = e .pre .2 } in
-    (holds-long (old-holds sp (d .deal-out .ensures) (k .mark .ensures) _ (f .set-first .ensures) (f2 .set-first2 .ensures)), sp .from, sp .apart, sp .unit, t .table .ensures)
+    (holds-long (old-holds sp (d .deal-out .ensures) (k .mark .ensures) _ (f .set-first .ensures) (f2 .set-first2 .ensures)), sp .from, sp .apart, sp .unit, t .scaled-rows .ensures)
 
 returns : tie.Need-returns
 returns c =

@@ -1,11 +1,5 @@
 -- `splitting::remove_unit` meets its contract. Assumes nothing.
 use borrow.Author.Needs.{needs}
-use mathlib.Core.Path.{_≡_, ap, _∙_}
-use native.Mathlib.Omega.{arith}
-use Prim.Native.Nat.{_+_, _≤_}
-use Rattle.buffer.specs.Bytes.{byte}
-use Rattle.model.specs.Layout.{view}
-use Rattle.model.specs.Reads.{fillIn}
 use Rattle.splitting.specs.Steps.{Split}
 use Rattle.splitting.proofs.Holding.{holds-long}
 use Rattle.splitting.proofs.Removed.{merged-holds, marked-holds, states-hold, wiped-holds, all-removed}
@@ -55,7 +49,7 @@ make-groups-requires c κs =
     let p = t .before in
     let e = p .before .before in
     let sp : Split (e .args .s .now) (p .split-pointer .result) (e .args .m) = record { sized = e .pre .0; from = p .split-pointer .ensures .0; apart = p .split-pointer .ensures .1; unit = e .pre .3 } in
-    (holds-long (wiped-holds sp (d .merge-into .ensures) (k .mark .ensures) (f .set-first .ensures) (w .clear-first .ensures)), sp .from, sp .apart, sp .unit, t .table .ensures)
+    (holds-long (wiped-holds sp (d .merge-into .ensures) (k .mark .ensures) (f .set-first .ensures) (w .clear-first .ensures)), sp .from, sp .apart, sp .unit, t .scaled-rows .ensures)
 
 returns : tie.Need-returns
 returns c =

@@ -1,12 +1,9 @@
 -- `splitting::shrink` meets its contract. Assumes nothing.
 use borrow.Author.Needs.{needs}
-use mathlib.Core.Path.{_≡_, refl, ap, _∙_}
+use mathlib.Core.Path.{ap, _∙_}
 use native.Mathlib.Omega.{arith}
-use Prim.Native.Nat.{pred, _+_, _-_, _≤_}
-use Rattle.buffer.specs.Bytes.{byte}
-use Rattle.model.specs.Units.{splitPointer}
-use Rattle.model.specs.Layout.{bytes, view, unitsIn}
-use Rattle.model.specs.Reads.{fillIn}
+use Prim.Native.Nat.{pred, _-_}
+use Rattle.model.specs.Layout.{bytes, view}
 use Rattle.model.specs.Changes.{shrunk}
 use Rattle.model.specs.Perform.{grantedIn}
 use Rattle.model.specs.PerformLaws.{of-shrink, refused, granted}

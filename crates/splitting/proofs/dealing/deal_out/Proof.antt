@@ -1,11 +1,9 @@
 -- `splitting::dealing::deal_out` meets its contract. Assumes nothing.
 use borrow.Author.Needs.{needs}
-use mathlib.Core.Path.{_≡_, refl, sym, _∙_}
 use mathlib.Core.Logic.{⊎-elim}
-use Prim.Native.Nat.{ℕ, _-_, _≤_}
+use Prim.Native.Nat.{_-_}
 use native.Mathlib.Omega.{arith}
-use Rattle.buffer.specs.Bytes.{byte}
-use Rattle.splitting.proofs.Holding.{holds-step, holds-five, holds-long, holds-length}
+use Rattle.splitting.proofs.Holding.{holds-step, holds-five, holds-long}
 use Rattle.splitting.proofs.StepLaws.{cleared-change}
 use Rattle.splitting.proofs.DealLoop.{Dealing, dealing-start, deal-goes, deal-stays, deal-from, deal-to, dealing-end}
 use Rattle.splitting.proofs.dealing.deal_out.Statement.{statement}

@@ -1,10 +1,9 @@
 -- `splitting::dealing::merge_into` meets its contract. Assumes nothing.
 use borrow.Author.Needs.{needs}
-use mathlib.Core.Path.{_≡_, refl, sym, _∙_}
-use Prim.Native.Nat.{ℕ, _-_, _+_, _≤_}
+use Prim.Native.Nat.{_-_, _+_, _≤_}
 use native.Mathlib.Omega.{arith}
 use Rattle.buffer.specs.Bytes.{byte}
-use Rattle.splitting.proofs.Holding.{holds-step, holds-five, holds-long, holds-length}
+use Rattle.splitting.proofs.Holding.{holds-step, holds-long}
 use Rattle.splitting.proofs.StepLaws.{cleared-change}
 use Rattle.splitting.proofs.MergeLoop.{Merging, merging-start, merging-turn, merging-from, merging-to, merging-end}
 use Rattle.splitting.proofs.dealing.merge_into.Statement.{statement}

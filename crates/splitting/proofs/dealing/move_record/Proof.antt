@@ -1,6 +1,5 @@
 -- `splitting::dealing::move_record` meets its contract. Assumes nothing.
 use borrow.Author.Needs.{needs}
-use mathlib.Core.Path.{_∙_}
 use native.Mathlib.Omega.{arith}
 use native.Mathlib.Nat.{add-sub-cancel-left}
 use Rattle.buffer.specs.Bytes.{part, splice}

@@ -1,49 +1,55 @@
 -- `splitting::making::make_group` meets its contract. Assumes nothing.
 use borrow.Author.Needs.{needs}
+use Prim.Native.Nat.{_-_}
 use native.Mathlib.Omega.{arith}
-use Prim.Native.Nat.{_+_, _*_}
-use Rattle.splitting.specs.Steps.{remade, isUnit}
-use Rattle.splitting.proofs.Holding.{holds-start, holds-step, holds-long}
-use Rattle.splitting.proofs.StepLaws.{remade-change}
-use Rattle.splitting.proofs.Places.{remade-twice, three-steps}
+use Rattle.splitting.proofs.RankLoop.{Making, making-start, making-rank, making-turn, making-end}
 use Rattle.splitting.proofs.making.make_group.Statement.{statement}
 use Rattle.splitting.proofs.making.make_group.Tie as tie
 
-make-serving-requires-2 : tie.Need-make-serving-requires-2
-make-serving-requires-2 c κs =
-    let k = c .before .before .before in
-    let e = k .before .before .before in
-    (holds-long (holds-step (remade-change (isUnit (3 * e .args .g))) (holds-start (e .pre .0)) (k .make-serving .ensures)), omega (arith, e .pre .1), e .pre .2)
+abbrev Inv-loop : tie.InvT-loop
+Inv-loop s₀ g rows b r₀ s r = Making s₀ g s r
 
-make-serving-requires-3 : tie.Need-make-serving-requires-3
-make-serving-requires-3 c κs =
-    let k2 = c .before .before .before in
-    let k = k2 .before .before .before .before in
-    let e = k .before .before .before in (
-      holds-long (holds-step (remade-change (isUnit (3 * e .args .g + 1))) (holds-step (remade-change (isUnit (3 * e .args .g))) (holds-start (e .pre .0)) (k .make-serving .ensures)) (k2 .make-serving2 .ensures)),
-      omega (arith, e .pre .1),
-      e .pre .2,
-    )
+abbrev μ-loop : tie.MeasureT-loop
+μ-loop s₀ g rows b r₀ s r = b - r
 
-returns : tie.Need-returns
+loop-holds : tie.Need-loop-holds Inv-loop μ-loop
+loop-holds c = let e = c .before .before in making-start (e .args .s .now) (e .args .g) (e .pre .0) (e .pre .1)
+
+make-rank-requires : tie.Need-make-rank-requires Inv-loop μ-loop
+make-rank-requires c κs =
+    let x = c .before in
+    let l = x .before in
+    let e = l .before .before .before in
+    (making-rank (e .args .s .now) (e .args .g) (e .pre .0) (e .pre .1) (l .loop .inv) (x .loop-test .taken), e .pre .2)
+
+add-r : tie.Need-add-r Inv-loop μ-loop
+add-r c = omega (arith, c .before .before .before .before .before .before .slice-known2 .given 5)
+
+loop-again : tie.Need-loop-again Inv-loop μ-loop
+loop-again c =
+    let k = c .before .before in
+    let x = k .before .before in
+    let l = x .before in
+    let e = l .before .before .before in
+    making-turn (e .args .s .now) (e .args .g) (e .pre .0) (e .pre .1) (l .loop .inv) (x .loop-test .taken) (k .make-rank .ensures)
+
+returns : tie.Need-returns Inv-loop μ-loop
 returns c =
-    let k3 = c .before .before in
-    let k2 = k3 .before .before .before .before in
-    let k = k2 .before .before .before .before in
-    let e = k .before .before .before in
-    three-steps remade remade-change remade-twice (e .args .s .now) (e .args .g) (e .pre .0) (k .make-serving .ensures) (k2 .make-serving2 .ensures) (k3 .make-serving3 .ensures)
+    let l = c .before in
+    let e = l .before .before .before in
+    making-end (e .args .s .now) (e .args .g) (e .pre .0) (e .pre .1) (l .loop .inv) (c .loop-test .left)
 
 pub make-group-spec : {M : Type 1} → statement M
 make-group-spec =
     tie.close
     (tie.spec
+    Inv-loop
+    μ-loop
     (λ c. search needs)
-    (λ c κs. search needs)
+    loop-holds
+    make-rank-requires
+    add-r
     (λ c. search needs)
-    (λ c. search needs)
-    make-serving-requires-2
-    (λ c. search needs)
-    (λ c. search needs)
-    make-serving-requires-3
+    loop-again
     (λ c. search needs)
     returns)

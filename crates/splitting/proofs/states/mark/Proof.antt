@@ -1,6 +1,6 @@
 -- `splitting::states::mark` meets its contract. Assumes nothing.
 use borrow.Author.Needs.{needs}
-use mathlib.Core.Path.{ap, _∙_}
+use mathlib.Core.Path.{ap}
 use native.Mathlib.Omega.{arith}
 use lib.ListN.{length-set}
 use Rattle.splitting.proofs.Places.{set-marks}

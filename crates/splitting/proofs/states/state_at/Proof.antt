@@ -1,5 +1,4 @@
 -- `splitting::states::state_at` meets its contract. Assumes nothing.
-use borrow.Author.Needs.{needs}
 use mathlib.Core.Path.{sym}
 use Rattle.buffer.specs.ChoiceLaws.{pick-true, pick-false}
 use Rattle.splitting.proofs.states.state_at.Statement.{statement}

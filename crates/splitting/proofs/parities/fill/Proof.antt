@@ -1,0 +1,70 @@
+-- `splitting::parities::fill` meets its contract. Assumes nothing.
+use borrow.Author.Needs.{needs}
+use Prim.Native.Nat.{_-_}
+use Rattle.buffer.specs.Bytes.{byte}
+use Rattle.buffer.specs.LoopWrites.{Filling, filling-start, filling-turn}
+use Rattle.group.specs.Parity.{parity}
+use Rattle.group.specs.Rebuilding.{fourBodies}
+use Rattle.splitting.proofs.Products.{place-zero, place-one, place-two, parity-filled}
+use Rattle.splitting.proofs.parities.fill.Statement.{statement}
+use Rattle.splitting.proofs.parities.fill.Tie as tie
+
+abbrev Inv-loop : tie.InvT-loop
+Inv-loop x₀ y₀ z₀ a b c d rows i₀ x y z i =
+    Filling (byte (parity 0 (fourBodies a b c d))) x₀ x i × Filling (byte (parity 1 (fourBodies a b c d))) y₀ y i × Filling (byte (parity 2 (fourBodies a b c d))) z₀ z i
+
+abbrev μ-loop : tie.MeasureT-loop
+μ-loop x₀ y₀ z₀ a b c d rows i₀ x y z i = 16 - i
+
+loop-holds : tie.Need-loop-holds Inv-loop μ-loop
+loop-holds c = (filling-start, filling-start, filling-start)
+
+loop-again : tie.Need-loop-again Inv-loop μ-loop
+loop-again c =
+    let m2 = c .before in
+    let m1 = m2 .before in
+    let x = m1 .before .before .before .before .before in
+    let l = x .before in
+    let e = l .before .before .before .before .before .before .before .before in
+    let p = e .pre in
+    let a = e .args in (
+      filling-turn _ (l .loop .inv .0) (search needs) (place-zero (a .a .now) (a .b .now) (a .c .now) (a .d .now) (p .3) (p .4) (p .5) (p .6) (l .loop .i) _ (x .loop-test .taken) (m1 .mix .ensures)),
+      filling-turn _ (l .loop .inv .1) (search needs) (place-one (a .a .now) (a .b .now) (a .c .now) (a .d .now) (p .3) (p .4) (p .5) (p .6) (l .loop .i) _ (x .loop-test .taken) (m2 .mix2 .ensures)),
+      filling-turn _ (l .loop .inv .2) (search needs) (place-two (a .a .now) (a .b .now) (a .c .now) (a .d .now) (p .3) (p .4) (p .5) (p .6) (l .loop .i) _ (x .loop-test .taken) (c .mix3 .ensures)),
+    )
+
+returns : tie.Need-returns Inv-loop μ-loop
+returns c =
+    let l = c .before in
+    let e = l .before .before .before .before .before .before .before .before in
+    let p = e .pre in
+    let a = e .args in (
+      parity-filled (a .a .now) (a .b .now) (a .c .now) (a .d .now) (p .3) (p .4) (p .5) (p .6) 0 (l .loop .inv .0) (p .0) (c .loop-test .left),
+      parity-filled (a .a .now) (a .b .now) (a .c .now) (a .d .now) (p .3) (p .4) (p .5) (p .6) 1 (l .loop .inv .1) (p .1) (c .loop-test .left),
+      parity-filled (a .a .now) (a .b .now) (a .c .now) (a .d .now) (p .3) (p .4) (p .5) (p .6) 2 (l .loop .inv .2) (p .2) (c .loop-test .left),
+    )
+
+pub fill-spec : {M : Type 1} → statement M
+fill-spec =
+    tie.close
+    (tie.spec
+    Inv-loop
+    μ-loop
+    loop-holds
+    (λ c. search needs)
+    (λ c. search needs)
+    (λ c. search needs)
+    (λ c. search needs)
+    (λ c κs. search needs)
+    (λ c. search needs)
+    (λ c κs. search needs)
+    (λ c. search needs)
+    (λ c κs. search needs)
+    (λ c. search needs)
+    (λ c. search needs)
+    (λ c. search needs)
+    loop-again
+    (λ c. search needs)
+    (λ c. search needs)
+    (λ c. search needs)
+    returns)
