@@ -1,4 +1,4 @@
-pub mod UnitLaws
+pub mod UnitCases
 pub mod Sized
 pub mod States
 pub mod Keys

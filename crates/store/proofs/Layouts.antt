@@ -1,32 +1,19 @@
--- Lay out on a slice: what a granted layout's number says, and the bytes that clearing and a header leave. Assumes nothing.
+-- Lay out on a slice: its two ways out, and the bytes that clearing and a header leave. Assumes nothing.
 use Prim.Native.Nat.{ℕ, _+_, _*_, _-_, _≤_, _<_}
 use mathlib.Core.Path.{_≡_, refl, sym, ap, _∙_}
 use mathlib.Core.Bool.{Bool, true, false, not}
 use mathlib.Core.List.{List, [], _∷_, _++_, append-assoc}
 use native.Mathlib.Omega.{arith}
-use lib.Dec.{eqb, ltb}
+use lib.Dec.{eqb}
 use lib.ListN.{length, take, drop}
 use lib.Seq.{drop-drop, drop-at, length-take-le}
-use borrow.Author.Tests.{eqb-true, ltb-false, not-true, not-false}
+use borrow.Author.Tests.{eqb-true, not-true, not-false}
 use Rattle.buffer.specs.Choice.{pick}
 use Rattle.buffer.specs.Bytes.{zeros, splice}
 use Rattle.buffer.specs.ByteLaws.{length-zeros}
 use Rattle.buffer.specs.SpliceLaws.{length-splice}
 use Rattle.model.specs.Layout.{storeBytes, frontOf}
-use Rattle.model.specs.Numbers.{firstOf}
 use Rattle.model.specs.Perform.{outcome, plain, layOut, layOutNumber, laidOut}
-
--- a granted layout has a b from 1 to 64 and a slice that is long enough
-pub granted-layout : (s : List ℕ) (b : ℕ) → layOutNumber s b ≡ 0 → (1 ≤ b) × (b ≤ 64) × (storeBytes b ≤ length s)
-unfolding layOutNumber firstOf pick
-granted-layout s b e = go (ltb b 1) (ltb 64 b) (ltb (length s) (storeBytes b)) refl refl refl e
-  where
-    go : (x y z : Bool) → ltb b 1 ≡ x → ltb 64 b ≡ y → ltb (length s) (storeBytes b) ≡ z
-        → _≡_ {A = ℕ} (pick x 2 (pick y 2 (pick z 7 0))) 0 → (1 ≤ b) × (b ≤ 64) × (storeBytes b ≤ length s)
-    go true y z p q r e = absurd (omega arith)
-    go false true z p q r e = absurd (omega arith)
-    go false false true p q r e = absurd (omega arith)
-    go false false false p q r e = (ltb-false b 1 p, ltb-false 64 b q, ltb-false (length s) (storeBytes b) r)
 
 pub refused : (s : List ℕ) (b r : ℕ) → r ≡ layOutNumber s b → not (eqb r 0) ≡ true → outcome (plain r) s ≡ layOut s b
 unfolding layOut pick

@@ -2,7 +2,7 @@
 use native.Mathlib.Omega.{arith}
 use borrow.Author.Needs.{needs}
 use Rattle.model.specs.Units.{splitPointer}
-use Rattle.lookup.specs.UnitLaws.{power-most}
+use Rattle.model.specs.UnitLaws.{power-most}
 use Rattle.lookup.proofs.split_pointer.Statement.{statement}
 use Rattle.lookup.proofs.split_pointer.Tie as tie
 

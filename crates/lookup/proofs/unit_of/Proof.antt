@@ -4,7 +4,8 @@ use Prim.Native.Nat.{_*_}
 use native.Mathlib.Omega.{arith}
 use native.Mathlib.Nat.{mod-lt}
 use borrow.Author.Needs.{needs}
-use Rattle.lookup.specs.UnitLaws.{unit-split, unit-whole, unit-below}
+use Rattle.lookup.specs.UnitCases.{unit-split, unit-whole}
+use Rattle.model.specs.UnitLaws.{unit-below}
 use Rattle.lookup.proofs.unit_of.Statement.{statement}
 use Rattle.lookup.proofs.unit_of.Tie as tie
 

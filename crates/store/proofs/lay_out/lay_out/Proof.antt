@@ -5,7 +5,8 @@ use mathlib.Core.Path.{sym, ap, _∙_}
 use native.Mathlib.Omega.{arith}
 use Rattle.buffer.specs.Bytes.{zeros, part, splice}
 use Rattle.buffer.specs.SpliceLaws.{length-part}
-use Rattle.store.proofs.Layouts.{granted-layout, refused, granted, is-zero, laid, kept}
+use Rattle.model.proofs.history.Opened.{layout-granted}
+use Rattle.store.proofs.Layouts.{refused, granted, is-zero, laid, kept}
 use Rattle.store.proofs.lay_out.lay_out.Statement.{statement}
 use Rattle.store.proofs.lay_out.lay_out.Tie as tie
 use Rattle.store.proofs.lay_out.lay_out.Reads as reads
@@ -23,14 +24,14 @@ part-clear-end : tie.Need-part-clear-end
 part-clear-end c =
     let i = c .before in
     let a = i .before .before .before .before .args in
-    let g = granted-layout (a .s .now) (a .b) (sym (i .before .layout-number .ensures) ∙ is-zero _ (i .if1 .left)) in
-    omega (arith, g .2, c .wide .ensures)
+    let g = layout-granted (a .s .now) (a .b) (sym (i .before .layout-number .ensures) ∙ is-zero _ (i .if1 .left)) in
+    omega (arith, g .long, c .wide .ensures)
 
 header-requires : tie.Need-header-requires
 header-requires c κs =
     let i = c .before .before .before .before .before in
     let a = i .before .before .before .before .args in
-    granted-layout (a .s .now) (a .b) (sym (i .before .layout-number .ensures) ∙ is-zero _ (i .if1 .left)) .1
+    layout-granted (a .s .now) (a .b) (sym (i .before .layout-number .ensures) ∙ is-zero _ (i .if1 .left)) .most
 
 part-copy-end : tie.Need-part-copy-end
 unfolding part splice
@@ -38,9 +39,9 @@ part-copy-end c =
     let w = c .before .before .before .before .before in
     let i = w .before in
     let a = i .before .before .before .before .args in
-    let g = granted-layout (a .s .now) (a .b) (sym (i .before .layout-number .ensures) ∙ is-zero _ (i .if1 .left)) in
+    let g = layout-granted (a .s .now) (a .b) (sym (i .before .layout-number .ensures) ∙ is-zero _ (i .if1 .left)) in
     let n : ℕ = 36 + 704 * w .wide .result - 36 in
-    omega (arith, g .2, w .wide .ensures, kept (a .s .now) _ 36 n (omega (arith, g .2, w .wide .ensures)) (c .before .before .before .clear .ensures ∙ ap zeros (length-part 36 n (a .s .now) (omega (arith, g .2, w .wide .ensures)))))
+    omega (arith, g .long, w .wide .ensures, kept (a .s .now) _ 36 n (omega (arith, g .long, w .wide .ensures)) (c .before .before .before .clear .ensures ∙ ap zeros (length-part 36 n (a .s .now) (omega (arith, g .long, w .wide .ensures)))))
 
 returns-2 : tie.Need-returns-2
 unfolding part splice
@@ -48,11 +49,11 @@ returns-2 c =
     let w = c .before .before .before .before .before .before .before .before .before .before in
     let i = w .before in
     let a = i .before .before .before .before .args in
-    let g = granted-layout (a .s .now) (a .b) (sym (i .before .layout-number .ensures) ∙ is-zero _ (i .if1 .left)) in
+    let g = layout-granted (a .s .now) (a .b) (sym (i .before .layout-number .ensures) ∙ is-zero _ (i .if1 .left)) in
     let n : ℕ = 36 + 704 * w .wide .result - 36 in
     granted _ _ _ _ (i .before .layout-number .ensures) (i .if1 .left)
-    (laid (a .s .now) _ _ (a .b) n (g .2) (omega (arith, w .wide .ensures))
-    (c .before .before .before .before .before .before .before .before .clear .ensures ∙ ap zeros (length-part 36 n (a .s .now) (omega (arith, g .2, w .wide .ensures))))
+    (laid (a .s .now) _ _ (a .b) n (g .long) (omega (arith, w .wide .ensures))
+    (c .before .before .before .before .before .before .before .before .clear .ensures ∙ ap zeros (length-part 36 n (a .s .now) (omega (arith, g .long, w .wide .ensures))))
     (c .before .before .copy .ensures ∙ c .before .before .before .before .before .header .ensures))
 
 pub lay-out-spec : {M : Type 1} → statement M
