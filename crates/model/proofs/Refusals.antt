@@ -7,19 +7,18 @@ use mathlib.Core.Bool.{Bool, true, false, not, _||_}
 use native.Mathlib.Omega.{arith}
 use lib.Dec.{eqb, ltb}
 use lib.ListN.{length, drop}
-use borrow.Author.Tests.{ne-eqb, lt-ltb}
+use borrow.Author.Tests.{eq-eqb, ne-eqb, lt-ltb, le-ltb, le-leb}
 use Rattle.buffer.specs.ChoiceLaws.{pick-true, pick-false}
-use Rattle.buffer.specs.TestLaws.{not-both, and-false-first}
+use Rattle.buffer.specs.TestLaws.{and-false-first}
 use Rattle.buffer.specs.Bytes.{zeros, part}
-use Rattle.buffer.specs.ByteLaws.{length-zeros}
 use Rattle.group.specs.Widths.{bodyBytes}
 use Rattle.model.specs.Layout.{view, storeBytes}
-use Rattle.model.specs.Reads.{lostIn, totalIn}
+use Rattle.model.specs.Reads.{totalIn}
 use Rattle.model.specs.Sound.{sound}
 use Rattle.model.specs.Numbers.{Call, teach, correct, erase, read, readInPlace, list, unitOut, repair, grow, shrink, raise, firstOf, refusalsIn, numberIn}
 use Rattle.model.specs.RowLaws.{Low, low-first, row-holds, row-fails, row-pair}
 use Rattle.model.specs.Perform.{plain, copied, lent, listed, output, reply, placeIn, givenIn, grantedIn, answerIn, afterIn, outcome, perform, laidOut, layOutNumber, layOut}
-use Rattle.model.specs.Demand1.{refusal, misuse, missing, tooShort, Refuses, LayoutRefuses}
+use Rattle.model.specs.Demand1.{refusal, Refuses, Misused, LayoutRefuses}
 
 -- ---- the numbers are those of the table
 
@@ -82,84 +81,78 @@ unfolding perform answerIn reply givenIn placeIn refusal
 in-place-none s k z n =
     ap₂ outcome (ap lent (rw (and-false-first (ne-eqb (numberIn s (read k (zeros bodyBytes))) 0 z)) (rw (pick-false refl) (part-none s)))) (in-place-store s k)
 
--- ---- the rows of 2, 1 and 3
+-- ---- a damaged store
+
+-- where the number is not the first row's, that row does not hold
+not-first : (t : Bool) (n : ℕ) (ts : List (Bool × ℕ)) → firstOf ((t, n) ∷ ts) ≢ n → t ≡ false
+not-first true n ts z = absurd (z (row-holds n ts refl))
+not-first false n ts z = refl
 
 module _ (s : List ℕ) where
-  read-misused : (k : ℕ) (out : List ℕ) → misuse (read k out) ≡ true → numberIn s (read k out) ≡ 2
-  unfolding numberIn refusalsIn misuse
-  read-misused k out e = row-pair (eqb k 0) (not (eqb (length out) bodyBytes)) 2 _ ∙ row-holds _ _ e
+  -- a call with one row of 2, and one with two
+  one-row : {ok : Bool} (t : Bool) (ts : List (Bool × ℕ)) → firstOf ((t, 2) ∷ (not ok, 1) ∷ ts) ≢ 2 → ok ≡ false → firstOf ((t, 2) ∷ (not ok, 1) ∷ ts) ≡ 1
+  one-row t ts z d = row-fails _ _ (not-first t 2 _ z) ∙ row-holds _ _ (ap not d)
 
-  read-damaged : (k : ℕ) (out : List ℕ) → misuse (read k out) ≡ false → sound s ≡ false → numberIn s (read k out) ≡ 1
-  unfolding numberIn refusalsIn misuse
-  read-damaged k out e d = row-pair (eqb k 0) (not (eqb (length out) bodyBytes)) 2 _ ∙ row-fails _ _ e ∙ row-holds _ _ (ap not d)
+  two-rows : {ok : Bool} (a b : Bool) (ts : List (Bool × ℕ)) → firstOf ((a, 2) ∷ (b, 2) ∷ (not ok, 1) ∷ ts) ≢ 2 → ok ≡ false
+      → firstOf ((a, 2) ∷ (b, 2) ∷ (not ok, 1) ∷ ts) ≡ 1
+  two-rows a b ts z d = row-pair a b 2 _ ∙ one-row (a || b) ts (λ e. z (row-pair a b 2 _ ∙ e)) d
 
-  misused : (c : Call) → misuse c ≡ true → perform s c ≡ outcome (refusal c 2) s
-  unfolding numberIn refusalsIn misuse
-  misused (teach k x) e = refused-as s (teach k x) 2 (row-pair (eqb k 0) (not (eqb (length x) bodyBytes)) 2 _ ∙ row-holds _ _ e) (omega arith)
-  misused (correct k x) e = refused-as s (correct k x) 2 (row-pair (eqb k 0) (not (eqb (length x) bodyBytes)) 2 _ ∙ row-holds _ _ e) (omega arith)
-  misused (erase k) e = refused-as s (erase k) 2 (row-holds _ _ e) (omega arith)
-  misused (read k out) e = refused-as s (read k out) 2 (read-misused k out e) (omega arith)
-  misused (readInPlace k) e = in-place-none s k (λ q. absurd (omega (arith, q, read-misused k (zeros bodyBytes) (ap (λ (t : Bool). t || not (eqb (length (zeros bodyBytes)) bodyBytes)) e)))) 2
-  misused (list out) e = not-both e refl
-  misused (unitOut w) e = refused-as s (unitOut w) 2 (row-holds _ _ e) (omega arith)
-  misused (repair g) e = refused-as s (repair g) 2 (row-holds _ _ e) (omega arith)
-  misused grow e = not-both e refl
-  misused shrink e = not-both e refl
-  misused raise e = not-both e refl
+  read-damaged : (k : ℕ) (out : List ℕ) → sound s ≡ false → numberIn s (read k out) ≢ 0
+  unfolding numberIn refusalsIn
+  read-damaged k out d q =
+      let one : numberIn s (read k out) ≡ 1 = two-rows (eqb k 0) (not (eqb (length out) bodyBytes)) _ (λ e. absurd (omega (arith, sym q ∙ e))) d in
+      absurd (omega (arith, sym q ∙ one))
 
-  damaged : (c : Call) → misuse c ≡ false → sound s ≡ false → perform s c ≡ outcome (refusal c 1) s
-  unfolding numberIn refusalsIn misuse
-  damaged (teach k x) e d = refused-as s (teach k x) 1 (row-pair (eqb k 0) (not (eqb (length x) bodyBytes)) 2 _ ∙ row-fails _ _ e ∙ row-holds _ _ (ap not d)) (omega arith)
-  damaged (correct k x) e d = refused-as s (correct k x) 1 (row-pair (eqb k 0) (not (eqb (length x) bodyBytes)) 2 _ ∙ row-fails _ _ e ∙ row-holds _ _ (ap not d)) (omega arith)
-  damaged (erase k) e d = refused-as s (erase k) 1 (row-fails _ _ e ∙ row-holds _ _ (ap not d)) (omega arith)
-  damaged (read k out) e d = refused-as s (read k out) 1 (read-damaged k out e d) (omega arith)
-  damaged (readInPlace k) e d = in-place-none s k (λ q. absurd (omega (arith, q, read-damaged k (zeros bodyBytes) (fits e) d))) 1
-    where
-      fits : eqb k 0 ≡ false → misuse (read k (zeros bodyBytes)) ≡ false
-      fits e = unfold misuse in rw (e, length-zeros bodyBytes)
-  damaged (list out) e d = refused-as s (list out) 1 (row-holds _ _ (ap not d)) (omega arith)
-  damaged (unitOut w) e d = refused-as s (unitOut w) 1 (row-fails _ _ e ∙ row-holds _ _ (ap not d)) (omega arith)
-  damaged (repair g) e d = refused-as s (repair g) 1 (row-fails _ _ e ∙ row-holds _ _ (ap not d)) (omega arith)
-  damaged grow e d = refused-as s grow 1 (row-holds _ _ (ap not d)) (omega arith)
-  damaged shrink e d = refused-as s shrink 1 (row-holds _ _ (ap not d)) (omega arith)
-  damaged raise e d = refused-as s raise 1 (row-holds _ _ (ap not d)) (omega arith)
-
-  nowhere : (c : Call) → misuse c ≡ false → sound s ≡ true → missing (view s) c ≡ true → perform s c ≡ outcome (refusal c 3) s
-  unfolding numberIn refusalsIn misuse missing
-  nowhere (teach k x) e d m = not-both m refl
-  nowhere (correct k x) e d m = not-both m refl
-  nowhere (erase k) e d m = not-both m refl
-  nowhere (read k out) e d m = not-both m refl
-  nowhere (readInPlace k) e d m = not-both m refl
-  nowhere (list out) e d m = not-both m refl
-  nowhere (unitOut w) e d m = refused-as s (unitOut w) 3 (row-fails _ _ e ∙ row-fails _ _ (ap not d) ∙ row-holds _ _ m) (omega arith)
-  nowhere (repair g) e d m = refused-as s (repair g) 3 (row-fails _ _ e ∙ row-fails _ _ (ap not d) ∙ row-holds _ _ m) (omega arith)
-  nowhere grow e d m = not-both m refl
-  nowhere shrink e d m = not-both m refl
-  nowhere raise e d m = not-both m refl
-
-  short : (c : Call) → sound s ≡ true → lostIn (view s) ≡ false → tooShort (view s) c ≡ true → perform s c ≡ outcome (refusal c 7) s
-  unfolding numberIn refusalsIn tooShort
-  short (teach k x) d f m = not-both m refl
-  short (correct k x) d f m = not-both m refl
-  short (erase k) d f m = not-both m refl
-  short (read k out) d f m = not-both m refl
-  short (readInPlace k) d f m = not-both m refl
-  short (list out) d f m = refused-as s (list out) 7 (row-fails _ _ (ap not d) ∙ row-fails _ _ f ∙ row-holds _ _ m) (omega arith)
-  short (unitOut w) d f m = not-both m refl
-  short (repair g) d f m = not-both m refl
-  short grow d f m = not-both m refl
-  short shrink d f m = not-both m refl
-  short raise d f m = not-both m refl
+  damaged : (c : Call) → sound s ≡ false → numberIn s c ≢ 2 → perform s c ≡ outcome (refusal c 1) s
+  unfolding numberIn refusalsIn
+  damaged (teach k x) d z = refused-as s (teach k x) 1 (two-rows (eqb k 0) (not (eqb (length x) bodyBytes)) _ z d) (omega arith)
+  damaged (correct k x) d z = refused-as s (correct k x) 1 (two-rows (eqb k 0) (not (eqb (length x) bodyBytes)) _ z d) (omega arith)
+  damaged (erase k) d z = refused-as s (erase k) 1 (one-row (eqb k 0) _ z d) (omega arith)
+  damaged (read k out) d z = refused-as s (read k out) 1 (two-rows (eqb k 0) (not (eqb (length out) bodyBytes)) _ z d) (omega arith)
+  damaged (readInPlace k) d z = in-place-none s k (read-damaged k (zeros bodyBytes) d) 1
+  damaged (list out) d z = refused-as s (list out) 1 (row-holds _ _ (ap not d)) (omega arith)
+  damaged (unitOut w) d z = refused-as s (unitOut w) 1 (one-row (ltb 27 w) _ z d) (omega arith)
+  damaged (repair g) d z = refused-as s (repair g) 1 (one-row (ltb 3 g) _ z d) (omega arith)
+  damaged grow d z = refused-as s grow 1 (row-holds _ _ (ap not d)) (omega arith)
+  damaged shrink d z = refused-as s shrink 1 (row-holds _ _ (ap not d)) (omega arith)
+  damaged raise d z = refused-as s raise 1 (row-holds _ _ (ap not d)) (omega arith)
 
   pub refuses : (c : Call) → Refuses s c
-  refuses c = record {
-    numbered = number-low s c;
-    refused = λ z. refused-as s c (numberIn s c) refl z;
-    misused = misused c;
-    damaged = damaged c;
-    nowhere = nowhere c;
-    short = short c;
+  refuses c = record { numbered = number-low s c; refused = λ z. refused-as s c (numberIn s c) refl z; damaged = damaged c }
+
+  -- ---- the arguments that demand 1 names
+
+  -- a body or an output of the wrong length: the second of two rows
+  second : (a : Bool) {b : Bool} (n : ℕ) (ts : List (Bool × ℕ)) → b ≡ true → firstOf ((a, n) ∷ (b, n) ∷ ts) ≡ n
+  second true n ts e = row-holds n _ refl
+  second false n ts e = row-fails n _ refl ∙ row-holds n ts e
+
+  by-2 : (c : Call) → numberIn s c ≡ 2 → perform s c ≡ outcome (refusal c 2) s
+  by-2 c e = refused-as s c 2 e (omega arith)
+
+  in-place-0 : perform s (readInPlace 0) ≡ outcome (refusal (readInPlace 0) 2) s
+  in-place-0 = in-place-none s 0 (λ q. absurd (omega (arith, sym q ∙ read-0))) 2
+    where
+      read-0 : numberIn s (read 0 (zeros bodyBytes)) ≡ 2
+      read-0 = unfold numberIn refusalsIn in row-holds _ _ refl
+
+  pub misuses : Misused s
+  unfolding numberIn refusalsIn
+  misuses = record {
+    key-0 = λ x.
+        let t = by-2 (teach 0 x) (row-holds _ _ refl) in
+        let c = by-2 (correct 0 x) (row-holds _ _ refl) in
+        (t, (c, (by-2 (erase 0) (row-holds _ _ refl), (by-2 (read 0 x) (row-holds _ _ refl), (in-place-0, tt)))));
+    wrong-length = λ k x z.
+        let e = ap not (ne-eqb (length x) bodyBytes z) in
+        (by-2 (teach k x) (second (eqb k 0) 2 _ e), (by-2 (correct k x) (second (eqb k 0) 2 _ e), (by-2 (read k x) (second (eqb k 0) 2 _ e), tt)));
+    no-unit = λ w l. (by-2 (unitOut w) (row-holds _ _ (lt-ltb 27 w l)), tt);
+    no-group = λ g l. (by-2 (repair g) (row-holds _ _ (lt-ltb 3 g l)), tt);
+    unit-not-in-place = λ w l d e.
+        (refused-as s (unitOut w) 3 (row-fails _ _ (le-ltb 27 w l) ∙ row-fails _ _ (ap not d) ∙ row-holds _ _ (eq-eqb _ _ e)) (omega arith), tt);
+    group-not-in-place = λ g l d e.
+        (refused-as s (repair g) 3 (row-fails _ _ (le-ltb 3 g l) ∙ row-fails _ _ (ap not d) ∙ row-holds _ _ (le-leb _ _ e)) (omega arith), tt);
+    short = λ x d f l. (refused-as s (list x) 7 (row-fails _ _ (ap not d) ∙ row-fails _ _ f ∙ row-holds _ _ (lt-ltb _ _ l)) (omega arith), tt);
   }
 
 -- ---- lay out

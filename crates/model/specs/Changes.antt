@@ -11,23 +11,17 @@ use Rattle.group.specs.Widths.{keyBytes, slotBytes, checkBytes}
 use Rattle.group.specs.Body.{addBody}
 use Rattle.group.specs.CheckRecord.{checkRecord, patched}
 use Rattle.model.specs.Units.{splitPointer, moves, touched, broughtUp, emptied}
-use Rattle.model.specs.Layout.{Store, unitsIn, levelIn, keyOf, withSlots, withChecks}
+use Rattle.model.specs.Layout.{Store, changed, levelIn, keyOf}
 use Rattle.model.specs.Reads.{fillIn, wholeSlot}
 
 -- Teach, correct and erase write a slot at a time: slot (u, r) becomes x, and each check unit in service of u's group gets its key, and the
 -- change of its body times the coefficient, at that rank.
 unfoldable pub written : Store → ℕ → ℕ → List ℕ → Store
-written s u r x = record {
-  front = s .front;
-  dstate = s .dstate;
-  cstate = s .cstate;
-  size = s .size;
-  slot = λ v q. pick (eqb v u && eqb q r) x (s .slot v q);
-  check = λ c q. pick (eqb (c / 3) (u / 4) && eqb q r && eqb (s .cstate c) 1)
-      (patched (c % 3) (u % 4) (take keyBytes x) (addBody (drop keyBytes (s .slot u r)) (drop keyBytes x)) (s .check c q))
-      (s .check c q);
-  rest = s .rest;
-}
+written s u r x =
+    changed s (s .front) (s .dstate) (s .cstate)
+    (λ v q. pick (eqb v u && eqb q r) x (s .slot v q))
+    (λ c q. pick (eqb (c / 3) (u / 4) && eqb q r && eqb (s .cstate c) 1)
+    (patched (c % 3) (u % 4) (take keyBytes x) (addBody (drop keyBytes (s .slot u r)) (drop keyBytes x)) (s .check c q)) (s .check c q))
 
 -- the record of slot (u, last) moves into slot (u, r), and slot (u, last) becomes empty
 unfoldable pub erased : Store → ℕ → ℕ → ℕ → Store
@@ -35,27 +29,19 @@ erased s u r last = written (written s u r (s .slot u last)) u last (zeros slotB
 
 -- unit out: that unit's bytes are zeroed
 unfoldable pub unitLost : Store → ℕ → Store
-unitLost v w = record {
-  front = v .front;
-  dstate = upd (v .dstate) w 2;
-  cstate = λ c. pick (eqb (16 + c) w) 2 (v .cstate c);
-  size = v .size;
-  slot = λ u r. pick (eqb u w) (zeros slotBytes) (v .slot u r);
-  check = λ c r. pick (eqb (16 + c) w) (zeros checkBytes) (v .check c r);
-  rest = v .rest;
-}
+unitLost v w =
+    changed v (v .front) (upd (v .dstate) w 2) (λ c. pick (eqb (16 + c) w) 2 (v .cstate c))
+    (λ u r. pick (eqb u w) (zeros slotBytes) (v .slot u r))
+    (λ c r. pick (eqb (16 + c) w) (zeros checkBytes) (v .check c r))
 
 -- repair: rebuilt slots in the data units, the missing check units made from them, every out unit in service
 unfoldable pub repaired : Store → ℕ → Store
-repaired v g = record {
-  front = v .front;
-  dstate = λ u. pick (eqb (u / 4) g && eqb (v .dstate u) 2) 1 (v .dstate u);
-  cstate = λ c. pick (eqb (c / 3) g && eqb (v .cstate c) 2) 1 (v .cstate c);
-  size = v .size;
-  slot = λ u r. pick (eqb (u / 4) g) (wholeSlot v u r) (v .slot u r);
-  check = λ c r. pick (eqb (c / 3) g && eqb (v .cstate c) 2) (checkRecord (c % 3) (λ p. wholeSlot v (4 * g + p) r)) (v .check c r);
-  rest = v .rest;
-}
+repaired v g =
+    changed v (v .front)
+    (λ u. pick (eqb (u / 4) g && eqb (v .dstate u) 2) 1 (v .dstate u))
+    (λ c. pick (eqb (c / 3) g && eqb (v .cstate c) 2) 1 (v .cstate c))
+    (λ u r. pick (eqb (u / 4) g) (wholeSlot v u r) (v .slot u r))
+    (λ c r. pick (eqb (c / 3) g && eqb (v .cstate c) 2) (checkRecord (c % 3) (λ p. wholeSlot v (4 * g + p) r)) (v .check c r))
 
 -- those for which p holds, in order
 unfoldable pub keep : {A : Type 0} → (A → Bool) → List A → List A
@@ -84,15 +70,9 @@ grownState v m c = pick (broughtUp m (c / 3)) (pick (ltb (c % 3) (levelIn v)) 1 
 
 -- grow: unit m is added; the check units of the groups of both units are made anew from the data
 unfoldable pub grown : Store → ℕ → Store
-grown v m = record {
-  front = set (v .front) 6 (suc m);
-  dstate = upd (v .dstate) m 1;
-  cstate = grownState v m;
-  size = v .size;
-  slot = dealt v m;
-  check = λ c r. pick (touched m (c / 3) && eqb (grownState v m c) 1) (checkRecord (c % 3) (λ p. dealt v m (4 * (c / 3) + p) r)) (v .check c r);
-  rest = v .rest;
-}
+grown v m =
+    changed v (set (v .front) 6 (suc m)) (upd (v .dstate) m 1) (grownState v m) (dealt v m)
+    (λ c r. pick (touched m (c / 3) && eqb (grownState v m c) 1) (checkRecord (c % 3) (λ p. dealt v m (4 * (c / 3) + p) r)) (v .check c r))
 
 -- the slots after unit m, the last, is removed: its records, in order, behind those of the unit that it was split from
 unfoldable pub merged : Store → ℕ → ℕ → ℕ → List ℕ
@@ -106,16 +86,11 @@ shrunkState v m c = pick (emptied m (c / 3)) 0 (v .cstate c)
 
 -- shrink: unit m, the last, is removed; a group left with no data unit loses its check units; the others of both groups are made anew
 unfoldable pub shrunk : Store → ℕ → Store
-shrunk v m = record {
-  front = set (v .front) 6 m;
-  dstate = upd (v .dstate) m 0;
-  cstate = shrunkState v m;
-  size = v .size;
-  slot = merged v m;
-  check = λ c r. pick (touched m (c / 3)) (pick (eqb (shrunkState v m c) 1) (checkRecord (c % 3) (λ p. merged v m (4 * (c / 3) + p) r)) (zeros checkBytes)) (v .check c r);
-  rest = v .rest;
-}
+shrunk v m =
+    changed v (set (v .front) 6 m) (upd (v .dstate) m 0) (shrunkState v m) (merged v m)
+    (λ c r. pick (touched m (c / 3))
+    (pick (eqb (shrunkState v m c) 1) (checkRecord (c % 3) (λ p. merged v m (4 * (c / 3) + p) r)) (zeros checkBytes)) (v .check c r))
 
 -- raise: one is added to the level
 unfoldable pub raised : Store → Store
-raised v = record { front = set (v .front) 7 (suc (levelIn v)); dstate = v .dstate; cstate = v .cstate; size = v .size; slot = v .slot; check = v .check; rest = v .rest }
+raised v = changed v (set (v .front) 7 (suc (levelIn v))) (v .dstate) (v .cstate) (v .slot) (v .check)

@@ -4,82 +4,42 @@
 use Prim.Native.Nat.{ℕ, _*_, _≤_, _<_}
 use mathlib.Core.Path.{_≡_}
 use mathlib.Core.Logic.{_≢_}
-use mathlib.Core.List.{List, []}
-use mathlib.Core.Bool.{Bool, true, false, not, _&&_, _||_}
-use lib.Dec.{eqb, ltb, leb}
+use mathlib.Core.List.{List, [], _∷_}
+use mathlib.Core.Bool.{true, false, not, _&&_, _||_}
+use lib.Dec.{eqb, ltb}
 use lib.ListN.{length}
 use Rattle.buffer.specs.Choice.{pick}
 use Rattle.group.specs.Widths.{bodyBytes, slotBytes}
-use Rattle.model.specs.Layout.{Store, view, storeBytes, unitsIn}
+use Rattle.model.specs.Layout.{view, storeBytes, unitsIn}
 use Rattle.model.specs.Reads.{homeIn, stateIn, lostIn, totalIn}
 use Rattle.model.specs.Sound.{sound}
-use Rattle.model.specs.Numbers.{Call, teach, correct, erase, read, readInPlace, list, unitOut, repair, grow, shrink, raise, numberIn}
+use Rattle.model.specs.Numbers.{Call, teach, correct, erase, read, readInPlace, list, unitOut, repair, grow, shrink, raise, byAnswer, numberIn}
 use Rattle.model.specs.Perform.{Answer, plain, copied, lent, listed, outcome, givenIn, perform, layOutNumber, layOut}
 
 -- the answer of a call that is refused with the number n: nothing is handed back, and an output buffer is as it was
 unfoldable pub refusal : Call → ℕ → Answer
-refusal (teach k x) n = plain n
-refusal (correct k x) n = plain n
-refusal (erase k) n = plain n
-refusal (read k out) n = copied n out
-refusal (readInPlace k) n = lent []
-refusal (list out) n = listed n 0 out
-refusal (unitOut w) n = plain n
-refusal (repair g) n = plain n
-refusal grow n = plain n
-refusal shrink n = plain n
-refusal raise n = plain n
+refusal c n = byAnswer c (plain n) (λ k out. copied n out) (λ k. lent []) (λ out. listed n 0 out)
 
--- arguments that the table refuses whatever the store: key 0, a body or an output of read that isn't 16 bytes, a unit above 27, a group above 3
-unfoldable pub misuse : Call → Bool
-misuse (teach k x) = eqb k 0 || not (eqb (length x) bodyBytes)
-misuse (correct k x) = eqb k 0 || not (eqb (length x) bodyBytes)
-misuse (erase k) = eqb k 0
-misuse (read k out) = eqb k 0 || not (eqb (length out) bodyBytes)
-misuse (readInPlace k) = eqb k 0
-misuse (list out) = false
-misuse (unitOut w) = ltb 27 w
-misuse (repair g) = ltb 3 g
-misuse grow = false
-misuse shrink = false
-misuse raise = false
-
--- a unit or a group that isn't in place
-unfoldable pub missing : Store → Call → Bool
-missing v (teach k x) = false
-missing v (correct k x) = false
-missing v (erase k) = false
-missing v (read k out) = false
-missing v (readInPlace k) = false
-missing v (list out) = false
-missing v (unitOut w) = eqb (stateIn v w) 0
-missing v (repair g) = leb (unitsIn v) (4 * g)
-missing v grow = false
-missing v shrink = false
-missing v raise = false
-
--- an output buffer that list's records don't fit in
-unfoldable pub tooShort : Store → Call → Bool
-tooShort v (teach k x) = false
-tooShort v (correct k x) = false
-tooShort v (erase k) = false
-tooShort v (read k out) = false
-tooShort v (readInPlace k) = false
-tooShort v (list out) = ltb (length out) (slotBytes * totalIn v)
-tooShort v (unitOut w) = false
-tooShort v (repair g) = false
-tooShort v grow = false
-tooShort v shrink = false
-tooShort v raise = false
-
--- a call on any bytes
+-- a call on any bytes: its number is the table's; refused, it leaves all as it was; a damaged store gets 1 where 2 does not apply
 pub record Refuses (s : List ℕ) (c : Call) : Type 0 where
   pub numbered : numberIn s c ≤ 9
   pub refused : numberIn s c ≢ 0 → perform s c ≡ outcome (refusal c (numberIn s c)) s
-  pub misused : misuse c ≡ true → perform s c ≡ outcome (refusal c 2) s
-  pub damaged : misuse c ≡ false → sound s ≡ false → perform s c ≡ outcome (refusal c 1) s
-  pub nowhere : misuse c ≡ false → sound s ≡ true → missing (view s) c ≡ true → perform s c ≡ outcome (refusal c 3) s
-  pub short : sound s ≡ true → lostIn (view s) ≡ false → tooShort (view s) c ≡ true → perform s c ≡ outcome (refusal c 7) s
+  pub damaged : sound s ≡ false → numberIn s c ≢ 2 → perform s c ≡ outcome (refusal c 1) s
+
+-- each of these calls is refused with the number n
+abbrev pub RefusedWith : List ℕ → ℕ → List Call → Type 0
+RefusedWith s n [] = Unit {0}
+RefusedWith s n (c ∷ cs) = (perform s c ≡ outcome (refusal c n) s) × RefusedWith s n cs
+
+-- the arguments that demand 1 names, on any bytes
+pub record Misused (s : List ℕ) : Type 0 where
+  pub key-0 : (x : List ℕ) → RefusedWith s 2 (teach 0 x ∷ correct 0 x ∷ erase 0 ∷ read 0 x ∷ readInPlace 0 ∷ [])
+  pub wrong-length : (k : ℕ) (x : List ℕ) → length x ≢ bodyBytes → RefusedWith s 2 (teach k x ∷ correct k x ∷ read k x ∷ [])
+  pub no-unit : (w : ℕ) → 27 < w → RefusedWith s 2 (unitOut w ∷ [])
+  pub no-group : (g : ℕ) → 3 < g → RefusedWith s 2 (repair g ∷ [])
+  pub unit-not-in-place : (w : ℕ) → w ≤ 27 → sound s ≡ true → stateIn (view s) w ≡ 0 → RefusedWith s 3 (unitOut w ∷ [])
+  pub group-not-in-place : (g : ℕ) → g ≤ 3 → sound s ≡ true → unitsIn (view s) ≤ 4 * g → RefusedWith s 3 (repair g ∷ [])
+  pub short : (x : List ℕ) → sound s ≡ true → lostIn (view s) ≡ false → length x < slotBytes * totalIn (view s) → RefusedWith s 7 (list x ∷ [])
 
 -- reading in place, in any bytes: the store is as it was, and the part is the 16 bytes of a body, or empty exactly where read, given a buffer that
 -- fits, would refuse or the key's unit is out
@@ -98,5 +58,6 @@ pub record LayoutRefuses (s : List ℕ) (b : ℕ) : Type 0 where
 -- DEMAND 1
 pub record Demand1 : Type 0 where
   pub calls : (s : List ℕ) (c : Call) → Refuses s c
+  pub misuses : (s : List ℕ) → Misused s
   pub in-place : (s : List ℕ) (k : ℕ) → InPlace s k
   pub layouts : (s : List ℕ) (b : ℕ) → LayoutRefuses s b

@@ -27,14 +27,15 @@ pub record Store : Type 0 where
   pub check : ℕ → ℕ → List ℕ  -- check unit, rank → the check record: four keys by place in the group, parity
   pub rest : List ℕ  -- what the slice has behind the store
 
+-- a store of these parts, in this order
+abbrev pub store : List ℕ → (ℕ → ℕ) → (ℕ → ℕ) → ℕ → (ℕ → ℕ → List ℕ) → (ℕ → ℕ → List ℕ) → List ℕ → Store
+store front dstate cstate size slot check rest = record { front = front; dstate = dstate; cstate = cstate; size = size; slot = slot; check = check; rest = rest }
+
+-- its bytes
 unfoldable pub bytes : Store → List ℕ
 bytes s =
-    s .front
-    ++ (tab 16 (λ u. s .dstate u ∷ [])
-    ++ (tab 12 (λ c. s .cstate c ∷ [])
-    ++ (tab 16 (λ u. tab (s .size) (s .slot u))
-    ++ (tab 12 (λ c. tab (s .size) (s .check c))
-    ++ s .rest))))
+    s .front ++ (tab 16 (λ u. s .dstate u ∷ []) ++ (tab 12 (λ c. s .cstate c ∷ [])
+    ++ (tab 16 (λ u. tab (s .size) (s .slot u)) ++ (tab 12 (λ c. tab (s .size) (s .check c)) ++ s .rest))))
 
 -- where a slot and a check record stand, with b ranks to a unit
 abbrev pub slotAt : ℕ → ℕ → ℕ → ℕ
@@ -72,9 +73,13 @@ keyOf x = be32 x 0
 unfoldable pub frontOf : ℕ → ℕ → ℕ → List ℕ
 frontOf b m k = version ∷ (bytes32 (storeBytes b) ++ (b ∷ m ∷ k ∷ []))
 
+-- a store with these parts and the size and the rest of s
+abbrev pub changed : Store → List ℕ → (ℕ → ℕ) → (ℕ → ℕ) → (ℕ → ℕ → List ℕ) → (ℕ → ℕ → List ℕ) → Store
+changed s front dstate cstate slot check = store front dstate cstate (s .size) slot check (s .rest)
+
 -- the same store with other slots, and with other check records
 unfoldable pub withSlots : Store → (ℕ → ℕ → List ℕ) → Store
-withSlots s f = record { front = s .front; dstate = s .dstate; cstate = s .cstate; size = s .size; slot = f; check = s .check; rest = s .rest }
+withSlots s f = changed s (s .front) (s .dstate) (s .cstate) f (s .check)
 
 unfoldable pub withChecks : Store → (ℕ → ℕ → List ℕ) → Store
-withChecks s f = record { front = s .front; dstate = s .dstate; cstate = s .cstate; size = s .size; slot = s .slot; check = f; rest = s .rest }
+withChecks s f = changed s (s .front) (s .dstate) (s .cstate) (s .slot) f

@@ -26,78 +26,61 @@ pub data Call : Type 0 where
   shrink : Call
   raise : Call
 
+-- a choice by what a call hands back: a number alone, a copy (read), a part of the store (read in place), or all records (list)
+abbrev pub byAnswer : {A : Type 0} → Call → A → (ℕ → List ℕ → A) → (ℕ → A) → (List ℕ → A) → A
+byAnswer (teach k x) plain copied lent listed = plain
+byAnswer (correct k x) plain copied lent listed = plain
+byAnswer (erase k) plain copied lent listed = plain
+byAnswer (read k out) plain copied lent listed = copied k out
+byAnswer (readInPlace k) plain copied lent listed = lent k
+byAnswer (list out) plain copied lent listed = listed out
+byAnswer (unitOut w) plain copied lent listed = plain
+byAnswer (repair g) plain copied lent listed = plain
+byAnswer grow plain copied lent listed = plain
+byAnswer shrink plain copied lent listed = plain
+byAnswer raise plain copied lent listed = plain
+
 -- the number of the first test that holds, and 0 where none does
 unfoldable pub firstOf : List (Bool × ℕ) → ℕ
 firstOf [] = 0
 firstOf (t ∷ ts) = pick (t .0) (t .1) (firstOf ts)
 
+-- The table: each call's rows, in the order of document 01. It looks at facts that a store's bytes give (`refusalsIn`) and that the ledger gives.
+module _
+    (ok : Bool)  -- the store's bytes are sound
+    (size units level : ℕ)  -- b, M and K
+    (home : ℕ → ℕ)  -- key → its unit
+    (state : ℕ → ℕ) (out : ℕ → Bool)  -- unit → its state; data unit → it is out
+    (outs : ℕ → ℕ) (beyond : ℕ → Bool) (lost : Bool)  -- group → its units out, it is beyond recovery; a data unit is out in such a group
+    (fill : ℕ → ℕ) (rank : ℕ → ℕ → ℕ)  -- data unit → its records; data unit, key → its rank, or their number
+    (listed : ℕ → ℕ) (listedRank : ℕ → ℕ → ℕ)  -- the same where a unit may be out, by the keys that are listed for it
+    (total : ℕ) where  -- all records
+  abbrev pub table : Call → List (Bool × ℕ)
+  table (teach k x) =
+      (eqb k 0, 2) ∷ (not (eqb (length x) bodyBytes), 2) ∷ (not ok, 1) ∷ (ltb 0 (outs (home k / 4)), 4)
+      ∷ (ltb (rank (home k) k) (fill (home k)), 5) ∷ (leb size (fill (home k)), 7) ∷ []
+  table (correct k x) =
+      (eqb k 0, 2) ∷ (not (eqb (length x) bodyBytes), 2) ∷ (not ok, 1) ∷ (ltb 0 (outs (home k / 4)), 4)
+      ∷ (leb (fill (home k)) (rank (home k) k), 6) ∷ []
+  table (erase k) = (eqb k 0, 2) ∷ (not ok, 1) ∷ (ltb 0 (outs (home k / 4)), 4) ∷ (leb (fill (home k)) (rank (home k) k), 6) ∷ []
+  table (read k x) =
+      (eqb k 0, 2) ∷ (not (eqb (length x) bodyBytes), 2) ∷ (not ok, 1) ∷ (out (home k) && beyond (home k / 4), 8)
+      ∷ (leb (listed (home k)) (listedRank (home k) k), 6) ∷ []
+  table (readInPlace k) = []
+  table (list x) = (not ok, 1) ∷ (lost, 8) ∷ (ltb (length x) (slotBytes * total), 7) ∷ []
+  table (unitOut w) = (ltb 27 w, 2) ∷ (not ok, 1) ∷ (eqb (state w) 0, 3) ∷ (eqb (state w) 2, 4) ∷ []
+  table (repair g) = (ltb 3 g, 2) ∷ (not ok, 1) ∷ (leb units (4 * g), 3) ∷ (beyond g, 8) ∷ []
+  table grow = (not ok, 1) ∷ (leb 16 units, 9) ∷ (ltb 0 (outs (units / 4)), 4) ∷ (ltb 0 (outs (splitPointer units / 4)), 4) ∷ []
+  table shrink =
+      (not ok, 1) ∷ (leb units 1, 9) ∷ (ltb 0 (outs (pred units / 4)), 4) ∷ (ltb 0 (outs (splitPointer (pred units) / 4)), 4)
+      ∷ (ltb size (fill (splitPointer (pred units)) + fill (pred units)), 7) ∷ []
+  table raise = (not ok, 1) ∷ (ltb 0 (splitPointer units), 9) ∷ (leb 16 units, 9) ∷ (leb 3 level, 9) ∷ []
+
 -- the rows for a store with the parts v, whose bytes are sound or not
 unfoldable pub refusalsIn : Bool → Store → Call → List (Bool × ℕ)
-refusalsIn ok v (teach k x) =
-    (eqb k 0, 2)
-    ∷ (not (eqb (length x) bodyBytes), 2)
-    ∷ (not ok, 1)
-    ∷ (ltb 0 (outsIn v (homeIn v k / 4)), 4)
-    ∷ (ltb (rankIn v (homeIn v k) k) (fillIn v (homeIn v k)), 5)
-    ∷ (leb (v .size) (fillIn v (homeIn v k)), 7)
-    ∷ []
-refusalsIn ok v (correct k x) =
-    (eqb k 0, 2)
-    ∷ (not (eqb (length x) bodyBytes), 2)
-    ∷ (not ok, 1)
-    ∷ (ltb 0 (outsIn v (homeIn v k / 4)), 4)
-    ∷ (leb (fillIn v (homeIn v k)) (rankIn v (homeIn v k) k), 6)
-    ∷ []
-refusalsIn ok v (erase k) =
-    (eqb k 0, 2)
-    ∷ (not ok, 1)
-    ∷ (ltb 0 (outsIn v (homeIn v k / 4)), 4)
-    ∷ (leb (fillIn v (homeIn v k)) (rankIn v (homeIn v k) k), 6)
-    ∷ []
-refusalsIn ok v (read k out) =
-    (eqb k 0, 2)
-    ∷ (not (eqb (length out) bodyBytes), 2)
-    ∷ (not ok, 1)
-    ∷ (eqb (v .dstate (homeIn v k)) 2 && beyondIn v (homeIn v k / 4), 8)
-    ∷ (leb (listedFill v (homeIn v k)) (listedRank v (homeIn v k) k), 6)
-    ∷ []
-refusalsIn ok v (readInPlace k) = []
-refusalsIn ok v (list out) =
-    (not ok, 1)
-    ∷ (lostIn v, 8)
-    ∷ (ltb (length out) (slotBytes * totalIn v), 7)
-    ∷ []
-refusalsIn ok v (unitOut w) =
-    (ltb 27 w, 2)
-    ∷ (not ok, 1)
-    ∷ (eqb (stateIn v w) 0, 3)
-    ∷ (eqb (stateIn v w) 2, 4)
-    ∷ []
-refusalsIn ok v (repair g) =
-    (ltb 3 g, 2)
-    ∷ (not ok, 1)
-    ∷ (leb (unitsIn v) (4 * g), 3)
-    ∷ (beyondIn v g, 8)
-    ∷ []
-refusalsIn ok v grow =
-    (not ok, 1)
-    ∷ (leb 16 (unitsIn v), 9)
-    ∷ (ltb 0 (outsIn v (unitsIn v / 4)), 4)
-    ∷ (ltb 0 (outsIn v (splitPointer (unitsIn v) / 4)), 4)
-    ∷ []
-refusalsIn ok v shrink =
-    (not ok, 1)
-    ∷ (leb (unitsIn v) 1, 9)
-    ∷ (ltb 0 (outsIn v (pred (unitsIn v) / 4)), 4)
-    ∷ (ltb 0 (outsIn v (splitPointer (pred (unitsIn v)) / 4)), 4)
-    ∷ (ltb (v .size) (fillIn v (splitPointer (pred (unitsIn v))) + fillIn v (pred (unitsIn v))), 7)
-    ∷ []
-refusalsIn ok v raise =
-    (not ok, 1)
-    ∷ (ltb 0 (splitPointer (unitsIn v)), 9)
-    ∷ (leb 16 (unitsIn v), 9)
-    ∷ (leb 3 (levelIn v), 9)
-    ∷ []
+refusalsIn ok v c =
+    table ok (v .size) (unitsIn v) (levelIn v) (homeIn v) (stateIn v) (λ u. eqb (v .dstate u) 2) (outsIn v) (beyondIn v) (lostIn v)
+    (fillIn v) (rankIn v) (listedFill v) (listedRank v) (totalIn v) c
 
 unfoldable pub numberIn : List ℕ → Call → ℕ
 numberIn s c = firstOf (refusalsIn (sound s) (view s) c)

@@ -9,7 +9,7 @@ use Rattle.buffer.specs.Bytes.{zeros, part}
 use Rattle.group.specs.Widths.{keyBytes, bodyBytes, slotBytes, checkBytes}
 use Rattle.model.specs.Layout.{Store, bytes, view, storeBytes, frontOf, slotAt, slotOf, unitsIn}
 use Rattle.model.specs.Reads.{homeIn, fillIn, rankIn, bodyIn, totalIn, listingIn}
-use Rattle.model.specs.Numbers.{Call, teach, correct, erase, read, readInPlace, list, unitOut, repair, grow, shrink, raise, firstOf, numberIn}
+use Rattle.model.specs.Numbers.{Call, teach, correct, erase, read, readInPlace, list, unitOut, repair, grow, shrink, raise, byAnswer, firstOf, numberIn}
 use Rattle.model.specs.Changes.{written, erased, unitLost, repaired, grown, shrunk, raised}
 
 -- ---- answers
@@ -27,17 +27,8 @@ output n y out = pick (eqb n 0) (y ++ drop (length y) out) out
 
 -- a call's answer, of its number, the bytes that it hands back and the count
 unfoldable pub reply : Call → ℕ → List ℕ → ℕ → Answer
-reply (teach k x) n y m = plain n
-reply (correct k x) n y m = plain n
-reply (erase k) n y m = plain n
-reply (read k out) n y m = copied n (output n y out)
-reply (readInPlace k) n y m = lent y
-reply (list out) n y m = listed n (pick (eqb n 0) m 0) (output n y out)
-reply (unitOut w) n y m = plain n
-reply (repair g) n y m = plain n
-reply grow n y m = plain n
-reply shrink n y m = plain n
-reply raise n y m = plain n
+reply c n y m =
+    byAnswer c (plain n) (λ k out. copied n (output n y out)) (λ k. lent y) (λ out. listed n (pick (eqb n 0) m 0) (output n y out))
 
 -- ---- read in place
 
@@ -50,25 +41,13 @@ pub record Place : Type 0 where
 unfoldable pub placeIn : List ℕ → ℕ → Place
 placeIn s k =
     let v : Store = view s in
-    let u : ℕ = homeIn v k in
-    pick (eqb (numberIn s (read k (zeros bodyBytes))) 0 && not (eqb (v .dstate u) 2))
-    (record { at = slotAt (v .size) u (rankIn v u k) + keyBytes; size = bodyBytes })
-    (record { at = 0; size = 0 })
+    pick (eqb (numberIn s (read k (zeros bodyBytes))) 0 && not (eqb (v .dstate (homeIn v k)) 2))
+    (record { at = slotAt (v .size) (homeIn v k) (rankIn v (homeIn v k) k) + keyBytes; size = bodyBytes }) (record { at = 0; size = 0 })
 
 -- ---- what a granted call hands back, and the store that it leaves
 
 unfoldable pub givenIn : List ℕ → Call → List ℕ
-givenIn s (teach k x) = []
-givenIn s (correct k x) = []
-givenIn s (erase k) = []
-givenIn s (read k out) = bodyIn (view s) k
-givenIn s (readInPlace k) = part (placeIn s k .at) (placeIn s k .size) s
-givenIn s (list out) = listingIn (view s)
-givenIn s (unitOut w) = []
-givenIn s (repair g) = []
-givenIn s grow = []
-givenIn s shrink = []
-givenIn s raise = []
+givenIn s c = byAnswer c [] (λ k out. bodyIn (view s) k) (λ k. part (placeIn s k .at) (placeIn s k .size) s) (λ out. listingIn (view s))
 
 unfoldable pub grantedIn : List ℕ → Call → List ℕ
 grantedIn s (teach k x) = bytes (written (view s) (homeIn (view s) k) (fillIn (view s) (homeIn (view s) k)) (slotOf k x))

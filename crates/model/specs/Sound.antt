@@ -22,14 +22,8 @@ same (x ∷ xs) (y ∷ ys) = eqb x y && same xs ys
 -- these ranges hold; the slice is long enough
 unfoldable pub ranges : List ℕ → Bool
 ranges s =
-    eqb (byte s 0) version
-    && eqb (be32 s 1) (storeBytes (byte s 5))
-    && leb 1 (byte s 5)
-    && leb (byte s 5) 64
-    && leb 1 (byte s 6)
-    && leb (byte s 6) 16
-    && leb 1 (byte s 7)
-    && leb (byte s 7) 3
+    eqb (byte s 0) version && eqb (be32 s 1) (storeBytes (byte s 5))
+    && leb 1 (byte s 5) && leb (byte s 5) 64 && leb 1 (byte s 6) && leb (byte s 6) 16 && leb 1 (byte s 7) && leb (byte s 7) 3
     && leb (storeBytes (byte s 5)) (length s)
 
 -- data units 0 to M - 1 are in place and no others

@@ -9,7 +9,7 @@ use Rattle.buffer.specs.Choice.{pick}
 use Rattle.buffer.specs.Bytes.{zeros}
 use Rattle.buffer.specs.Table.{tab}
 use Rattle.group.specs.Widths.{bodyBytes}
-use Rattle.model.specs.Numbers.{Call, teach, correct, erase, read, readInPlace, list, unitOut, repair, grow, shrink, raise}
+use Rattle.model.specs.Numbers.{Call, read, byAnswer}
 use Rattle.model.specs.Perform.{Answer, reply}
 use Rattle.model.specs.history.Ledger.{Ledger, home, recordAt, rankOf, isOut, total, granted}
 use Rattle.model.specs.history.Picture.{recordBytes}
@@ -24,17 +24,10 @@ listing l = tab 16 (λ u. tab (length (l .records u)) (λ r. recordBytes (record
 
 -- the bytes that a granted call hands back
 unfoldable pub given : Ledger → Call → List ℕ
-given l (teach k x) = []
-given l (correct k x) = []
-given l (erase k) = []
-given l (read k out) = bodyOf l k
-given l (readInPlace k) = pick (eqb (number l (read k (zeros bodyBytes))) 0 && not (isOut l (home l k))) (bodyOf l k) []
-given l (list out) = listing l
-given l (unitOut w) = []
-given l (repair g) = []
-given l grow = []
-given l shrink = []
-given l raise = []
+given l c =
+    byAnswer c [] (λ k out. bodyOf l k)
+    (λ k. pick (eqb (number l (read k (zeros bodyBytes))) 0 && not (isOut l (home l k))) (bodyOf l k) [])
+    (λ out. listing l)
 
 unfoldable pub answer : Ledger → Call → Answer
 answer l c = reply c (number l c) (given l c) (total l)

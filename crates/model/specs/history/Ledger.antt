@@ -30,9 +30,13 @@ pub record Ledger : Type 0 where
   pub checks : ℕ → ℕ  -- group → its check units
   pub out : ℕ → Bool  -- the units marked out: data units 0 to 15, check units 16 + 3g + j
 
+-- a ledger of these parts
+abbrev pub ledger : ℕ → ℕ → ℕ → (ℕ → List Rec) → (ℕ → ℕ) → (ℕ → Bool) → Ledger
+ledger size units level records checks out = record { size = size; units = units; level = level; records = records; checks = checks; out = out }
+
 -- a granted layout opens it: b as given, M = 1, K = 1, an empty list of records per data unit, one check unit in group 0, none out
 unfoldable pub opened : ℕ → Ledger
-opened b = record { size = b; units = 1; level = 1; records = λ u. []; checks = λ g. pick (eqb g 0) 1 0; out = λ w. false }
+opened b = ledger b 1 1 (λ u. []) (λ g. pick (eqb g 0) 1 0) (λ w. false)
 
 -- the unit of a key; the record at a rank; the place of a key in a list, or the list's length
 unfoldable pub home : Ledger → ℕ → ℕ
@@ -71,54 +75,37 @@ total l = sum 16 (λ u. length (l .records u))
 -- ---- the changes
 
 unfoldable pub withRecords : Ledger → ℕ → List Rec → Ledger
-withRecords l u rs = record { size = l .size; units = l .units; level = l .level; records = upd (l .records) u rs; checks = l .checks; out = l .out }
+withRecords l u rs = ledger (l .size) (l .units) (l .level) (upd (l .records) u rs) (l .checks) (l .out)
 
 -- unit out marks a unit out, repair unmarks its group's; neither touches a list
 unfoldable pub withOut : Ledger → ℕ → Ledger
-withOut l w = record { size = l .size; units = l .units; level = l .level; records = l .records; checks = l .checks; out = upd (l .out) w true }
+withOut l w = ledger (l .size) (l .units) (l .level) (l .records) (l .checks) (upd (l .out) w true)
 
 unfoldable pub groupOf : ℕ → ℕ
 groupOf w = pick (ltb w 16) (w / 4) ((w - 16) / 3)
 
 unfoldable pub withIn : Ledger → ℕ → Ledger
-withIn l g = record {
-  size = l .size;
-  units = l .units;
-  level = l .level;
-  records = l .records;
-  checks = l .checks;
-  out = λ w. not (eqb (groupOf w) g) && l .out w;
-}
+withIn l g = ledger (l .size) (l .units) (l .level) (l .records) (l .checks) (λ w. not (eqb (groupOf w) g) && l .out w)
 
 -- grow deals list n out again, in order, by the new M; a group whose first unit is the new one or the split one then has K check units
 unfoldable pub grownLedger : Ledger → Ledger
 grownLedger l =
     let m : ℕ = l .units in
     let n : ℕ = splitPointer m in
-    record {
-      size = l .size;
-      units = suc m;
-      level = l .level;
-      records = λ u. pick (eqb u m || eqb u n) (keep (λ x. eqb (unitOf (suc m) (x .key)) u) (l .records n)) (l .records u);
-      checks = λ g. pick (eqb (4 * g) m || eqb (4 * g) n) (l .level) (l .checks g);
-      out = l .out;
-    }
+    ledger (l .size) (suc m) (l .level)
+    (λ u. pick (eqb u m || eqb u n) (keep (λ x. eqb (unitOf (suc m) (x .key)) u) (l .records n)) (l .records u))
+    (λ g. pick (eqb (4 * g) m || eqb (4 * g) n) (l .level) (l .checks g)) (l .out)
 
 -- shrink puts the last list, of unit m, behind that of the unit it was split from; a group with no unit below m loses its check units
 unfoldable pub shrunkLedger : Ledger → ℕ → Ledger
 shrunkLedger l m =
     let n : ℕ = splitPointer m in
-    record {
-      size = l .size;
-      units = m;
-      level = l .level;
-      records = λ u. pick (eqb u m) [] (pick (eqb u n) (l .records n ++ l .records m) (l .records u));
-      checks = λ g. pick (ltb (4 * g) m) (l .checks g) 0;
-      out = l .out;
-    }
+    ledger (l .size) m (l .level)
+    (λ u. pick (eqb u m) [] (pick (eqb u n) (l .records n ++ l .records m) (l .records u)))
+    (λ g. pick (ltb (4 * g) m) (l .checks g) 0) (l .out)
 
 unfoldable pub raisedLedger : Ledger → Ledger
-raisedLedger l = record { size = l .size; units = l .units; level = suc (l .level); records = l .records; checks = l .checks; out = l .out }
+raisedLedger l = ledger (l .size) (l .units) (suc (l .level)) (l .records) (l .checks) (l .out)
 
 -- the ledger after a granted call
 unfoldable pub granted : Ledger → Call → Ledger

@@ -7,7 +7,7 @@ use Rattle.buffer.specs.Bytes.{bytes32, zeros}
 use Rattle.buffer.specs.Table.{tab}
 use Rattle.group.specs.Widths.{slotBytes, checkBytes}
 use Rattle.group.specs.Parity.{parity}
-use Rattle.model.specs.Layout.{Store, bytes, frontOf}
+use Rattle.model.specs.Layout.{Store, store, bytes, frontOf}
 use Rattle.model.specs.history.Ledger.{Rec, Ledger, recordAt, state}
 
 -- a record's bytes: key and body
@@ -28,15 +28,7 @@ pictureCheck l c r = pick (eqb (state l (16 + c)) 1) (checkOver (c % 3) (λ p. r
 
 -- the parts of the store: header and states by the ledger; rest is what the slice has behind the store
 unfoldable pub image : Ledger → List ℕ → Store
-image l rest = record {
-  front = frontOf (l .size) (l .units) (l .level);
-  dstate = state l;
-  cstate = λ c. state l (16 + c);
-  size = l .size;
-  slot = pictureSlot l;
-  check = pictureCheck l;
-  rest = rest;
-}
+image l rest = store (frontOf (l .size) (l .units) (l .level)) (state l) (λ c. state l (16 + c)) (l .size) (pictureSlot l) (pictureCheck l) rest
 
 abbrev pub picture : Ledger → List ℕ → List ℕ
 picture l rest = bytes (image l rest)

@@ -18,19 +18,23 @@ unfoldable pub finalIn : List ℕ → List Call → List ℕ
 finalIn s [] = s
 finalIn s (c ∷ cs) = finalIn (perform s c .store) cs
 
+-- a choice by what a call changes: nothing or the layout, a key's body (teach, correct), a key (erase), or the marks of units (unit out, repair)
+abbrev pub byChange : {A : Type 0} → Call → A → (ℕ → List ℕ → A) → (ℕ → A) → A → A
+byChange (teach k x) other taught erased marked = taught k x
+byChange (correct k x) other taught erased marked = taught k x
+byChange (erase k) other taught erased marked = erased k
+byChange (read k out) other taught erased marked = other
+byChange (readInPlace k) other taught erased marked = other
+byChange (list out) other taught erased marked = other
+byChange (unitOut w) other taught erased marked = marked
+byChange (repair g) other taught erased marked = marked
+byChange grow other taught erased marked = other
+byChange shrink other taught erased marked = other
+byChange raise other taught erased marked = other
+
 -- all calls but losses and repairs
 unfoldable pub lasting : Call → Bool
-lasting (teach k x) = true
-lasting (correct k x) = true
-lasting (erase k) = true
-lasting (read k out) = true
-lasting (readInPlace k) = true
-lasting (list out) = true
-lasting (unitOut w) = false
-lasting (repair g) = false
-lasting grow = true
-lasting shrink = true
-lasting raise = true
+lasting c = byChange c true (λ k x. true) (λ k. true) false
 
 -- the granted calls of a run other than losses and repairs
 unfoldable pub aloneIn : List ℕ → List Call → List Call
@@ -53,17 +57,7 @@ pub data Taught : Type 0 where
 
 -- after a call that returned the number n
 unfoldable pub taughtBy : ℕ → Call → ℕ → Taught → Taught
-taughtBy k (teach j x) n t = pick (eqb n 0 && eqb j k) (present x) t
-taughtBy k (correct j x) n t = pick (eqb n 0 && eqb j k) (present x) t
-taughtBy k (erase j) n t = pick (eqb n 0 && eqb j k) absent t
-taughtBy k (read j out) n t = t
-taughtBy k (readInPlace j) n t = t
-taughtBy k (list out) n t = t
-taughtBy k (unitOut w) n t = t
-taughtBy k (repair g) n t = t
-taughtBy k grow n t = t
-taughtBy k shrink n t = t
-taughtBy k raise n t = t
+taughtBy k c n t = byChange c t (λ j x. pick (eqb n 0 && eqb j k) (present x) t) (λ j. pick (eqb n 0 && eqb j k) absent t) t
 
 -- by the key's last granted teach or correct; absent where there is none or a granted erase follows
 unfoldable pub lastTaught : ℕ → List ℕ → List Call → Taught → Taught

@@ -1,80 +1,15 @@
--- Each call's number by arguments and ledger: the rows of document 01's table, in its order. 1 never applies. Assumes nothing.
-use Prim.Native.Nat.{ℕ, pred, _+_, _*_, _/_}
-use mathlib.Core.List.{List, [], _∷_}
-use mathlib.Core.Bool.{Bool, false, not, _&&_}
-use lib.Dec.{eqb, ltb, leb}
+-- Each call's number by arguments and ledger, from document 01's table. 1 never applies. Assumes nothing.
+use Prim.Native.Nat.{ℕ}
+use mathlib.Core.List.{List}
+use mathlib.Core.Bool.{Bool, true}
 use lib.ListN.{length}
-use Rattle.group.specs.Widths.{bodyBytes, slotBytes}
-use Rattle.model.specs.Units.{splitPointer}
-use Rattle.model.specs.Numbers.{Call, teach, correct, erase, read, readInPlace, list, unitOut, repair, grow, shrink, raise, firstOf}
+use Rattle.model.specs.Numbers.{Call, firstOf, table}
 use Rattle.model.specs.history.Ledger.{Ledger, home, rankOf, state, isOut, outsOf, beyondOf, lost, total}
 
 unfoldable pub refusals : Ledger → Call → List (Bool × ℕ)
-refusals l (teach k x) =
-    (eqb k 0, 2)
-    ∷ (not (eqb (length x) bodyBytes), 2)
-    ∷ (false, 1)
-    ∷ (ltb 0 (outsOf l (home l k / 4)), 4)
-    ∷ (ltb (rankOf (l .records (home l k)) k) (length (l .records (home l k))), 5)
-    ∷ (leb (l .size) (length (l .records (home l k))), 7)
-    ∷ []
-refusals l (correct k x) =
-    (eqb k 0, 2)
-    ∷ (not (eqb (length x) bodyBytes), 2)
-    ∷ (false, 1)
-    ∷ (ltb 0 (outsOf l (home l k / 4)), 4)
-    ∷ (leb (length (l .records (home l k))) (rankOf (l .records (home l k)) k), 6)
-    ∷ []
-refusals l (erase k) =
-    (eqb k 0, 2)
-    ∷ (false, 1)
-    ∷ (ltb 0 (outsOf l (home l k / 4)), 4)
-    ∷ (leb (length (l .records (home l k))) (rankOf (l .records (home l k)) k), 6)
-    ∷ []
-refusals l (read k out) =
-    (eqb k 0, 2)
-    ∷ (not (eqb (length out) bodyBytes), 2)
-    ∷ (false, 1)
-    ∷ (isOut l (home l k) && beyondOf l (home l k / 4), 8)
-    ∷ (leb (length (l .records (home l k))) (rankOf (l .records (home l k)) k), 6)
-    ∷ []
-refusals l (readInPlace k) = []
-refusals l (list out) =
-    (false, 1)
-    ∷ (lost l, 8)
-    ∷ (ltb (length out) (slotBytes * total l), 7)
-    ∷ []
-refusals l (unitOut w) =
-    (ltb 27 w, 2)
-    ∷ (false, 1)
-    ∷ (eqb (state l w) 0, 3)
-    ∷ (eqb (state l w) 2, 4)
-    ∷ []
-refusals l (repair g) =
-    (ltb 3 g, 2)
-    ∷ (false, 1)
-    ∷ (leb (l .units) (4 * g), 3)
-    ∷ (beyondOf l g, 8)
-    ∷ []
-refusals l grow =
-    (false, 1)
-    ∷ (leb 16 (l .units), 9)
-    ∷ (ltb 0 (outsOf l (l .units / 4)), 4)
-    ∷ (ltb 0 (outsOf l (splitPointer (l .units) / 4)), 4)
-    ∷ []
-refusals l shrink =
-    (false, 1)
-    ∷ (leb (l .units) 1, 9)
-    ∷ (ltb 0 (outsOf l (pred (l .units) / 4)), 4)
-    ∷ (ltb 0 (outsOf l (splitPointer (pred (l .units)) / 4)), 4)
-    ∷ (ltb (l .size) (length (l .records (splitPointer (pred (l .units)))) + length (l .records (pred (l .units)))), 7)
-    ∷ []
-refusals l raise =
-    (false, 1)
-    ∷ (ltb 0 (splitPointer (l .units)), 9)
-    ∷ (leb 16 (l .units), 9)
-    ∷ (leb 3 (l .level), 9)
-    ∷ []
+refusals l c =
+    table true (l .size) (l .units) (l .level) (home l) (state l) (isOut l) (outsOf l) (beyondOf l) (lost l)
+    (λ u. length (l .records u)) (λ u. rankOf (l .records u)) (λ u. length (l .records u)) (λ u. rankOf (l .records u)) (total l) c
 
 unfoldable pub number : Ledger → Call → ℕ
 number l c = firstOf (refusals l c)
