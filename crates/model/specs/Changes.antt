@@ -1,11 +1,11 @@
 -- What the granted calls leave in a store, part by part (document 01, "Units, keys and ranks"). Assumes nothing.
-use Prim.Native.Nat.{ℕ, zero, suc, pred, _+_, _*_, _-_, _/_, _%_}
+use Prim.Native.Nat.{ℕ, zero, suc, _+_, _*_, _/_, _%_}
 use mathlib.Core.List.{List, [], _∷_, _++_}
 use mathlib.Core.Bool.{Bool, not, _&&_}
 use lib.Dec.{eqb, ltb}
 use lib.ListN.{take, drop, getD, set}
 use Rattle.buffer.specs.Choice.{pick}
-use Rattle.buffer.specs.Bytes.{byte, zeros}
+use Rattle.buffer.specs.Bytes.{zeros}
 use Rattle.buffer.specs.Table.{upd}
 use Rattle.group.specs.Widths.{keyBytes, slotBytes, checkBytes}
 use Rattle.group.specs.Body.{addBody}

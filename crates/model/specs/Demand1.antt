@@ -13,12 +13,8 @@ use Rattle.group.specs.Widths.{bodyBytes, slotBytes}
 use Rattle.model.specs.Layout.{view, storeBytes, unitsIn}
 use Rattle.model.specs.Reads.{homeIn, stateIn, lostIn, totalIn}
 use Rattle.model.specs.Sound.{sound}
-use Rattle.model.specs.Numbers.{Call, teach, correct, erase, read, readInPlace, list, unitOut, repair, grow, shrink, raise, byAnswer, numberIn}
-use Rattle.model.specs.Perform.{Answer, plain, copied, lent, listed, outcome, givenIn, perform, layOutNumber, layOut}
-
--- the answer of a call that is refused with the number n: nothing is handed back, and an output buffer is as it was
-unfoldable pub refusal : Call → ℕ → Answer
-refusal c n = byAnswer c (plain n) (λ k out. copied n out) (λ k. lent []) (λ out. listed n 0 out)
+use Rattle.model.specs.Numbers.{Call, teach, correct, erase, read, readInPlace, list, unitOut, repair, numberIn}
+use Rattle.model.specs.Perform.{plain, refusal, outcome, givenIn, perform, layOutNumber, layOut}
 
 -- a call on any bytes: its number is the table's; refused, it leaves all as it was; a damaged store gets 1 where 2 does not apply
 pub record Refuses (s : List ℕ) (c : Call) : Type 0 where

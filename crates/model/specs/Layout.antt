@@ -5,7 +5,7 @@ use mathlib.Core.List.{List, [], _∷_, _++_}
 use lib.ListN.{take, drop}
 use Rattle.buffer.specs.Bytes.{byte, be32, bytes32, part}
 use Rattle.buffer.specs.Table.{tab}
-use Rattle.group.specs.Widths.{keyBytes, slotBytes, checkBytes}
+use Rattle.group.specs.Widths.{slotBytes, checkBytes}
 
 -- byte 0: the version
 abbrev pub version : ℕ

@@ -1,6 +1,6 @@
 -- Document 01, "Numbers returned": the calls of demand 3 and, for each, the rows of the table that concern it, in the order 2, 1, 3, 9, 4, 8,
 -- 5, 6, 7. The first condition that holds gives the number; where none holds the call is granted. Assumes nothing.
-use Prim.Native.Nat.{ℕ, pred, _+_, _*_, _-_, _/_}
+use Prim.Native.Nat.{ℕ, pred, _+_, _*_, _/_}
 use mathlib.Core.List.{List, [], _∷_}
 use mathlib.Core.Bool.{Bool, not, _&&_}
 use lib.Dec.{eqb, ltb, leb}

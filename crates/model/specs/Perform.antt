@@ -1,7 +1,7 @@
 -- The calls on the bytes of a store: for all bytes and arguments the answer and the bytes that the call leaves. Assumes nothing.
 use Prim.Native.Nat.{ℕ, pred, _+_, _*_}
 use mathlib.Core.List.{List, [], _∷_, _++_}
-use mathlib.Core.Bool.{Bool, not, _&&_, _||_}
+use mathlib.Core.Bool.{not, _&&_}
 use lib.Dec.{eqb, ltb}
 use lib.ListN.{length, drop}
 use Rattle.buffer.specs.Choice.{pick}
@@ -29,6 +29,10 @@ output n y out = pick (eqb n 0) (y ++ drop (length y) out) out
 unfoldable pub reply : Call → ℕ → List ℕ → ℕ → Answer
 reply c n y m =
     byAnswer c (plain n) (λ k out. copied n (output n y out)) (λ k. lent y) (λ out. listed n (pick (eqb n 0) m 0) (output n y out))
+
+-- the answer of a call that is refused with the number n: nothing is handed back, and an output buffer is as it was
+unfoldable pub refusal : Call → ℕ → Answer
+refusal c n = byAnswer c (plain n) (λ k out. copied n out) (λ k. lent []) (λ out. listed n 0 out)
 
 -- ---- read in place
 

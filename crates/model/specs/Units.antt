@@ -1,6 +1,6 @@
 -- Document 01, "Units, keys and ranks": where a key lies, and which unit is split. A data unit is linear hashing's bucket, a check unit a
 -- parity bucket, a group a bucket group of four. Assumes nothing.
-use Prim.Native.Nat.{ℕ, suc, _+_, _*_, _-_, _/_, _%_}
+use Prim.Native.Nat.{ℕ, suc, _*_, _-_, _/_, _%_}
 use mathlib.Core.Bool.{Bool, _&&_, _||_}
 use lib.Dec.{eqb, ltb}
 use Rattle.buffer.specs.Choice.{pick}

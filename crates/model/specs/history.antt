@@ -3,6 +3,7 @@ pub mod Picture
 pub mod Table
 pub mod Answers
 pub mod Runs
+pub mod Typed
 pub mod Claims
 pub mod Commissioning
 pub mod StaysSound

@@ -15,7 +15,7 @@ use Rattle.model.specs.history.Ledger.{Ledger, opened, home, placed, isO
 use Rattle.model.specs.history.Table.{refusals, number}
 use Rattle.model.specs.history.Answers.{after, final}
 use Rattle.model.specs.history.Runs.{lasting}
-use Rattle.model.specs.history.Claims.{AllTyped}
+use Rattle.model.specs.history.Typed.{AllTyped}
 use Rattle.model.specs.RowLaws.{Free, free-first}
 use Rattle.model.proofs.history.Granted.{granted-free, granted-after, refused-after}
 

@@ -1,9 +1,9 @@
 -- Runs of functions that meet their contracts are runs of `perform`, so demand 3 holds of them. Assumes nothing.
 use Prim.Native.Nat.{ℕ}
 use mathlib.Core.Path.{_≡_, refl, sym, ap, ap₂, _∙_}
-use mathlib.Core.List.{List, [], _∷_}
+use mathlib.Core.List.{List, _∷_}
 use Rattle.model.specs.Numbers.{Call}
-use Rattle.model.specs.Perform.{Answer, plain, Outcome, outcome, perform, layOut, layOutNumber}
+use Rattle.model.specs.Perform.{Answer, plain, Outcome, layOut, layOutNumber}
 use Rattle.model.specs.history.Runs.{answersIn, finalIn}
 use Rattle.model.specs.history.Contracts.{Run, done, then, RunsAsLedger}
 use Rattle.model.proofs.history.Demand3.{outlives}

@@ -18,8 +18,9 @@ use Rattle.model.specs.history.Ledger.{Ledger, opened, home}
 use Rattle.model.specs.history.Picture.{picture}
 use Rattle.model.specs.history.Table.{refusals, number}
 use Rattle.model.specs.history.Answers.{final}
-use Rattle.model.specs.history.Runs.{answersIn, finalIn, aloneIn, allGranted, absent, lastTaught}
-use Rattle.model.specs.history.Claims.{AllTyped, told, Histories, Unlost, ReadsAsTaught, BeyondRecovery, Outlives}
+use Rattle.model.specs.history.Runs.{answersIn, finalIn, aloneIn, allGranted, absent, lastTaught, told}
+use Rattle.model.specs.history.Typed.{AllTyped}
+use Rattle.model.specs.history.Claims.{Histories, Unlost, ReadsAsTaught, BeyondRecovery, Outlives}
 use Rattle.model.proofs.history.Alone.{bare, alone, allGrantedBy, final-bare, alone-again, bare-opened, bare-state, alone-typed}
 use Rattle.model.proofs.history.Stand.{stand}
 use Rattle.model.proofs.history.Taught.{lastTaughtBy, stand-final, stand-opened, read-tells}

@@ -7,7 +7,7 @@ use Rattle.model.specs.history.Ledger.{Ledger}
 use Rattle.model.specs.history.Picture.{picture}
 use Rattle.model.specs.history.Answers.{after, answers, final}
 use Rattle.model.specs.history.Runs.{answersIn, finalIn, aloneIn, allGranted, Taught, lastTaught}
-use Rattle.model.specs.history.Claims.{Typed, AllTyped}
+use Rattle.model.specs.history.Typed.{Typed, AllTyped}
 use Rattle.model.proofs.history.Alone.{alone, allGrantedBy}
 use Rattle.model.proofs.history.Stand.{Ordered}
 use Rattle.model.proofs.history.Taught.{lastTaughtBy, Throughout}

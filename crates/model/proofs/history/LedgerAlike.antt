@@ -28,7 +28,7 @@ use Rattle.model.specs.Reads.{fillIn, keeper, listedKey, listedFill}
 use Rattle.model.specs.Sound.{keysKnown, sound}
 use Rattle.model.specs.history.Ledger.{Rec, Ledger, empty, recordAt, state}
 use Rattle.model.specs.history.Picture.{recordBytes, pictureSlot, checkOver, pictureCheck, image}
-use Rattle.model.specs.history.Claims.{Bytes}
+use Rattle.model.specs.history.Typed.{Bytes}
 use Rattle.model.proofs.history.Records.{take-record, empty-bytes, length-keys}
 use Rattle.model.proofs.history.Picture.{Valid, image-shaped}
 use Rattle.model.proofs.history.Seen.{past}

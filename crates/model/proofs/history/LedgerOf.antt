@@ -24,7 +24,7 @@ use Rattle.model.specs.Layout.{Store, view, slotAt, checkAt, unitsIn, le
 use Rattle.model.specs.Reads.{stateIn, keeper, listedKey, listedFill}
 use Rattle.model.specs.Sound.{checksIn, checksAllowed, keysKnown, sound}
 use Rattle.model.specs.history.Ledger.{Rec, Ledger, empty, recordAt, placed, state}
-use Rattle.model.specs.history.Claims.{Bytes}
+use Rattle.model.specs.history.Typed.{Bytes}
 use Rattle.model.proofs.history.Records.{Good}
 use Rattle.model.proofs.history.Picture.{Valid}
 use Rattle.model.proofs.history.States.{placed-unit, placed-check}

@@ -20,7 +20,7 @@ use Rattle.model.specs.Sound.{sound}
 use Rattle.model.specs.Changes.{written}
 use Rattle.model.specs.history.Ledger.{Rec, Ledger, empty, home, recordAt, rankOf, placed, state, outsOf, withRecords}
 use Rattle.model.specs.history.Picture.{recordBytes, picture, image}
-use Rattle.model.specs.history.Claims.{Bytes}
+use Rattle.model.specs.history.Typed.{Bytes}
 use Rattle.model.proofs.history.Records.{Good}
 use Rattle.model.proofs.history.Picture.{Valid, seen}
 use Rattle.model.proofs.history.Seen.{home-seen, home-lt, home-low, outs-seen, serving, fill-seen, rank-seen}

@@ -24,7 +24,7 @@ use Rattle.model.specs.Perform.{grantedIn, afterIn, perform}
 use Rattle.model.specs.history.Ledger.{Ledger, home, rankOf, outsOf, granted}
 use Rattle.model.specs.history.Picture.{picture, image}
 use Rattle.model.specs.history.Table.{refusals, number}
-use Rattle.model.specs.history.Claims.{Typed}
+use Rattle.model.specs.history.Typed.{Typed}
 use Rattle.model.specs.history.StaysSound.{StaysSound}
 use Rattle.model.specs.RowLaws.{Agree, Free, agree-first}
 use Rattle.model.proofs.history.Granted.{granted-free}

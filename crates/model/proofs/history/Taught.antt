@@ -16,8 +16,7 @@ use Rattle.model.specs.Perform.{copied, reply, output}
 use Rattle.model.specs.history.Ledger.{Rec, empty, Ledger, opened, home, recordAt, rankOf, isOut, beyondOf}
 use Rattle.model.specs.history.Table.{refusals, number}
 use Rattle.model.specs.history.Answers.{bodyOf, given, answer, after, final}
-use Rattle.model.specs.history.Runs.{Taught, absent, present, taughtBy}
-use Rattle.model.specs.history.Claims.{told}
+use Rattle.model.specs.history.Runs.{Taught, absent, present, taughtBy, told}
 use Rattle.model.proofs.history.Seek.{seek, seek-rank}
 use Rattle.model.proofs.history.Stand.{Ordered, stand, different, stand-after}
 

@@ -17,7 +17,7 @@ use Rattle.model.specs.Perform.{reply, givenIn, grantedIn}
 use Rattle.model.specs.history.Ledger.{Rec, Ledger, empty, home, recordAt, rankOf, outsOf, granted}
 use Rattle.model.specs.history.Table.{refusals}
 use Rattle.model.specs.history.Answers.{given}
-use Rattle.model.specs.history.Claims.{Typed}
+use Rattle.model.specs.history.Typed.{Typed}
 use Rattle.model.specs.RowLaws.{Free}
 use Rattle.model.proofs.history.Records.{Good}
 use Rattle.model.proofs.history.Picture.{Valid}

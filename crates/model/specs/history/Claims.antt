@@ -2,46 +2,20 @@
 -- the only side condition. Assumes nothing.
 use Prim.Native.Nat.{ℕ, _*_, _/_, _<_, _≤_}
 use mathlib.Core.Path.{_≡_}
-use mathlib.Core.List.{List, [], _∷_}
-use mathlib.Core.Bool.{Bool, true, _&&_}
+use mathlib.Core.List.{List}
+use mathlib.Core.Bool.{true, _&&_}
 use lib.Dec.{eqb, ltb, leb}
 use lib.ListN.{length, drop}
 use Rattle.buffer.specs.Choice.{pick}
-use Rattle.buffer.specs.Bytes.{byte}
 use Rattle.group.specs.Widths.{bodyBytes}
-use Rattle.model.specs.Layout.{Store, view, storeBytes, unitsIn}
+use Rattle.model.specs.Layout.{view, storeBytes, unitsIn}
 use Rattle.model.specs.Reads.{homeIn, stateIn, beyondIn}
-use Rattle.model.specs.Numbers.{Call, teach, correct, erase, read, readInPlace, list, unitOut, repair, grow, shrink, raise, numberIn}
-use Rattle.model.specs.Perform.{Answer, copied, perform, layOut}
+use Rattle.model.specs.Numbers.{Call, read, repair, numberIn}
+use Rattle.model.specs.Perform.{copied, perform, layOut}
 use Rattle.model.specs.history.Ledger.{opened}
 use Rattle.model.specs.history.Picture.{picture}
 use Rattle.model.specs.history.Answers.{answers, final}
-use Rattle.model.specs.history.Runs.{answersIn, finalIn, aloneIn, allGranted, unitIn, Taught, absent, present, lastTaught}
-
-abbrev pub Bytes : List ℕ → Type 0
-Bytes x = (i : ℕ) → byte x i < 256
-
-abbrev pub Typed : Call → Type 0
-Typed (teach k x) = (k < 4294967296) × Bytes x
-Typed (correct k x) = (k < 4294967296) × Bytes x
-Typed (erase k) = (k < 4294967296) × Unit {0}
-Typed (read k out) = (k < 4294967296) × Unit {0}
-Typed (readInPlace k) = (k < 4294967296) × Unit {0}
-Typed (list out) = Unit {0} × Unit {0}
-Typed (unitOut w) = Unit {0} × Unit {0}
-Typed (repair g) = Unit {0} × Unit {0}
-Typed grow = Unit {0} × Unit {0}
-Typed shrink = Unit {0} × Unit {0}
-Typed raise = Unit {0} × Unit {0}
-
-abbrev pub AllTyped : List Call → Type 0
-AllTyped [] = Unit {0}
-AllTyped (c ∷ cs) = Typed c × AllTyped cs
-
--- what read, given a buffer that fits, owes of a key: its body, or 6 and the buffer as it was
-unfoldable pub told : List ℕ → Taught → Answer
-told out absent = copied 6 out
-told out (present x) = copied 0 x
+use Rattle.model.specs.history.Runs.{answersIn, finalIn, aloneIn, allGranted, unitIn, absent, lastTaught, told}
 
 module _ (s : List ℕ) (b : ℕ) (cs : List Call) where
   -- the store as laid out, and as the list leaves it

@@ -10,8 +10,8 @@ use Rattle.buffer.specs.Range.{first, count, sum}
 use Rattle.buffer.specs.Bytes.{bytes32, zeros}
 use Rattle.buffer.specs.Table.{tab, upd}
 use Rattle.model.specs.Units.{powerBelow, splitPointer, unitOf}
-use Rattle.model.specs.Numbers.{Call, teach, unitOut, read, list, firstOf}
-use Rattle.model.specs.Perform.{Answer, plain, copied, listed, output, reply}
+use Rattle.model.specs.Numbers.{teach, unitOut, read, list, firstOf}
+use Rattle.model.specs.Perform.{plain, copied, listed, output, reply}
 use Rattle.model.specs.history.Ledger.{empty, opened, home, recordAt, rankOf, placed, isOut, state, outsOf, beyondOf, lost, total, withRecords, withOut, granted}
 use Rattle.model.specs.history.Picture.{recordBytes}
 use Rattle.model.specs.history.Table.{refusals, number}

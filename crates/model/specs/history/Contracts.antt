@@ -10,7 +10,7 @@ use Rattle.model.specs.Perform.{Answer, plain, outcome, perform, layOut}
 use Rattle.model.specs.history.Ledger.{opened}
 use Rattle.model.specs.history.Picture.{picture}
 use Rattle.model.specs.history.Answers.{answers, final}
-use Rattle.model.specs.history.Claims.{AllTyped}
+use Rattle.model.specs.history.Typed.{AllTyped}
 
 -- the store at the start, the calls, their answers, and the store at the end
 pub data Run : List ℕ → List Call → List Answer → List ℕ → Type 0 where

@@ -7,7 +7,7 @@ use Rattle.buffer.specs.Choice.{pick}
 use Rattle.buffer.specs.Table.{tab}
 use Rattle.model.specs.Layout.{Store}
 use Rattle.model.specs.Numbers.{Call, teach, correct, erase, read, readInPlace, list, unitOut, repair, grow, shrink, raise, numberIn}
-use Rattle.model.specs.Perform.{Answer, perform}
+use Rattle.model.specs.Perform.{Answer, copied, perform}
 
 -- the answers of a list of calls, and the bytes at its end
 unfoldable pub answersIn : List ℕ → List Call → List Answer
@@ -63,3 +63,8 @@ taughtBy k c n t = byChange c t (λ j x. pick (eqb n 0 && eqb j k) (present x) t
 unfoldable pub lastTaught : ℕ → List ℕ → List Call → Taught → Taught
 lastTaught k s [] t = t
 lastTaught k s (c ∷ cs) t = lastTaught k (perform s c .store) cs (taughtBy k c (numberIn s c) t)
+
+-- what read, given a buffer that fits, owes of a key: its body, or 6 and the buffer as it was
+unfoldable pub told : List ℕ → Taught → Answer
+told out absent = copied 6 out
+told out (present x) = copied 0 x

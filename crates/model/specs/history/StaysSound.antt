@@ -7,7 +7,7 @@ use mathlib.Core.Bool.{true}
 use Rattle.model.specs.Sound.{sound}
 use Rattle.model.specs.Numbers.{Call}
 use Rattle.model.specs.Perform.{perform}
-use Rattle.model.specs.history.Claims.{Bytes, Typed}
+use Rattle.model.specs.history.Typed.{Bytes, Typed}
 
 abbrev pub StaysSound : Type 0
 StaysSound = (s : List ℕ) → Bytes s → sound s ≡ true → (c : Call) → Typed c → sound (perform s c .store) ≡ true
