@@ -10,7 +10,8 @@ use lib.Bits.{bitXor, xor-lt, xor-comm, xor-self, xor-zero-r}
 use lib.Dec.{T, ltb, ltb→lt, lt→ltb, T-prop}
 use Rattle.algebra.specs.Field.{Field}
 use Rattle.algebra.specs.Xor.{xor-assoc}
-use Rattle.algebra.specs.Binary.{productIn, Tested}
+use Rattle.algebra.specs.Binary.{productIn}
+use Rattle.algebra.specs.BinaryTested.{Tested}
 use Rattle.algebra.specs.BinaryLinear.{product-add}
 use Rattle.algebra.specs.BinaryLaws.{bound, one, comm, assoc, inverse-low, inverse-is}
 

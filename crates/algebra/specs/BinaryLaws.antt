@@ -6,7 +6,8 @@ use lib.Pow.{pow-pos}
 use lib.Bits.{bitXor, xor-lt}
 use lib.Dec.{T, ltb, eqb, eqb→eq, ltb→lt}
 use Rattle.algebra.specs.Every.{every, every-at, either, either-second}
-use Rattle.algebra.specs.Binary.{productIn, Tested}
+use Rattle.algebra.specs.Binary.{productIn}
+use Rattle.algebra.specs.BinaryTested.{Tested}
 use Rattle.algebra.specs.BinaryLinear.{each-below, product-add, add-product, product-zero, zero-product}
 
 module _ {w m : ℕ} {inverse : ℕ → ℕ} (𝓣 : Tested w m inverse) where

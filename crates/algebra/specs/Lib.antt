@@ -9,6 +9,7 @@ pub mod Roots
 pub mod LagrangeLaws
 pub mod Interpolation
 pub mod Binary
+pub mod BinaryTested
 pub mod BinaryLinear
 pub mod BinaryLaws
 pub mod BinaryField

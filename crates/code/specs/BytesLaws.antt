@@ -18,10 +18,15 @@ use Rattle.code.specs.Lists.{four, all-four, each-four, within-head, wit
 use Rattle.code.specs.Fixing.{fixes}
 use Rattle.code.specs.Weights.{weightsOf, data-of}
 use Rattle.code.specs.WeightsLaws.{weights-within, rebuilt-has}
-use Rattle.code.specs.Bytes.{highs, lows, mixed, encode-bytes, bytes-of}
-use Rattle.code.specs.Halves.{lows-within, highs-within, mixed-high, mixed-low, mixed-bound, encode-high, encode-low, encode-halves}
+use Rattle.code.specs.Bytes.{mixed, encode-bytes}
+use Rattle.code.specs.Halves.{lows-within, highs-within, mixed-high, mixed-low, mixed-bound, encode-high, encode-low, encode-halves, highs, lows}
+
+-- the data bytes rebuilt from the bytes ys at the columns cs
+abbrev pub bytes-of : List ℕ → List ℕ → List ℕ
+bytes-of cs ys = mixed (weightsOf cs 0) ys ∷ mixed (weightsOf cs 1) ys ∷ mixed (weightsOf cs 2) ys ∷ mixed (weightsOf cs 3) ys ∷ []
 
 -- ---- the rebuilt bytes have the given bytes
+
 highs-are : (cs ys : List ℕ) → highs (bytes-of cs ys) ≡ data-of cs (highs ys)
 highs-are cs ys =
     λ i. mixed-high (weightsOf cs 0) ys (weights-within cs 0) i ∷ mixed-high (weightsOf cs 1) ys (weights-within cs 1) i

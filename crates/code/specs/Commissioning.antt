@@ -4,7 +4,8 @@ use mathlib.Core.List.{[], _∷_}
 use Prim.Native.Nat.{ℕ, _<_}
 use lib.ListN.{getD}
 use Rattle.algebra.specs.Every.{values, yes-true}
-use Rattle.algebra.specs.Binary.{times, remainder, productIn, inverseIn, squares}
+use Rattle.algebra.specs.Binary.{times, remainder, productIn}
+use Rattle.algebra.specs.BinaryTested.{inverseIn, squares}
 use Rattle.field.specs.Gf16.{product, inverse}
 use Rattle.code.specs.Matrix.{matrix, entry, encode, accepted, Rebuilds}
 use Rattle.code.specs.Lists.{each-four}

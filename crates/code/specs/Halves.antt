@@ -2,7 +2,7 @@
 -- halves there; `mixed-high` and `mixed-low` say the same of any weights, `mixed-bound` that the sum is a byte.
 use mathlib.Core.Path.{_≡_, refl, ap, ap₂, _∙_}
 use mathlib.Core.Bool.{true}
-use mathlib.Core.List.{List, [], _∷_}
+use mathlib.Core.List.{List, [], _∷_, map}
 use Prim.Native.Nat.{ℕ, _+_, _*_, _/_, _%_, _<_}
 use native.Mathlib.Nat.{le-of-suc-le-suc}
 use native.Mathlib.Omega.{arith}
@@ -20,7 +20,14 @@ use Rattle.code.specs.MatrixLaws.{column-within}
 use Rattle.code.specs.Lists.{four, within-head, within-tail, within-cons, within-map}
 use Rattle.code.specs.Weights.{combination}
 use Rattle.code.specs.WeightsLaws.{combination-bound}
-use Rattle.code.specs.Bytes.{highs, lows, mixed, encode-bytes}
+use Rattle.code.specs.Bytes.{mixed, encode-bytes}
+
+-- the high and the low halves of bytes
+abbrev pub highs : List ℕ → List ℕ
+highs bs = map (λ (b : ℕ). b / 16) bs
+
+abbrev pub lows : List ℕ → List ℕ
+lows bs = map (λ (b : ℕ). b % 16) bs
 
 pub lows-within : (ys : List ℕ) → within 15 (lows ys) ≡ true
 lows-within [] = refl

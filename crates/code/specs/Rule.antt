@@ -8,7 +8,8 @@ use lib.Bits.{bitXor}
 use lib.Dec.{T, eqb, eqb→eq, lit<}
 use lib.ListN.{length}
 use Rattle.algebra.specs.Every.{every, every-at}
-use Rattle.algebra.specs.Binary.{times, remainder, productIn, inverseIn, squares}
+use Rattle.algebra.specs.Binary.{times, remainder, productIn}
+use Rattle.algebra.specs.BinaryTested.{inverseIn, squares}
 use Rattle.algebra.specs.Polynomial.{Point, fin, value}
 use Rattle.algebra.specs.Lagrange.{weight, lagrange, Takes}
 use Rattle.algebra.specs.LagrangeLaws.{lagrange-takes, lagrange-polynomial, lagrange-only}

@@ -2,7 +2,8 @@
 -- as `comm tested a b ha hb`. `gf16` is the field itself, over the symbols `Symbol`.
 use Rattle.algebra.specs.Field.{Field}
 use Rattle.algebra.specs.Every.{every}
-use Rattle.algebra.specs.Binary.{times, remainder, productIn, inverseIn, squares, Tested}
+use Rattle.algebra.specs.Binary.{times, remainder, productIn}
+use Rattle.algebra.specs.BinaryTested.{inverseIn, squares, Tested}
 use Rattle.algebra.specs.BinaryField.{Below, field-of}
 use Rattle.field.specs.Gf16.{inverse}
 

@@ -1,10 +1,7 @@
 -- Bodies: lists of bytes of one length, each byte two symbols of GF(16), high half first. Assumes nothing.
-use Prim.Native.Nat.{ℕ, _<_}
-use mathlib.Core.Path.{_≡_}
+use Prim.Native.Nat.{ℕ}
 use mathlib.Core.List.{List, map, zipWith}
 use lib.Bits.{bitXor}
-use lib.ListN.{length}
-use Rattle.buffer.specs.Bytes.{byte}
 use Rattle.field.specs.Byte.{scale}
 
 -- the sum of two bodies, symbol by symbol
@@ -14,8 +11,3 @@ addBody x y = zipWith bitXor x y
 -- a body times the symbol c, symbol by symbol
 unfoldable pub scaleBody : ℕ → List ℕ → List ℕ
 scaleBody c x = map (scale c) x
-
--- n bytes
-pub record IsBody (n : ℕ) (x : List ℕ) : Type 0 where
-  pub size : length x ≡ n
-  pub bytes : (i : ℕ) → byte x i < 256

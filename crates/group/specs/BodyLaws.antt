@@ -14,7 +14,12 @@ use Rattle.buffer.specs.RangeLaws.{entries-of}
 use Rattle.field.specs.Gf16.{product}
 use Rattle.field.specs.Byte.{scale}
 use Rattle.field.specs.ByteLaws.{scale-bound, scale-add, add-scale, scale-one, scale-zero, scale-product}
-use Rattle.group.specs.Body.{addBody, scaleBody, IsBody}
+use Rattle.group.specs.Body.{addBody, scaleBody}
+
+-- n bytes
+pub record IsBody (n : ℕ) (x : List ℕ) : Type 0 where
+  pub size : length x ≡ n
+  pub bytes : (i : ℕ) → byte x i < 256
 
 -- ---- lengths
 pub length-add : (n : ℕ) (x y : List ℕ) → length x ≡ n → length y ≡ n → length (addBody x y) ≡ n

@@ -18,8 +18,8 @@ use Rattle.buffer.specs.Table.{upd}
 use Rattle.buffer.specs.TableLaws.{upd-at, upd-other}
 use Rattle.code.specs.MatrixLaws.{entry-bound}
 use Rattle.field.specs.Byte.{scale}
-use Rattle.group.specs.Body.{addBody, scaleBody, IsBody}
-use Rattle.group.specs.BodyLaws.{length-add, length-scale, byte-add, byte-scale, add-swap, add-self, add-zeros, zeros-add, add-back, scale-sum, scale-zeros, add-is, scale-is}
+use Rattle.group.specs.Body.{addBody, scaleBody}
+use Rattle.group.specs.BodyLaws.{length-add, length-scale, byte-add, byte-scale, add-swap, add-self, add-zeros, zeros-add, add-back, scale-sum, scale-zeros, add-is, scale-is, IsBody}
 use Rattle.group.specs.Parity.{coefficient, sum4, parity, adjusted}
 
 -- ---- a coefficient is a symbol

@@ -20,7 +20,7 @@ use Rattle.code.specs.Lists.{four, within-four}
 use Rattle.code.specs.Weights.{weightsOf}
 use Rattle.code.specs.Bytes.{mixed, encode-bytes}
 use Rattle.code.specs.BytesLaws.{byte-back, encode-data}
-use Rattle.group.specs.Body.{IsBody}
+use Rattle.group.specs.BodyLaws.{IsBody}
 use Rattle.group.specs.Parity.{parity}
 use Rattle.group.specs.ParityLaws.{length-parity}
 use Rattle.group.specs.WeighedLaws.{across, length-weighed, byte-weighed, byte-parity, weighed-ext}

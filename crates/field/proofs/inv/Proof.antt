@@ -6,7 +6,8 @@ use Rattle.algebra.specs.BinaryLaws.{inverse-low}
 use Rattle.field.specs.Gf16Laws.{tested}
 use native.Mathlib.Nat.{zero-add}
 use borrow.Author.Needs.{needs}
-use Rattle.algebra.specs.Binary.{times, remainder, productIn, inverseIn, squares}
+use Rattle.algebra.specs.Binary.{times, remainder, productIn}
+use Rattle.algebra.specs.BinaryTested.{inverseIn, squares}
 use Rattle.field.specs.Gf16.{inverse}
 use Rattle.algebra.specs.Every.{values, values-at}
 use Rattle.field.proofs.inv.Statement.{statement}
