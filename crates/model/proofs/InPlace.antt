@@ -78,7 +78,7 @@ module _ (s : List ℕ) (ok : sound s ≡ true) where
 module _ (s : List ℕ) (k : ℕ) (zero : numberIn s (read k (zeros bodyBytes)) ≡ 0) where
   free : Free (refusalsIn (sound s) (view s) (read k (zeros bodyBytes)))
   unfolding numberIn refusalsIn
-  free = first-free (refusalsIn (sound s) (view s) (read k (zeros bodyBytes))) (omega arith, (omega arith, (omega arith, (omega arith, (omega arith, tt))))) zero
+  free = first-free (refusalsIn (sound s) (view s) (read k (zeros bodyBytes))) (refl, (refl, (refl, (refl, (refl, tt))))) zero
 
   is-sound : sound s ≡ true
   unfolding refusalsIn

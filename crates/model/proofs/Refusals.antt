@@ -16,29 +16,15 @@ use Rattle.model.specs.Layout.{view, storeBytes}
 use Rattle.model.specs.Reads.{totalIn}
 use Rattle.model.specs.Sound.{sound}
 use Rattle.model.specs.Numbers.{Call, teach, correct, erase, read, readInPlace, list, unitOut, repair, grow, shrink, raise, firstOf, refusalsIn, numberIn}
-use Rattle.model.specs.RowLaws.{Low, low-first, row-holds, row-fails, row-pair}
+use Rattle.model.specs.RowLaws.{first-low, numbered-in, row-holds, row-fails, row-pair}
 use Rattle.model.specs.Perform.{refusal, plain, copied, lent, listed, output, reply, placeIn, givenIn, grantedIn, answerIn, afterIn, outcome, perform, laidOut, layOutNumber, layOut}
 use Rattle.model.specs.Demand1.{Refuses, Misused, LayoutRefuses}
 
 -- ---- the numbers are those of the table
 
-low-rows : (ok : Bool) (s : List ℕ) (c : Call) → Low (refusalsIn ok (view s) c)
-unfolding refusalsIn
-low-rows ok s (teach k x) = (omega arith, (omega arith, (omega arith, (omega arith, (omega arith, (omega arith, tt))))))
-low-rows ok s (correct k x) = (omega arith, (omega arith, (omega arith, (omega arith, (omega arith, tt)))))
-low-rows ok s (erase k) = (omega arith, (omega arith, (omega arith, (omega arith, tt))))
-low-rows ok s (read k out) = (omega arith, (omega arith, (omega arith, (omega arith, (omega arith, tt)))))
-low-rows ok s (readInPlace k) = tt
-low-rows ok s (list out) = (omega arith, (omega arith, (omega arith, tt)))
-low-rows ok s (unitOut w) = (omega arith, (omega arith, (omega arith, (omega arith, tt))))
-low-rows ok s (repair g) = (omega arith, (omega arith, (omega arith, (omega arith, tt))))
-low-rows ok s grow = (omega arith, (omega arith, (omega arith, (omega arith, tt))))
-low-rows ok s shrink = (omega arith, (omega arith, (omega arith, (omega arith, (omega arith, tt)))))
-low-rows ok s raise = (omega arith, (omega arith, (omega arith, (omega arith, tt))))
-
 number-low : (s : List ℕ) (c : Call) → numberIn s c ≤ 9
 unfolding numberIn
-number-low s c = low-first (refusalsIn (sound s) (view s) c) (low-rows (sound s) s c)
+number-low s c = first-low (refusalsIn (sound s) (view s) c) (numbered-in (sound s) (view s) c)
 
 -- ---- a number other than 0
 
@@ -164,7 +150,7 @@ layout-as s b n e z = ap₂ outcome (ap plain e) (pick-false (ne-eqb (layOutNumb
 pub layout-refuses : (s : List ℕ) (b : ℕ) → LayoutRefuses s b
 unfolding layOutNumber
 layout-refuses s b = record {
-  numbered = low-first ((ltb b 1, 2) ∷ (ltb 64 b, 2) ∷ (ltb (length s) (storeBytes b), 7) ∷ []) (omega arith, (omega arith, (omega arith, tt)));
+  numbered = first-low ((ltb b 1, 2) ∷ (ltb 64 b, 2) ∷ (ltb (length s) (storeBytes b), 7) ∷ []) (refl, (refl, (refl, tt)));
   refused = λ z. layout-as s b (layOutNumber s b) refl z;
   misused = λ e. layout-as s b 2 (row-pair (ltb b 1) (ltb 64 b) 2 _ ∙ row-holds _ _ e) (omega arith);
   short = λ e l. layout-as s b 7 (row-pair (ltb b 1) (ltb 64 b) 2 _ ∙ row-fails _ _ e ∙ row-holds _ _ (lt-ltb (length s) (storeBytes b) l)) (omega arith);

@@ -4,13 +4,12 @@ use Prim.Native.Nat.{ℕ}
 use mathlib.Core.Path.{_≡_, refl, sym, ap, _∙_}
 use mathlib.Core.Bool.{Bool}
 use mathlib.Core.List.{List}
-use native.Mathlib.Omega.{arith}
 use borrow.Author.Tests.{eq-eqb, ne-eqb}
 use Rattle.buffer.specs.ChoiceLaws.{pick-true, pick-false}
 use Rattle.model.specs.Layout.{Store, view}
 use Rattle.model.specs.Sound.{sound}
-use Rattle.model.specs.Numbers.{Call, teach, correct, erase, read, readInPlace, list, unitOut, repair, grow, shrink, raise, firstOf, refusalsIn, numberIn}
-use Rattle.model.specs.RowLaws.{Free, Numbered, first-free}
+use Rattle.model.specs.Numbers.{Call, teach, correct, erase, unitOut, repair, grow, shrink, raise, firstOf, refusalsIn, numberIn}
+use Rattle.model.specs.RowLaws.{Free, first-free, numbered-in}
 use Rattle.model.specs.Perform.{plain, reply, outcome, perform, answerIn, afterIn, grantedIn}
 
 -- the calls that answer with a number alone
@@ -50,19 +49,5 @@ module _ (s : List ℕ) {c : Call} (alone : Plain c) {ok : Bool} {r : ℕ} (test
   granted z e = rw (plain-reply alone, ← number, z, e, pick-true (eq-eqb 0 0 refl))
 
 -- where the number is 0, none of the call's rows holds
-numbered : (ok : Bool) (v : Store) (c : Call) → Numbered (refusalsIn ok v c)
-unfolding refusalsIn
-numbered ok v (teach k x) = (omega arith, (omega arith, (omega arith, (omega arith, (omega arith, (omega arith, tt))))))
-numbered ok v (correct k x) = (omega arith, (omega arith, (omega arith, (omega arith, (omega arith, tt)))))
-numbered ok v (erase k) = (omega arith, (omega arith, (omega arith, (omega arith, tt))))
-numbered ok v (read k out) = (omega arith, (omega arith, (omega arith, (omega arith, (omega arith, tt)))))
-numbered ok v (readInPlace k) = tt
-numbered ok v (list out) = (omega arith, (omega arith, (omega arith, tt)))
-numbered ok v (unitOut w) = (omega arith, (omega arith, (omega arith, (omega arith, tt))))
-numbered ok v (repair g) = (omega arith, (omega arith, (omega arith, (omega arith, tt))))
-numbered ok v grow = (omega arith, (omega arith, (omega arith, (omega arith, tt))))
-numbered ok v shrink = (omega arith, (omega arith, (omega arith, (omega arith, (omega arith, tt)))))
-numbered ok v raise = (omega arith, (omega arith, (omega arith, (omega arith, tt))))
-
 pub none-holds : (ok : Bool) (v : Store) (c : Call) (r : ℕ) → r ≡ firstOf (refusalsIn ok v c) → r ≡ 0 → Free (refusalsIn ok v c)
-none-holds ok v c r e z = first-free (refusalsIn ok v c) (numbered ok v c) (sym e ∙ z)
+none-holds ok v c r e z = first-free (refusalsIn ok v c) (numbered-in ok v c) (sym e ∙ z)

@@ -1,13 +1,17 @@
 -- Rows of the table of numbers: two lists of rows that give one number, rows of which none holds, and the first row. Assumes nothing.
 use Prim.Native.Nat.{ℕ, _≤_}
 use mathlib.Core.Path.{_≡_, refl, sym, _∙_}
-use mathlib.Core.Logic.{_≢_}
 use mathlib.Core.List.{List, [], _∷_}
-use mathlib.Core.Bool.{Bool, true, false, _||_}
+use mathlib.Core.Bool.{Bool, true, false, _&&_, _||_}
 use native.Mathlib.Omega.{arith}
+use lib.Dec.{eqb, leb}
+use borrow.Author.Tests.{leb-true}
 use Rattle.buffer.specs.Choice.{pick}
 use Rattle.buffer.specs.ChoiceLaws.{by-test, by-pick, pick-true, pick-false, pick-ext}
-use Rattle.model.specs.Numbers.{firstOf}
+use Rattle.buffer.specs.TestLaws.{and-first, and-second}
+use Rattle.model.specs.Layout.{Store, unitsIn, levelIn}
+use Rattle.model.specs.Reads.{homeIn, fillIn, rankIn, outsIn, stateIn, beyondIn, listedFill, listedRank, lostIn, totalIn}
+use Rattle.model.specs.Numbers.{Call, teach, correct, erase, read, readInPlace, list, unitOut, repair, grow, shrink, raise, firstOf, table, refusalsIn}
 
 -- row by row the same, each where none before it holds
 abbrev pub Agree : List (Bool × ℕ) → List (Bool × ℕ) → Type 0
@@ -21,10 +25,10 @@ abbrev pub Free : List (Bool × ℕ) → Type 0
 Free [] = Unit {0}
 Free (t ∷ ts) = (t .0 ≡ false) × Free ts
 
--- no row gives 0, the number of a granted call
+-- the rows give numbers from 1 to 9: none gives 0, the number of a granted call
 abbrev pub Numbered : List (Bool × ℕ) → Type 0
 Numbered [] = Unit {0}
-Numbered (t ∷ ts) = (t .1 ≢ 0) × Numbered ts
+Numbered (t ∷ ts) = (leb 1 (t .1) && leb (t .1) 9 ≡ true) × Numbered ts
 
 pub agree-first : (ss ts : List (Bool × ℕ)) → Agree ss ts → firstOf ss ≡ firstOf ts
 unfolding firstOf
@@ -47,7 +51,7 @@ first-free (t ∷ ts) n e = go (first-free ts (n .1))
         by-test
         (λ b. pick b (t .1) (firstOf ts) ≡ 0 → (b ≡ false) × Free ts)
         (t .0)
-        (λ q f. absurd (n .0 (sym (pick-true refl (t .1) (firstOf ts)) ∙ f)))
+        (λ q f. absurd (omega (arith, leb-true 1 (t .1) (and-first (leb 1 (t .1)) (leb (t .1) 9) (n .0)), sym (pick-true refl (t .1) (firstOf ts)) ∙ f)))
         (λ q f. (refl, ih (sym (pick-false refl (t .1) (firstOf ts)) ∙ f)))
         e
 
@@ -56,17 +60,12 @@ unfolding firstOf
 free-first [] f = refl
 free-first (t ∷ ts) f = pick-false (f .0) (t .1) (firstOf ts) ∙ free-first ts (f .1)
 
--- the rows give numbers up to 9
-abbrev pub Low : List (Bool × ℕ) → Type 0
-Low [] = Unit {0}
-Low (t ∷ ts) = (t .1 ≤ 9) × Low ts
-
-pub low-first : (ts : List (Bool × ℕ)) → Low ts → firstOf ts ≤ 9
+pub first-low : (ts : List (Bool × ℕ)) → Numbered ts → firstOf ts ≤ 9
 unfolding firstOf
-low-first [] h = omega arith
-low-first (t ∷ ts) h =
-    let rest : firstOf ts ≤ 9 = low-first ts (h .1) in
-    by-pick (λ (n : ℕ). n ≤ 9) (t .0) (t .1) (firstOf ts) (λ e. h .0) (λ e. rest)
+first-low [] h = omega arith
+first-low (t ∷ ts) h =
+    let rest : firstOf ts ≤ 9 = first-low ts (h .1) in
+    by-pick (λ (n : ℕ). n ≤ 9) (t .0) (t .1) (firstOf ts) (λ e. leb-true (t .1) 9 (and-second (leb 1 (t .1)) (leb (t .1) 9) (h .0))) (λ e. rest)
 
 -- ---- the first row
 
@@ -83,3 +82,26 @@ pub row-pair : (a b : Bool) (n : ℕ) (ts : List (Bool × ℕ)) → firstOf ((a,
 unfolding firstOf pick
 row-pair true b n ts = refl
 row-pair false b n ts = refl
+
+-- ---- the rows of document 01's table, whatever they look at
+
+module _ (ok : Bool) (size units level : ℕ) (home state : ℕ → ℕ) (out : ℕ → Bool) (outs : ℕ → ℕ) (beyond : ℕ → Bool) (lost : Bool) (fill : ℕ → ℕ)
+    (rank : ℕ → ℕ → ℕ) (listed : ℕ → ℕ) (listedRank : ℕ → ℕ → ℕ) (total : ℕ) where
+  pub numbered : (c : Call) → Numbered (table ok size units level home state out outs beyond lost fill rank listed listedRank total c)
+  numbered (teach k x) = (refl, (refl, (refl, (refl, (refl, (refl, tt))))))
+  numbered (correct k x) = (refl, (refl, (refl, (refl, (refl, tt)))))
+  numbered (erase k) = (refl, (refl, (refl, (refl, tt))))
+  numbered (read k out) = (refl, (refl, (refl, (refl, (refl, tt)))))
+  numbered (readInPlace k) = tt
+  numbered (list out) = (refl, (refl, (refl, tt)))
+  numbered (unitOut w) = (refl, (refl, (refl, (refl, tt))))
+  numbered (repair g) = (refl, (refl, (refl, (refl, tt))))
+  numbered grow = (refl, (refl, (refl, (refl, tt))))
+  numbered shrink = (refl, (refl, (refl, (refl, (refl, tt)))))
+  numbered raise = (refl, (refl, (refl, (refl, tt))))
+
+pub numbered-in : (ok : Bool) (v : Store) (c : Call) → Numbered (refusalsIn ok v c)
+unfolding refusalsIn
+numbered-in ok v =
+    numbered ok (v .size) (unitsIn v) (levelIn v) (homeIn v) (stateIn v) (λ u. eqb (v .dstate u) 2) (outsIn v) (beyondIn v) (lostIn v)
+    (fillIn v) (rankIn v) (listedFill v) (listedRank v) (totalIn v)

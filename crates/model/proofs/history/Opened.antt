@@ -33,7 +33,7 @@ pub layout-granted : (s : List ℕ) (b : ℕ) → layOutNumber s b ≡ 0 → Gra
 unfolding layOutNumber
 layout-granted s b e =
     let f : Free ((ltb b 1, 2) ∷ (ltb 64 b, 2) ∷ (ltb (length s) (storeBytes b), 7) ∷ []) =
-    first-free ((ltb b 1, 2) ∷ (ltb 64 b, 2) ∷ (ltb (length s) (storeBytes b), 7) ∷ []) (omega arith, (omega arith, (omega arith, tt))) e in
+    first-free ((ltb b 1, 2) ∷ (ltb 64 b, 2) ∷ (ltb (length s) (storeBytes b), 7) ∷ []) (refl, (refl, (refl, tt))) e in
     record { least = ltb-false b 1 (f .0); most = ltb-false 64 b (f .1 .0); long = ltb-false (length s) (storeBytes b) (f .1 .1 .0) }
 
 pub layout-is : (s : List ℕ) (b : ℕ) → layOutNumber s b ≡ 0 → layOut s b .store ≡ laidOut b s
