@@ -5,7 +5,8 @@ use Prim.Native.Nat.{ℕ, _^_, _<_}
 use lib.Pow.{pow-pos}
 use lib.Bits.{bitXor, xor-lt}
 use lib.Dec.{T, ltb, eqb, eqb→eq, ltb→lt}
-use Rattle.algebra.specs.Every.{every, every-at, either, either-second}
+use mathlib.Core.Bool.{_||_}
+use Rattle.algebra.specs.Every.{every, every-at, either-second}
 use Rattle.algebra.specs.Binary.{productIn}
 use Rattle.algebra.specs.BinaryTested.{Tested}
 use Rattle.algebra.specs.BinaryLinear.{each-below, product-add, add-product, product-zero, zero-product}
@@ -77,4 +78,4 @@ module _ {w m : ℕ} {inverse : ℕ → ℕ} (𝓣 : Tested w m inverse) where
   inverse-is a h n =
       eqb→eq (a *ₘ inverse a) 1
       (either-second (eqb a 0) (eqb (a *ₘ inverse a) 1) (λ t. n (eqb→eq a 0 t))
-      (every-at (2 ^ w) (λ x. either (eqb x 0) (eqb (x *ₘ inverse x) 1)) (𝓣 .inverses) a h))
+      (every-at (2 ^ w) (λ x. eqb x 0 || eqb (x *ₘ inverse x) 1) (𝓣 .inverses) a h))

@@ -1,8 +1,9 @@
 -- What a width and a modulus must pass for the numbers below 2 ^ w to be a field: the laws at the powers of 2 alone, and a function of inverses at
 -- every number. A reader wants `Tested`, from which BinaryField makes the field, and `inverseIn`, the inverse as a power.
 use Prim.Native.Nat.{ℕ, zero, suc, pred, _^_}
+use mathlib.Core.Bool.{_||_}
 use lib.Dec.{T, eqb, ltb}
-use Rattle.algebra.specs.Every.{every, either}
+use Rattle.algebra.specs.Every.{every}
 use Rattle.algebra.specs.Binary.{productIn}
 
 -- r times the powers of a with exponents 2, 4, .. 2 ^ n
@@ -23,4 +24,4 @@ pub record Tested (w m : ℕ) (inverse : ℕ → ℕ) : Type 0 where
   pub assoc : T (every w (λ i. every w (λ j. every w (λ k.
       eqb (productIn w m (productIn w m (2 ^ i) (2 ^ j)) (2 ^ k)) (productIn w m (2 ^ i) (productIn w m (2 ^ j) (2 ^ k)))))))
   pub inverse-bound : T (every (2 ^ w) (λ a. ltb (inverse a) (2 ^ w)))
-  pub inverses : T (every (2 ^ w) (λ a. either (eqb a 0) (eqb (productIn w m a (inverse a)) 1)))
+  pub inverses : T (every (2 ^ w) (λ a. eqb a 0 || eqb (productIn w m a (inverse a)) 1))

@@ -1,7 +1,7 @@
 -- What the tests `within` and `different` say of a list, entry by entry, and how a fact about lists of four is shown: `four`, by its entries, and
 -- `all-four`, from the four indices.
 use mathlib.Core.Path.{_≡_, refl, ap, _∙_}
-use mathlib.Core.Bool.{Bool, true, false, not}
+use mathlib.Core.Bool.{Bool, true, false, not, _&&_}
 use mathlib.Core.List.{List, [], _∷_, map}
 use Prim.Native.Nat.{ℕ, zero, suc, _≤_, _<_}
 use native.Mathlib.Nat.{not-suc-le-zero, le-of-suc-le-suc}
@@ -9,15 +9,15 @@ use native.Mathlib.Omega.{arith}
 use lib.Dec.{leb, eqb, lit<}
 use lib.ListN.{length, getD}
 use borrow.Author.Tests.{leb-true, le-leb, eqb-false, not-true}
-use Rattle.algebra.specs.Every.{both, yes-true}
+use Rattle.algebra.specs.Every.{yes-true}
 use Rattle.algebra.specs.Polynomial.{All}
 use Rattle.code.specs.Matrix.{within, absent, different}
 
-pub both-first : (a b : Bool) → both a b ≡ true → a ≡ true
+pub both-first : (a b : Bool) → (a && b) ≡ true → a ≡ true
 both-first true b e = refl
 both-first false b e = e
 
-pub both-second : (a b : Bool) → both a b ≡ true → b ≡ true
+pub both-second : (a b : Bool) → (a && b) ≡ true → b ≡ true
 both-second true b e = e
 both-second false b e = absurd (yes-true e)
 
@@ -28,7 +28,7 @@ pub within-tail : (n x : ℕ) (l : List ℕ) → within n (x ∷ l) ≡ true →
 within-tail n x l e = both-second (leb x n) (within n l) e
 
 pub within-cons : (n x : ℕ) (l : List ℕ) → x ≤ n → within n l ≡ true → within n (x ∷ l) ≡ true
-within-cons n x l h e = ap (λ (b : Bool). both b (within n l)) (le-leb x n h) ∙ e
+within-cons n x l h e = ap (λ (b : Bool). b && within n l) (le-leb x n h) ∙ e
 
 pub within-at : (n : ℕ) (l : List ℕ) → within n l ≡ true → (k : ℕ) → k < length l → getD l k 0 ≤ n
 within-at n [] e k h = absurd (not-suc-le-zero h)

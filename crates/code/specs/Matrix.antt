@@ -2,14 +2,13 @@
 -- to 3 are the identity." A reader wants `entry place column`, `encode ds c` (the symbol of the data ds at column c) and `Rebuilds`, which judges the
 -- number and the data that rebuilding returns by this matrix alone.
 use mathlib.Core.Path.{_≡_}
-use mathlib.Core.Bool.{Bool, true, false, not}
+use mathlib.Core.Bool.{Bool, true, false, not, _&&_}
 use mathlib.Core.List.{List, [], _∷_}
 use Prim.Native.Nat.{ℕ, suc, _+_, _*_, _<_}
 use lib.Bits.{bitXor}
 use lib.Dec.{leb, eqb}
 use lib.ListN.{length, getD}
 use Rattle.field.specs.Gf16.{product}
-use Rattle.algebra.specs.Every.{both}
 
 -- the four rows, one after the other; a row belongs to a place in the group
 unfoldable pub matrix : List ℕ
@@ -39,21 +38,21 @@ encode ds c = dot ds 0 c
 -- every number is at most n
 abbrev pub within : ℕ → List ℕ → Bool
 within n [] = true
-within n (x ∷ xs) = both (leb x n) (within n xs)
+within n (x ∷ xs) = leb x n && within n xs
 
 -- x is none of the numbers
 abbrev pub absent : ℕ → List ℕ → Bool
 absent x [] = true
-absent x (y ∷ ys) = both (not (eqb x y)) (absent x ys)
+absent x (y ∷ ys) = not (eqb x y) && absent x ys
 
 -- no number is given twice
 abbrev pub different : List ℕ → Bool
 different [] = true
-different (x ∷ xs) = both (absent x xs) (different xs)
+different (x ∷ xs) = absent x xs && different xs
 
 -- Document 01 refuses with 2 "a column above 16 or given twice, a symbol above 15".
 unfoldable pub accepted : List ℕ → List ℕ → Bool
-accepted cs ys = both (within 16 cs) (both (different cs) (within 15 ys))
+accepted cs ys = within 16 cs && (different cs && within 15 ys)
 
 -- Document 01: "The code layer's rebuilding takes four columns and a symbol for each; it returns its number and the four data symbols, all 0 when
 -- refused." The data are those that have the symbols ys at the columns cs.

@@ -1,11 +1,11 @@
 -- The contract of rebuilding fixes its answer. A reader wants `only`: one number and one list of data meet `Rebuilds`; and `answered`: for any columns
 -- and symbols some do.
 use mathlib.Core.Path.{_≡_, refl, sym, _∙_}
-use mathlib.Core.Bool.{Bool, true, false}
+use mathlib.Core.Bool.{Bool, true, false, _&&_}
 use mathlib.Core.List.{List, [], _∷_}
 use Prim.Native.Nat.{ℕ}
 use lib.ListN.{length}
-use Rattle.algebra.specs.Every.{yes-true, both}
+use Rattle.algebra.specs.Every.{yes-true}
 use Rattle.code.specs.Matrix.{encode, within, different, accepted, Rebuilds}
 use Rattle.code.specs.Lists.{all-four, both-first, both-second}
 use Rattle.code.specs.Fixing.{fixes}
@@ -15,15 +15,15 @@ use Rattle.code.specs.WeightsLaws.{data-within, rebuilt-has}
 -- what is accepted
 pub accepted-within : (cs ys : List ℕ) → accepted cs ys ≡ true → within 16 cs ≡ true
 unfolding accepted
-accepted-within cs ys a = both-first (within 16 cs) (both (different cs) (within 15 ys)) a
+accepted-within cs ys a = both-first (within 16 cs) (different cs && within 15 ys) a
 
 pub accepted-different : (cs ys : List ℕ) → accepted cs ys ≡ true → different cs ≡ true
 unfolding accepted
-accepted-different cs ys a = both-first (different cs) (within 15 ys) (both-second (within 16 cs) (both (different cs) (within 15 ys)) a)
+accepted-different cs ys a = both-first (different cs) (within 15 ys) (both-second (within 16 cs) (different cs && within 15 ys) a)
 
 pub accepted-symbols : (cs ys : List ℕ) → accepted cs ys ≡ true → within 15 ys ≡ true
 unfolding accepted
-accepted-symbols cs ys a = both-second (different cs) (within 15 ys) (both-second (within 16 cs) (both (different cs) (within 15 ys)) a)
+accepted-symbols cs ys a = both-second (different cs) (within 15 ys) (both-second (within 16 cs) (different cs && within 15 ys) a)
 
 false-true : false ≡ true → ⊥
 false-true e = yes-true e
