@@ -11,9 +11,8 @@ use Rattle.buffer.specs.Bytes.{byte, zeros}
 use Rattle.buffer.specs.ByteLaws.{byte-zeros, length-zeros, bytes-ext}
 use Rattle.buffer.specs.Range.{entries}
 use Rattle.buffer.specs.RangeLaws.{entries-of}
-use Rattle.field.specs.Gf16.{product}
 use Rattle.field.specs.Byte.{scale}
-use Rattle.field.specs.ByteLaws.{scale-bound, scale-add, add-scale, scale-one, scale-zero, scale-product}
+use Rattle.field.specs.ByteLaws.{scale-bound, scale-add, add-scale}
 use Rattle.group.specs.Body.{addBody, scaleBody}
 
 -- n bytes
@@ -120,27 +119,6 @@ scale-zeros c n h =
     bytes-ext (scaleBody c (zeros n)) (zeros n) (length-scale c (zeros n)) (λ i l.
     byte-scale c (zeros n) i (rw (length-scale c (zeros n)) at l) ∙ rw byte-zeros (scale-none c h))
 
-pub by-zero : (x : List ℕ) → scaleBody 0 x ≡ zeros (length x)
-by-zero x =
-    bytes-ext (scaleBody 0 x) (zeros (length x)) (length-scale 0 x ∙ sym (length-zeros (length x))) (λ i l.
-    byte-scale 0 x i (rw (length-scale 0 x) at l) ∙ scale-zero (byte x i) ∙ sym (byte-zeros (length x) i))
-
-pub by-one : (n : ℕ) (x : List ℕ) → IsBody n x → scaleBody 1 x ≡ x
-by-one n x p =
-    bytes-ext (scaleBody 1 x) x (length-scale 1 x) (λ i l. byte-scale 1 x i (rw (length-scale 1 x) at l) ∙ scale-one (byte x i) (p .bytes i))
-
-pub by-product : (n c d : ℕ) → c < 16 → d < 16 → (x : List ℕ) → IsBody n x → scaleBody (product c d) x ≡ scaleBody c (scaleBody d x)
-by-product n c d h k x p =
-    bytes-ext
-    (scaleBody (product c d) x)
-    (scaleBody c (scaleBody d x))
-    (length-scale (product c d) x ∙ sym (length-scale c (scaleBody d x) ∙ length-scale d x))
-    (λ i l.
-    let m : i < length x = rw (length-scale (product c d) x) at l in
-    byte-scale (product c d) x i m
-    ∙ scale-product c d (byte x i) h k (p .bytes i)
-    ∙ sym (byte-scale c (scaleBody d x) i (rw (length-scale d x) m) ∙ ap (scale c) (byte-scale d x i m)))
-
 -- ---- bodies stay bodies
 pub zeros-is : (n : ℕ) → IsBody n (zeros n)
 zeros-is n = record { size = length-zeros n; bytes = λ i. omega (arith, byte-zeros n i) }
@@ -157,6 +135,3 @@ unfolding scaleBody
 scale-bytes c h [] q i = omega arith
 scale-bytes c h (a ∷ x) q zero = scale-bound c a h (q zero)
 scale-bytes c h (a ∷ x) q (suc i) = scale-bytes c h x (λ k. q (suc k)) i
-
-pub scale-is : (n c : ℕ) → c < 16 → (x : List ℕ) → IsBody n x → IsBody n (scaleBody c x)
-scale-is n c h x p = record { size = length-scale c x ∙ p .size; bytes = scale-bytes c h x (p .bytes) }

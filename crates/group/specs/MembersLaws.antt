@@ -7,11 +7,11 @@ use Prim.Native.Nat.{ℕ, zero, suc, _+_, _-_, _≤_, _<_}
 use native.Mathlib.Omega.{arith}
 use lib.Dec.{eqb, ltb}
 use lib.ListN.{length, getD}
-use borrow.Author.Tests.{lt-ltb, le-ltb, ltb-true, ltb-false}
+use borrow.Author.Tests.{lt-ltb, le-ltb, ltb-false}
 use Rattle.buffer.specs.Choice.{pick}
 use Rattle.buffer.specs.ChoiceLaws.{pick-true, pick-false}
 use Rattle.buffer.specs.Range.{count, first}
-use Rattle.buffer.specs.RangeLaws.{below-four, count-ext, count-append, count-parts, count-not, count-first, first-le, first-found, first-holds}
+use Rattle.buffer.specs.RangeLaws.{below-four, count-ext, count-append, count-parts, count-not, count-first, first-found, first-holds}
 use Rattle.group.specs.Members.{outs, checks, beyond, serves, next, firstFour}
 
 -- ---- who is in service
@@ -46,16 +46,6 @@ serving d c h =
 pub enough : (d c : ℕ → ℕ) → ((j : ℕ) → j < 3 → c j ≤ 2) → beyond d c ≡ false → 4 ≤ count 7 (serves d c)
 unfolding beyond
 enough d c h e = omega (arith, serving d c h, ltb-false (checks c) (outs d c) e)
-
-pub too-few : (d c : ℕ → ℕ) → ((j : ℕ) → j < 3 → c j ≤ 2) → beyond d c ≡ true → count 7 (serves d c) < 4
-unfolding beyond
-too-few d c h e = omega (arith, serving d c h, ltb-true (checks c) (outs d c) e)
-
--- ---- the first four in service
--- the next member is at most 7, or where the search began
-pub next-le : (on : ℕ → Bool) (a m : ℕ) → a ≤ m → 7 ≤ m → next on a ≤ m
-unfolding next
-next-le on a m h k = omega (arith, first-le (7 - a) (λ k. on (a + k)))
 
 -- four different members in service, by rising number
 pub record Members (on : ℕ → Bool) (l : List ℕ) : Type 0 where

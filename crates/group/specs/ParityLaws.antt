@@ -19,7 +19,7 @@ use Rattle.buffer.specs.TableLaws.{upd-at, upd-other}
 use Rattle.code.specs.MatrixLaws.{entry-bound}
 use Rattle.field.specs.Byte.{scale}
 use Rattle.group.specs.Body.{addBody, scaleBody}
-use Rattle.group.specs.BodyLaws.{length-add, length-scale, byte-add, byte-scale, add-swap, add-self, add-zeros, zeros-add, add-back, scale-sum, scale-zeros, add-is, scale-is, IsBody}
+use Rattle.group.specs.BodyLaws.{length-add, length-scale, byte-add, byte-scale, add-swap, add-self, add-zeros, zeros-add, add-back, scale-sum, scale-zeros, add-is, IsBody}
 use Rattle.group.specs.Parity.{coefficient, sum4, parity, adjusted}
 
 -- ---- a coefficient is a symbol
@@ -119,10 +119,6 @@ parity-ext j f g h = sum4-ext _ _ (λ p l. ap (scaleBody (coefficient p j)) (h p
 pub length-parity : (n j : ℕ) (f : ℕ → List ℕ) → ((p : ℕ) → p < 4 → length (f p) ≡ n) → length (parity j f) ≡ n
 unfolding parity
 length-parity n j f h = length-sum4 n _ (λ p l. length-scale (coefficient p j) (f p) ∙ h p l)
-
-pub parity-is : (n j : ℕ) → j < 3 → (f : ℕ → List ℕ) → ((p : ℕ) → p < 4 → IsBody n (f p)) → IsBody n (parity j f)
-unfolding parity
-parity-is n j k f h = sum4-is n _ (λ p l. scale-is n (coefficient p j) (coefficient-lt p j l k) (f p) (h p l))
 
 -- the parity of empty bodies
 pub parity-zeros : (n j : ℕ) → j < 3 → parity j (λ _. zeros n) ≡ zeros n

@@ -4,8 +4,7 @@
 use mathlib.Core.Path.{_≡_, refl, sym, ap, _∙_}
 use mathlib.Core.Bool.{Bool, true}
 use mathlib.Core.List.{List, [], _∷_, map}
-use Prim.Native.Nat.{ℕ, suc, _+_, _-_, _≤_, _<_}
-use native.Mathlib.Nat.{le-trans}
+use Prim.Native.Nat.{ℕ, _+_, _-_, _≤_, _<_}
 use native.Mathlib.Omega.{arith}
 use lib.Dec.{ltb}
 use lib.ListN.{length, getD}
@@ -23,10 +22,10 @@ use Rattle.code.specs.BytesLaws.{byte-back, encode-data}
 use Rattle.group.specs.BodyLaws.{IsBody}
 use Rattle.group.specs.Parity.{parity}
 use Rattle.group.specs.ParityLaws.{length-parity}
-use Rattle.group.specs.WeighedLaws.{across, length-weighed, byte-weighed, byte-parity, weighed-ext}
-use Rattle.group.specs.Members.{next, firstFour}
-use Rattle.group.specs.MembersLaws.{Members, next-le, first-four}
-use Rattle.group.specs.Rebuilding.{fourBodies, weighed, rebuilt}
+use Rattle.group.specs.WeighedLaws.{across, length-weighed, byte-weighed, byte-parity}
+use Rattle.group.specs.Members.{firstFour}
+use Rattle.group.specs.MembersLaws.{Members, first-four}
+use Rattle.group.specs.Rebuilding.{weighed, rebuilt}
 
 -- ---- the first four members are four different columns
 listed : (g : ℕ → ℕ) (cs : List ℕ) → length cs ≡ 4 → g (getD cs 0 0) ∷ g (getD cs 1 0) ∷ g (getD cs 2 0) ∷ g (getD cs 3 0) ∷ [] ≡ map g cs
@@ -55,25 +54,6 @@ members-different {on} {cs} m =
     cs
     (m .long)
     m
-
--- whoever serves, the first four are columns of the matrix
-pub firstFour-within : (on : ℕ → Bool) → within 16 (firstFour on) ≡ true
-unfolding firstFour
-firstFour-within on =
-    let a : next on 0 ≤ 7 = next-le on 0 7 (omega arith) (omega arith) in
-    let b : next on (suc (next on 0)) ≤ 8 = next-le on (suc (next on 0)) 8 (omega arith) (omega arith) in
-    let e : next on (suc (next on (suc (next on 0)))) ≤ 9 = next-le on (suc (next on (suc (next on 0)))) 9 (omega arith) (omega arith) in
-    let f : next on (suc (next on (suc (next on (suc (next on 0)))))) ≤ 10 = next-le on (suc (next on (suc (next on (suc (next on 0)))))) 10 (omega arith) (omega arith) in
-    within-four 16 _ _ _ _ (le-trans a (omega arith)) (le-trans b (omega arith)) (le-trans e (omega arith)) (le-trans f (omega arith))
-
--- a body rebuilt from four that were picked out
-pub rebuilt-four : (on : ℕ → Bool) (hold : ℕ → List ℕ) (p : ℕ) (a b c d : List ℕ)
-    → a ≡ hold (getD (firstFour on) 0 0) → b ≡ hold (getD (firstFour on) 1 0) → c ≡ hold (getD (firstFour on) 2 0) → d ≡ hold (getD (firstFour on) 3 0)
-    → weighed (weightsOf (firstFour on) p) (fourBodies a b c d) ≡ rebuilt on hold p
-unfolding rebuilt fourBodies
-rebuilt-four on hold p a b c d ea eb ec ed =
-    weighed-ext (weightsOf (firstFour on) p) (fourBodies a b c d) (λ i. hold (getD (firstFour on) i 0))
-    (below-four (λ i. fourBodies a b c d i ≡ hold (getD (firstFour on) i 0)) ea eb ec ed)
 
 -- ---- rebuilding
 module _ (n : ℕ) (on : ℕ → Bool) (hold f : ℕ → List ℕ) (is : (p : ℕ) → p < 4 → IsBody n (f p))

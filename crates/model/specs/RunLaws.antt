@@ -28,17 +28,9 @@ run f u q m g v r = pick (eqb v u && (leb q r && ltb r (q + m))) (g r) (f v r)
 
 -- ---- what a run holds
 module _ (f : ℕ → ℕ → List ℕ) (u q m : ℕ) (g : ℕ → List ℕ) where
-  pub run-inside : (r : ℕ) → q ≤ r → r < q + m → run f u q m g u r ≡ g r
-  unfolding run
-  run-inside r a b = pick-true (and-true (eq-eqb u u refl) (and-true (le-leb q r a) (lt-ltb r (q + m) b))) (g r) (f u r)
-
   pub length-run : (w v r : ℕ) → length (g r) ≡ w → length (f v r) ≡ w → length (run f u q m g v r) ≡ w
   unfolding run
   length-run w v r a b = by-pick (λ x. length x ≡ w) (eqb v u && (leb q r && ltb r (q + m))) (g r) (f v r) (λ _. a) (λ _. b)
-
-pub length-upd2 : (f : ℕ → ℕ → List ℕ) (u r : ℕ) (z : List ℕ) (w v q : ℕ) → length z ≡ w → length (f v q) ≡ w → length (upd2 f u r z v q) ≡ w
-unfolding upd2
-length-upd2 f u r z w v q a b = by-pick (λ x. length x ≡ w) (eqb v u && eqb q r) z (f v q) (λ _. a) (λ _. b)
 
 -- a run of one chunk, and of a whole unit
 pub run-one : (f : ℕ → ℕ → List ℕ) (u r : ℕ) (z : List ℕ) (v q : ℕ) → run f u r 1 (λ _. z) v q ≡ upd2 f u r z v q

@@ -253,10 +253,6 @@ module _ (s : List ℕ) (b at u r : ℕ) (eb : b ≡ byte s 5) where
   unfolding view
   slot-lent ea = ap (λ k. part k slotBytes s) (ea ∙ ap (λ k. slotAt k u r) eb)
 
-  pub check-lent : at ≡ checkAt b u r → part at checkBytes s ≡ view s .check u r
-  unfolding view
-  check-lent ea = ap (λ k. part k checkBytes s) (ea ∙ ap (λ k. checkAt k u r) eb)
-
 -- a store of the same b and the same rest fills as many bytes
 pub same-long : (t : Store) (x : List ℕ) → Shaped t → storeBytes (byte x 5) ≤ length x → t .size ≡ view x .size → t .rest ≡ view x .rest → length (bytes t) ≡ length x
 same-long t x h l e f = length-bytes t h ∙ rw (e, f) (sym (length-bytes (view x) (view-shaped x l))) ∙ ap length (bytes-view x l)
@@ -270,9 +266,6 @@ module _ (t : Store) (h : Shaped t) (s : List ℕ) (e : s ≡ bytes t) where
 
   pub slot-in : (u r : ℕ) → u < 16 → r < t .size → SlotIn s u r
   slot-in u r hu hr = record { long = long-at; unit = hu; rank = rw size-at hr }
-
-  pub check-in : (c r : ℕ) → c < 12 → r < t .size → CheckIn s c r
-  check-in c r hc hr = record { long = long-at; unit = hc; rank = rw size-at hr }
 
   pub dstate-at : (u : ℕ) → u < 16 → byte s (8 + u) ≡ t .dstate u
   unfolding view
