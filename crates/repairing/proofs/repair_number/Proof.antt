@@ -5,14 +5,10 @@ use native.Mathlib.Omega.{arith}
 use borrow.Author.Tests.{ltb-false}
 use Rattle.buffer.specs.Choice.{pick}
 use Rattle.model.specs.Numbers.{firstOf, refusalsIn}
-use Rattle.repairing.proofs.Verdicts.{units-read}
+use Rattle.model.specs.StoreLaws.{units-of}
 use borrow.Author.Needs.{needs}
 use Rattle.repairing.proofs.repair_number.Statement.{statement}
 use Rattle.repairing.proofs.repair_number.Tie as tie
-use Rattle.repairing.proofs.repair_number.Reads as reads
-use Rattle.repairing.proofs.repair_number.Lts as lts
-use Rattle.buffer.proofs.byte_at.Reads as byte-at-reads
-use Rattle.lookup.proofs.beyond.Reads as beyond-reads
 
 returns : tie.Need-returns
 unfolding firstOf refusalsIn pick
@@ -22,20 +18,11 @@ returns-2 : tie.Need-returns-2
 unfolding firstOf refusalsIn pick
 returns-2 c = simp (c .before .if1 .left, c .if2 .taken)
 
-cast-g : tie.Need-cast-g
-cast-g c = search needs
-
-byte-at-requires : tie.Need-byte-at-requires
-byte-at-requires c κs = search needs
-
-mul-absent : tie.Need-mul-absent
-mul-absent c = omega (arith, ltb-false)
-
 returns-3 : tie.Need-returns-3
 unfolding firstOf refusalsIn pick
 returns-3 c =
     let k = c .before .before in
-    simp (k .before .if1 .left, k .if2 .left, units-read, ← c .before .byte-at .ensures, c .if3 .taken)
+    simp (k .before .if1 .left, k .if2 .left, ← units-of, ← c .before .byte-at .ensures, c .if3 .taken)
 
 beyond-requires : tie.Need-beyond-requires
 beyond-requires c κs = (c .before .before .before .before .before .pre (is-yes refl (c .before .before .if2 .left)), omega (arith, ltb-false))
@@ -44,24 +31,15 @@ returns-4 : tie.Need-returns-4
 unfolding firstOf refusalsIn pick
 returns-4 c =
     let k = c .before .before in
-    simp (k .before .before .before .if1 .left, k .before .before .if2 .left, units-read, ← k .before .byte-at .ensures, k .if3 .left, ← c .before .beyond .ensures, c .if4 .taken)
+    simp (k .before .before .before .if1 .left, k .before .before .if2 .left, ← units-of, ← k .before .byte-at .ensures, k .if3 .left, ← c .before .beyond .ensures, c .if4 .taken)
 
 returns-5 : tie.Need-returns-5
 unfolding firstOf refusalsIn pick
 returns-5 c =
     let k = c .before .before in
-    simp (k .before .before .before .if1 .left, k .before .before .if2 .left, units-read, ← k .before .byte-at .ensures, k .if3 .left, ← c .before .beyond .ensures, c .if4 .left)
+    simp (k .before .before .before .if1 .left, k .before .before .if2 .left, ← units-of, ← k .before .byte-at .ensures, k .if3 .left, ← c .before .beyond .ensures, c .if4 .left)
 
 pub repair-number-spec : {M : Type 1} → statement M
 repair-number-spec =
     tie.close
-    (tie.spec
-    returns
-    returns-2
-    cast-g
-    byte-at-requires
-    mul-absent
-    returns-3
-    beyond-requires
-    returns-4
-    returns-5)
+    (tie.spec returns returns-2 (λ c. search needs) (λ c κs. search needs) (λ c. omega (arith, ltb-false)) returns-3 beyond-requires returns-4 returns-5)
