@@ -20,16 +20,12 @@ use Rattle.model.specs.Layout.{view, unitsIn}
 use Rattle.model.specs.Reads.{homeIn, beyondIn, listedFill, listedRank, lostIn, totalIn}
 use Rattle.model.specs.Numbers.{firstOf}
 use Rattle.soundness.specs.Survey.{Surveyed, fill-listed}
-use Rattle.lookup.specs.Sized.{Sized, sound-sized}
+use Rattle.lookup.specs.Sized.{Sized}
 use Rattle.lookup.specs.Keys.{listed-fill-small}
 use Rattle.lookup.specs.Groups.{Recoverable, Whole, recoverable-known, whole-unit, none-lost}
 use Rattle.reading.specs.Rows.{readNumber, listNumber}
 use Rattle.reading.specs.Found.{Verdict}
 use Rattle.reading.specs.Listing.{Counted, Fills}
-
--- a store that was found sound
-pub sized : {s : List ℕ} {ok : Bool} {fills : List ℕ} → Surveyed s ok fills → ok ≡ true → Sized s
-sized g e = sound-sized (sym (g .tested) ∙ e)
 
 -- a refusal hands no place on
 pub refusal : {s : List ℕ} {ok : Bool} {k n : ℕ} (m : ℕ) {number unit rank : ℕ} → number ≡ suc m → suc m ≡ readNumber ok (view s) k n → Verdict s ok k n number unit rank

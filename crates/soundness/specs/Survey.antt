@@ -1,6 +1,6 @@
 -- What the soundness test hands on of a store. Assumes nothing.
 use Prim.Native.Nat.{ℕ, _+_, _*_, _/_, _≤_, _<_}
-use mathlib.Core.Path.{_≡_, refl, ap, _∙_}
+use mathlib.Core.Path.{_≡_, refl, sym, ap, _∙_}
 use mathlib.Core.List.{List}
 use mathlib.Core.Bool.{Bool, true, false, _&&_}
 use native.Mathlib.Omega.{arith}
@@ -34,6 +34,9 @@ pub record Counted (s : List ℕ) (good : Bool) (fills : List ℕ) : Type 0 wher
 pub record Surveyed (s : List ℕ) (ok : Bool) (fills : List ℕ) : Type 0 where
   pub tested : ok ≡ sound s
   pub filled : fills ≡ entries 16 (λ u. pick ok (knownFill (view s) u) 0)
+
+pub found-sound : {s : List ℕ} {ok : Bool} {fills : List ℕ} → Surveyed s ok fills → ok ≡ true → sound s ≡ true
+found-sound g e = sym (g .tested) ∙ e
 
 -- in a sound store, a unit whose keys are listed
 listed-kept : (s : List ℕ) (u : ℕ) → (byte s (8 + u) ≡ 2 → keeper (view s) (u / 4) < 3 * (u / 4) + 3) → keysLost (view s) u ≡ false

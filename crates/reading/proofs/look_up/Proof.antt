@@ -4,7 +4,9 @@ use native.Mathlib.Omega.{arith}
 use borrow.Author.Needs.{needs}
 use borrow.Author.Tests.{not-true, not-false}
 use Rattle.lookup.specs.Groups.{recoverable-known}
-use Rattle.reading.proofs.Verdicts.{refusal, home-is, no-key, no-room, unsound, lost, absent, present, safe-unit, safe-fill, sized}
+use Rattle.soundness.specs.Survey.{found-sound}
+use Rattle.lookup.specs.Sized.{sound-sized}
+use Rattle.reading.proofs.Verdicts.{refusal, home-is, no-key, no-room, unsound, lost, absent, present, safe-unit, safe-fill}
 use Rattle.reading.proofs.look_up.Statement.{statement}
 use Rattle.reading.proofs.look_up.Tie as tie
 
@@ -25,17 +27,17 @@ returns-3 c =
 shared-slice-read-unit-of : tie.Need-shared-slice-read-unit-of
 shared-slice-read-unit-of c =
     let good = c .before in
-    omega (arith, sized (good .before .before .before .before .before .pre) (not-false _ (good .if3 .left)) .long)
+    omega (arith, sound-sized (found-sound (good .before .before .before .before .before .pre) (not-false _ (good .if3 .left))) .long)
 
 unit-of-requires : tie.Need-unit-of-requires
 unit-of-requires c κs =
     let good = c .before in
-    sized (good .before .before .before .before .before .pre) (not-false _ (good .if3 .left)) .unit
+    sound-sized (found-sound (good .before .before .before .before .before .pre) (not-false _ (good .if3 .left))) .unit
 
 gone-requires : tie.Need-gone-requires
 gone-requires c κs =
     let good = c .before .before in
-    let store = sized (good .before .before .before .before .before .pre) (not-false _ (good .if3 .left)) in
+    let store = sound-sized (found-sound (good .before .before .before .before .before .pre) (not-false _ (good .if3 .left))) in
     (store, omega (arith, c .unit-of .ensures .1, store .units))
 
 returns-4 : tie.Need-returns-4
@@ -52,7 +54,7 @@ array-read-n : tie.Need-array-read-n
 array-read-n c =
     let unit = c .before .before .before .before in
     let good = unit .before .before in
-    omega (arith, unit .unit-of .ensures .1, sized (good .before .before .before .before .before .pre) (not-false _ (good .if3 .left)) .units)
+    omega (arith, unit .unit-of .ensures .1, sound-sized (found-sound (good .before .before .before .before .before .pre) (not-false _ (good .if3 .left))) .units)
 
 listed-rank-requires : tie.Need-listed-rank-requires
 listed-rank-requires c κs =
@@ -61,7 +63,7 @@ listed-rank-requires c κs =
     let good = unit .before .before in
     let start = good .before .before .before .before .before in
     let ok = not-false _ (good .if3 .left) in
-    let store = sized (start .pre) ok in
+    let store = sound-sized (found-sound (start .pre) ok) in
     let there = safe-unit store (omega (arith, unit .unit-of .ensures .1, store .units)) (sym (safe .before .gone .ensures) ∙ safe .if4 .left) in
     let fill = safe-fill (start .pre) ok there (c .wide .ensures .0) in
     (recoverable-known there, fill .0, fill .1)
@@ -75,7 +77,7 @@ returns-5 c =
     let room = good .before .before in
     let start = room .before .before .before in
     let ok = not-false _ (good .if3 .left) in
-    let store = sized (start .pre) ok in
+    let store = sound-sized (found-sound (start .pre) ok) in
     let safe-one = sym (safe .before .gone .ensures) ∙ safe .if4 .left in
     let there = safe-unit store (omega (arith, unit .unit-of .ensures .1, store .units)) safe-one in
     let fill = safe-fill (start .pre) ok there (found .before .wide .ensures .0) in
@@ -92,7 +94,7 @@ returns-6 c =
     let room = good .before .before in
     let start = room .before .before .before in
     let ok = not-false _ (good .if3 .left) in
-    let store = sized (start .pre) ok in
+    let store = sound-sized (found-sound (start .pre) ok) in
     let safe-one = sym (safe .before .gone .ensures) ∙ safe .if4 .left in
     let there = safe-unit store (omega (arith, unit .unit-of .ensures .1, store .units)) safe-one in
     let fill = safe-fill (start .pre) ok there (found .before .wide .ensures .0) in
