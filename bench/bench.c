@@ -4,6 +4,7 @@
  */
 #define _POSIX_C_SOURCE 199309L
 #include "lhrs.h"
+#include "plain.h"
 
 #include <stdio.h>
 #include <stdlib.h>
@@ -95,13 +96,32 @@ static void fill(struct hall *hall, uint32_t records)
     hall->absent = key;
 }
 
+/* The plain test agrees with the library's on a store and on its damaged copies. */
+static void compare_tests(const struct hall *hall)
+{
+    static struct hall damaged;
+    uint8_t out[LHRS_BODY];
+    size_t step = hall->length / 1024 + 1;
+    damaged = *hall;
+    for (size_t i = 0; i < hall->length; i += step) {
+        for (unsigned flip = 0; flip < 4; flip++) {
+            damaged.bytes[i] = (uint8_t)(hall->bytes[i] ^ flip);
+            int sound = lhrs_read(damaged.bytes, hall->length, hall->absent, out, sizeof out) != 1;
+            require((uint8_t)plain_sound(damaged.bytes, hall->length), (uint8_t)sound, "plain test");
+        }
+        damaged.bytes[i] = hall->bytes[i];
+    }
+}
+
 static void prepare(uint32_t slots, uint32_t units, uint32_t level)
 {
     uint32_t records = slots * 3 / 4;
     build(&whole, slots, units, level);
     fill(&whole, records);
+    compare_tests(&whole);
     lost = whole;
     require(lhrs_out(lost.bytes, lost.length, 0), 0, "out");
+    compare_tests(&lost);
     build(&growing, slots, units < 16 ? units : 15, level);
     fill(&growing, records);
 }
@@ -127,6 +147,11 @@ static void read_absent(void)
 {
     uint8_t out[LHRS_BODY];
     require(lhrs_read(whole.bytes, whole.length, whole.absent, out, sizeof out), 6, "read");
+}
+
+static void test_plainly(void)
+{
+    require((uint8_t)plain_sound(whole.bytes, whole.length), 1, "plain test");
 }
 
 static void erase_and_teach(void)
@@ -183,6 +208,7 @@ struct operation {
 static const struct operation operations[] = {
     {"memcpy of the store", copy_store},
     {"soundness (read, key absent)", read_absent},
+    {"plain soundness test in C", test_plainly},
     {"erase + teach", erase_and_teach},
     {"correct", correct_one},
     {"read", read_one},

@@ -95,7 +95,7 @@ check-serves d c p l e h =
     first-found 3 (λ j. eqb (c j) 1)
     (omega (arith, count-append 4 3 (serves d c), places, check, count-not 4 (λ p. eqb (d p) 2), count-pos 4 (λ p. eqb (d p) 2) p l (eq-eqb (d p) 2 e)))
 
-keeper-there : (s : List ℕ) (u : ℕ) → u < 16 → byte s (8 + u) ≡ 2 → 4 ≤ count 7 (servesIn (view s) (u / 4)) → keeper (view s) (u / 4) < 12
+keeper-there : (s : List ℕ) (u : ℕ) → u < 16 → byte s (8 + u) ≡ 2 → 4 ≤ count 7 (servesIn (view s) (u / 4)) → keeper (view s) (u / 4) < 3 * (u / 4) + 3
 unfolding keeper servesIn view
 keeper-there s u l e h =
     let place : 4 * (u / 4) + u % 4 ≡ u = omega arith in
@@ -109,6 +109,15 @@ recoverable-known {s} {u} h =
       unit = h .unit;
       listed = λ e. keeper-there s u (h .unit) e (group-enough (h .sized) (u / 4) (let l = h .unit in omega arith) (h .whole e));
     }
+
+-- where no unit of the group is out, unit u is not
+pub none-out : (s : List ℕ) (u : ℕ) → ltb 0 (outsIn (view s) (u / 4)) ≡ false → byte s (8 + u) ≡ 2 → ⊥
+unfolding outsIn outs view
+none-out s u h e =
+    let place : 4 * (u / 4) + u % 4 ≡ u = omega arith in
+    let here : byte s (8 + (4 * (u / 4) + u % 4)) ≡ 2 = ap (λ i. byte s (8 + i)) place ∙ e in
+    let none : count 4 (λ p. eqb (byte s (8 + (4 * (u / 4) + p))) 2) + count 3 (λ j. eqb (byte s (24 + (3 * (u / 4) + j))) 2) ≤ 0 = ltb-false 0 _ h in
+    omega (arith, count-pos 4 (λ p. eqb (byte s (8 + (4 * (u / 4) + p))) 2) (u % 4) (omega arith) (eq-eqb _ 2 here))
 
 -- every unit can be read or rebuilt
 pub record Whole (s : List ℕ) : Type 0 where

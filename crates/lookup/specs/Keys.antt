@@ -73,7 +73,7 @@ out-within {s} h c p n at l q k e b =
 pub record Known (s : List ℕ) (u : ℕ) : Type 0 where
   pub sized : Sized s
   pub unit : u < 16
-  pub listed : byte s (8 + u) ≡ 2 → keeper (view s) (u / 4) < 12
+  pub listed : byte s (8 + u) ≡ 2 → keeper (view s) (u / 4) < 3 * (u / 4) + 3
 
 -- the list at base, a key every step bytes, is that of unit u
 pub record Lists (s : List ℕ) (u base step : ℕ) : Type 0 where
@@ -114,7 +114,7 @@ module _ {s : List ℕ} {u : ℕ} (known : Known s u) where
   lists-out at h e b =
       record {
         bytes = λ r. out-bytes s u r (at + checkBytes * r) h (omega arith);
-        within = out-within (known .sized) (keeper (view s) (u / 4)) (u % 4) (byte s 5) at (known .listed h) (omega arith) (omega arith) e b;
+        within = out-within (known .sized) (keeper (view s) (u / 4)) (u % 4) (byte s 5) at (omega (arith, known .listed h, known .unit)) (omega arith) (omega arith) e b;
       }
 
 -- ---- a search through the keys finds what the definitions say
@@ -132,10 +132,6 @@ unfolding rankIn
 rank-in s u n r key en er = er ∙ rw en
 
 module _ {s : List ℕ} {u base step : ℕ} (lists : Lists s u base step) where
-  pub listed-fill-found : (n r : ℕ) → n ≡ byte s 5 → r ≡ first n (λ i. eqb (keyIn s base step i) 0) → r ≡ listedFill (view s) u
-  unfolding listedFill
-  listed-fill-found n r en er = er ∙ rw en (first-ext (byte s 5) _ _ (λ k l. ap (λ x. eqb x 0) (lists-key lists k)) ∙ unfold view in refl)
-
   pub listed-rank-found : (n r key : ℕ) → n ≡ listedFill (view s) u → r ≡ first n (λ i. eqb (keyIn s base step i) key) → r ≡ listedRank (view s) u key
   unfolding listedRank
   listed-rank-found n r key en er = er ∙ rw en (first-ext (listedFill (view s) u) _ _ (λ k l. ap (λ x. eqb x key) (lists-key lists k)))

@@ -125,7 +125,7 @@ module _ {s : List ℕ} {u : ℕ} (unit : Recoverable s u) (r : ℕ) (l : r < by
   unfolding listedKey view
   out-key-long e =
       let c : ℕ = keeper (view s) (u / 4) in
-      let k : c < 12 = recoverable-known unit .listed e in
+      let k : c < 12 = omega (arith, recoverable-known unit .listed e, unit .unit) in
       ap length (pick-true (eq-eqb (byte s (8 + u)) 2 e) _ _ ∙ part-part (checkAt (byte s 5) c r) checkBytes (keyBytes * (u % 4)) keyBytes s (omega arith))
       ∙ length-part (checkAt (byte s 5) c r + keyBytes * (u % 4)) keyBytes s (omega (arith, check-fits (unit .sized) c r k l))
 

@@ -13,10 +13,10 @@ ghost use Rattle.group.specs.Members.{firstFour};
 ghost use Rattle.group.specs.Rebuilding.{weighed};
 ghost use Rattle.model.specs.Units.{powerBelow, splitPointer, unitOf};
 ghost use Rattle.model.specs.Layout.{view, slotAt, checkAt, keyOf};
-ghost use Rattle.model.specs.Reads.{fillIn, stateIn, outsIn, beyondIn, servesIn, holds, keeper, listedKey, listedFill, listedRank, wholeSlot, lostIn, totalIn};
+ghost use Rattle.model.specs.Reads.{fillIn, stateIn, outsIn, beyondIn, servesIn, holds, keeper, listedKey, listedFill, listedRank, wholeSlot, lostIn};
 ghost use Rattle.lookup.specs.Sized.{Sized};
 ghost use Rattle.lookup.specs.Keys.{keyIn, Within, Known, Lists};
-ghost use Rattle.lookup.specs.Groups.{Recoverable, Whole};
+ghost use Rattle.lookup.specs.Groups.{Recoverable};
 ghost use Rattle.lookup.specs.Slots.{heldAt, Recipe};
 
 // The product of two bytes.
@@ -180,15 +180,6 @@ pub fn keys_of(s: &[u8], u: u8) -> Keys
     }
 }
 
-// How many keys are listed for data unit u.
-pub fn listed_fill(s: &[u8], u: u8) -> u8
-    requires { ⌜ Known (now s) u ⌝ }
-    ensures { λ n. ⌜ (n ≡ listedFill (view (now (s .entry))) u) × (n ≤ byte (now (s .entry)) 5) ⌝ }
-{
-    let keys = keys_of(s, u);
-    find(s, keys.base, keys.step, s[5], 0)
-}
-
 // The rank of a key among the n that are listed for data unit u; n where it is not there.
 pub fn listed_rank(s: &[u8], u: u8, n: u8, key: u32) -> u8
     requires { ⌜ Known (now s) u × (n ≡ listedFill (view (now s)) u) × (n ≤ byte (now s) 5) ⌝ }
@@ -264,20 +255,6 @@ pub fn lost(s: &[u8]) -> bool
         u += 1;
     }
     false
-}
-
-// How many records a store has of which nothing is lost.
-pub fn total(s: &[u8]) -> usize
-    requires { ⌜ Whole (now s) ⌝ }
-    ensures { λ n. ⌜ (n ≡ totalIn (view (now (s .entry)))) × (n ≤ 1024) ⌝ }
-{
-    let mut n = 0;
-    let mut u: u8 = 0;
-    while u < 16 {
-        n += buffer::wide(listed_fill(s, u));
-        u += 1;
-    }
-    n
 }
 
 // The slot of rank r of data unit u.

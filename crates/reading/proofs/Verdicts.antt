@@ -5,22 +5,27 @@ use mathlib.Core.Bool.{Bool, true, false, _&&_}
 use mathlib.Core.List.{List}
 use native.Mathlib.Omega.{arith}
 use lib.Dec.{eqb}
+use lib.ListN.{getD}
 use lib.Seq.{getD-take}
 use borrow.Author.Tests.{eq-eqb, ne-eqb, lt-ltb, le-ltb, le-leb, lt-leb}
 use Rattle.buffer.specs.Choice.{pick}
 use Rattle.buffer.specs.ChoiceLaws.{by-test, pick-false}
 use Rattle.buffer.specs.TestLaws.{not-both, and-true}
+use Rattle.buffer.specs.Range.{sum}
+use Rattle.buffer.specs.RangeLaws.{sum-ext}
 use Rattle.buffer.specs.Bytes.{byte}
 use Rattle.group.specs.Widths.{bodyBytes, slotBytes}
 use Rattle.model.specs.Units.{unitOf}
 use Rattle.model.specs.Layout.{view, unitsIn}
 use Rattle.model.specs.Reads.{homeIn, beyondIn, listedFill, listedRank, lostIn, totalIn}
 use Rattle.model.specs.Numbers.{firstOf}
+use Rattle.soundness.specs.Survey.{Surveyed, fill-listed}
 use Rattle.lookup.specs.Sized.{Sized}
-use Rattle.lookup.specs.Groups.{Recoverable, Whole, none-lost}
+use Rattle.lookup.specs.Keys.{listed-fill-small}
+use Rattle.lookup.specs.Groups.{Recoverable, Whole, recoverable-known, whole-unit, none-lost}
 use Rattle.reading.specs.Rows.{readNumber, listNumber}
 use Rattle.reading.specs.Found.{Verdict}
-use Rattle.reading.specs.Listing.{Counted}
+use Rattle.reading.specs.Listing.{Counted, Fills}
 
 -- a refusal hands no place on
 pub refusal : {s : List ℕ} {ok : Bool} {k n : ℕ} (m : ℕ) {number unit rank : ℕ} → number ≡ suc m → suc m ≡ readNumber ok (view s) k n → Verdict s ok k n number unit rank
@@ -72,13 +77,27 @@ safe-unit {s} {u} h l e =
       whole = λ out. by-test (λ t. t ≡ false) (beyondIn (view s) (u / 4)) (λ b. not-both (and-true (eq-eqb (byte s (8 + u)) 2 out) b) e) (λ b. refl);
     }
 
+-- and the survey has counted it; the code reads the count at the index i
+pub safe-fill : {s : List ℕ} {ok : Bool} {fills : List ℕ} {u i : ℕ} → Surveyed s ok fills → ok ≡ true → Recoverable s u → i ≡ u → (getD fills i 0 ≡ listedFill (view s) u) × (getD fills i 0 ≤ byte s 5)
+safe-fill {s} {ok} {fills} {u} {i} g e h k =
+    let n : getD fills i 0 ≡ listedFill (view s) u = ap (λ j. getD fills j 0) k ∙ fill-listed g e u (h .unit) (recoverable-known h .listed) in
+    (n, rw n (listed-fill-small s u))
+
 -- ---- list
 pub not-counted : {s : List ℕ} {ok : Bool} {n : ℕ} (m : ℕ) → suc m ≡ listNumber ok (view s) n → Counted s ok n (suc m) 0
-not-counted m e = record { given = e; records = sym (pick-false (ne-eqb (suc m) 0 (λ z. omega arith)) _ _); whole = λ z. absurd (omega arith); room = λ z. absurd (omega arith) }
+not-counted m e = record { given = e; records = sym (pick-false (ne-eqb (suc m) 0 (λ z. omega arith)) _ _); sound = λ z. absurd (omega arith); whole = λ z. absurd (omega arith); room = λ z. absurd (omega arith) }
 
 -- nothing is lost
 pub safe-store : {s : List ℕ} → Sized s → lostIn (view s) ≡ false → Whole s
 safe-store {s} h e = record { sized = h; units = λ u l. safe-unit h l (none-lost s e u l) .whole }
+
+-- then the survey has counted every unit
+pub whole-fills : {s : List ℕ} {ok : Bool} {fills : List ℕ} → Surveyed s ok fills → ok ≡ true → Whole s → Fills s fills
+whole-fills g e h = record { listed = λ u l. fill-listed g e u l (recoverable-known (whole-unit h u l) .listed) }
+
+pub fills-total : {s fills : List ℕ} → Fills s fills → sum 16 (λ u. getD fills u 0) ≡ totalIn (view s)
+unfolding totalIn
+fills-total {s} {fills} h = sum-ext 16 (λ u. getD fills u 0) (listedFill (view s)) (h .listed)
 
 module _ (s : List ℕ) (ok : Bool) (n : ℕ) where
   pub list-unsound : ok ≡ false → 1 ≡ listNumber ok (view s) n
@@ -101,6 +120,7 @@ module _ (s : List ℕ) (ok : Bool) (n : ℕ) where
           record {
             given = rw (good, safe, le-ltb n (slotBytes * totalIn (view s)) l);
             records = e;
+            sound = λ z. good;
             whole = λ z. safe-store h safe;
             room = λ z. l;
           }

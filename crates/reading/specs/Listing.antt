@@ -1,18 +1,24 @@
--- What a verdict on list hands on: its number and its count. Assumes nothing.
-use Prim.Native.Nat.{ℕ, _*_, _≤_}
+-- What a verdict on list hands on: its number and its count; and the counts of the units that list goes by. Assumes nothing.
+use Prim.Native.Nat.{ℕ, _*_, _≤_, _<_}
 use mathlib.Core.Path.{_≡_}
-use mathlib.Core.Bool.{Bool}
+use mathlib.Core.Bool.{Bool, true}
 use mathlib.Core.List.{List}
 use lib.Dec.{eqb}
+use lib.ListN.{getD}
 use Rattle.buffer.specs.Choice.{pick}
 use Rattle.group.specs.Widths.{slotBytes}
 use Rattle.model.specs.Layout.{view}
-use Rattle.model.specs.Reads.{totalIn}
+use Rattle.model.specs.Reads.{listedFill, totalIn}
 use Rattle.lookup.specs.Groups.{Whole}
 use Rattle.reading.specs.Rows.{listNumber}
 
 pub record Counted (s : List ℕ) (ok : Bool) (n number count : ℕ) : Type 0 where
   pub given : number ≡ listNumber ok (view s) n
   pub records : count ≡ pick (eqb number 0) (totalIn (view s)) 0
+  pub sound : number ≡ 0 → ok ≡ true
   pub whole : number ≡ 0 → Whole s
   pub room : number ≡ 0 → slotBytes * totalIn (view s) ≤ n
+
+-- how many keys are listed for each unit
+pub record Fills (s : List ℕ) (fills : List ℕ) : Type 0 where
+  pub listed : (u : ℕ) → u < 16 → getD fills u 0 ≡ listedFill (view s) u

@@ -1,21 +1,21 @@
 // Reading a store of any bytes: read, read in place, and list. None of them changes the store.
 ghost use mathlib.Core.Path.{_≡_};
-ghost use mathlib.Core.Bool.{true};
 ghost use mathlib.Core.List.{_++_};
 ghost use Prim.Native.Nat.{_+_, _*_, _≤_, _<_};
-ghost use lib.ListN.{length, drop};
+ghost use lib.ListN.{length, drop, getD};
 ghost use Rattle.buffer.specs.Bytes.{byte, part};
+ghost use Rattle.buffer.specs.Range.{sum};
 ghost use Rattle.buffer.specs.Table.{tab};
 ghost use Rattle.field.specs.Table.{products};
 ghost use Rattle.group.specs.Widths.{keyBytes, bodyBytes, slotBytes};
 ghost use Rattle.model.specs.Layout.{view};
 ghost use Rattle.model.specs.Reads.{listedFill, wholeSlot, totalIn, listingIn};
-ghost use Rattle.lookup.specs.Sized.{Sized};
+ghost use Rattle.soundness.specs.Survey.{Surveyed};
 ghost use Rattle.lookup.specs.Groups.{Recoverable, Whole};
 ghost use Rattle.model.specs.Numbers.{Call};
 ghost use Rattle.model.specs.Perform.{copied, lent, listed, outcome, perform, placeIn};
 ghost use Rattle.reading.specs.Found.{Verdict};
-ghost use Rattle.reading.specs.Listing.{Counted};
+ghost use Rattle.reading.specs.Listing.{Counted, Fills};
 
 // The verdict on a read: its number, and where that is 0 the unit and the rank of the key.
 pub struct Found {
@@ -34,10 +34,10 @@ fn refused(number: u8) -> Found
     }
 }
 
-// Looks a key up for a read into len bytes; ok says whether the store is sound.
-fn look_up(s: &[u8], ok: bool, key: u32, len: usize) -> Found
-    requires { ⌜ (ok ≡ true → Sized (now s)) ⌝ }
-    ensures { λ f. ⌜ Verdict (now (s .entry)) ok key len (f .number) (f .unit) (f .rank) ⌝ }
+// Looks a key up for a read into len bytes, by the survey of the store.
+fn look_up(s: &[u8], survey: soundness::Survey, key: u32, len: usize) -> Found
+    requires { ⌜ Surveyed (now s) (survey .sound) (survey .fills) ⌝ }
+    ensures { λ f. ⌜ Verdict (now (s .entry)) (survey .sound) key len (f .number) (f .unit) (f .rank) ⌝ }
 {
     if key == 0 {
         return refused(2);
@@ -45,14 +45,15 @@ fn look_up(s: &[u8], ok: bool, key: u32, len: usize) -> Found
     if len != 16 {
         return refused(2);
     }
-    if !ok {
+    if !survey.sound {
         return refused(1);
     }
     let unit = lookup::unit_of(s[6], key);
     if lookup::gone(s, unit) {
         return refused(8);
     }
-    let n = lookup::listed_fill(s, unit);
+    let fills = survey.fills;
+    let n = fills[buffer::wide(unit)];
     let rank = lookup::listed_rank(s, unit, n, key);
     if n <= rank {
         return refused(6);
@@ -84,7 +85,7 @@ fn copy_body(s: &[u8], u: u8, r: u8, out: &mut [u8])
 pub fn read(s: &[u8], key: u32, out: &mut [u8]) -> u8
     ensures { λ r. ⌜ outcome (copied r (now (out .exit))) (now (s .entry)) ≡ perform (now (s .entry)) (Call.read key (now (out .entry))) ⌝ }
 {
-    let found = look_up(s, soundness::is_sound(s), key, out.len());
+    let found = look_up(s, soundness::survey_of(s), key, out.len());
     if found.number != 0 {
         return found.number;
     }
@@ -97,7 +98,7 @@ pub fn read_in_place(s: &[u8], key: u32) -> &[u8]
     ensures answer { λ r. ⌜ outcome (lent (now r)) (now (s .entry)) ≡ perform (now (s .entry)) (Call.readInPlace key) ⌝ }
     ensures place { λ r. ⌜ now r ≡ part (placeIn (now (s .entry)) key .at) (placeIn (now (s .entry)) key .size) (now (s .entry)) ⌝ }
 {
-    let place = look_up(s, soundness::is_sound(s), key, 16);
+    let place = look_up(s, soundness::survey_of(s), key, 16);
     if place.number != 0 {
         return &s[0..0];
     }
@@ -114,12 +115,25 @@ pub struct Listing {
     pub count: usize,
 }
 
-// The verdict on a list into len bytes, with its count; ok says whether the store is sound.
-fn count_records(s: &[u8], ok: bool, len: usize) -> Listing
-    requires { ⌜ (ok ≡ true → Sized (now s)) ⌝ }
-    ensures { λ l. ⌜ Counted (now (s .entry)) ok len (l .number) (l .count) ⌝ }
+// The sum of the counts of the units.
+fn total(fills: [u8; 16]) -> usize
+    ensures { λ n. ⌜ (n ≡ sum 16 (λ u. getD fills u 0)) × (n ≤ 4080) ⌝ }
 {
-    if !ok {
+    let mut n = 0;
+    let mut u = 0;
+    while u < 16 {
+        n += buffer::wide(fills[u]);
+        u += 1;
+    }
+    n
+}
+
+// The verdict on a list into len bytes, with its count, by the survey of the store.
+fn count_records(s: &[u8], survey: soundness::Survey, len: usize) -> Listing
+    requires { ⌜ Surveyed (now s) (survey .sound) (survey .fills) ⌝ }
+    ensures { λ l. ⌜ Counted (now (s .entry)) (survey .sound) len (l .number) (l .count) ⌝ }
+{
+    if !survey.sound {
         return Listing {
             number: 1,
             count: 0,
@@ -131,7 +145,8 @@ fn count_records(s: &[u8], ok: bool, len: usize) -> Listing
             count: 0,
         };
     }
-    let count = lookup::total(s);
+    let fills = survey.fills;
+    let count = total(fills);
     if len < 20 * count {
         return Listing {
             number: 7,
@@ -172,14 +187,14 @@ fn copy_unit(s: &[u8], u: u8, n: u8, out: &mut [u8], table: &[u8; 256])
 }
 
 // Writes the records of a store of which nothing is lost, unit by unit; what stands behind them stays.
-fn write_records(s: &[u8], out: &mut [u8], table: &[u8; 256])
-    requires { ⌜ Whole (now s) × (slotBytes * totalIn (view (now s)) ≤ length (now out)) × (now table ≡ products) ⌝ }
+fn write_records(s: &[u8], fills: [u8; 16], out: &mut [u8], table: &[u8; 256])
+    requires { ⌜ Whole (now s) × Fills (now s) fills × (slotBytes * totalIn (view (now s)) ≤ length (now out)) × (now table ≡ products) ⌝ }
     ensures { λ _. ⌜ now (out .exit) ≡ listingIn (view (now (s .entry))) ++ drop (length (listingIn (view (now (s .entry))))) (now (out .entry)) ⌝ }
 {
     let mut at = 0;
     let mut u: u8 = 0;
     while u < 16 {
-        let n = lookup::listed_fill(s, u);
+        let n = fills[buffer::wide(u)];
         let end = at + 20 * buffer::wide(n); // where the records of this unit end
         copy_unit(s, u, n, &mut out[at..end], table);
         at = end;
@@ -191,11 +206,13 @@ fn write_records(s: &[u8], out: &mut [u8], table: &[u8; 256])
 pub fn list(s: &[u8], out: &mut [u8]) -> Listing
     ensures { λ r. ⌜ outcome (listed (r .number) (r .count) (now (out .exit))) (now (s .entry)) ≡ perform (now (s .entry)) (Call.list (now (out .entry))) ⌝ }
 {
-    let verdict = count_records(s, soundness::is_sound(s), out.len());
+    let survey = soundness::survey_of(s);
+    let verdict = count_records(s, survey, out.len());
     if verdict.number != 0 {
         return verdict;
     }
+    let fills = survey.fills;
     let table = field::table();
-    write_records(s, out, &table);
+    write_records(s, fills, out, &table);
     verdict
 }

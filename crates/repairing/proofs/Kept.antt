@@ -171,7 +171,7 @@ module _ {s₀ s : List ℕ} {f : ℕ → ℕ → List ℕ} (w : Rewritten s₀ 
           let k = low in
           pick-true (eq-eqb (view s .dstate u) 2 (unfold view in out)) _ _
           ∙ ap (λ c. part (keyBytes * (u % 4)) keyBytes (view s .check c r)) (keeper-kept (u / 4) (omega arith))
-          ∙ ap (part (keyBytes * (u % 4)) keyBytes) (check-kept (keeper (view s₀) (u / 4)) r (recoverable-known (recipe .unit) .listed (recipe .out)) rank)
+          ∙ ap (part (keyBytes * (u % 4)) keyBytes) (check-kept (keeper (view s₀) (u / 4)) r (omega (arith, recoverable-known (recipe .unit) .listed (recipe .out), recipe .unit .unit)) rank)
           ∙ sym (pick-true (eq-eqb (view s₀ .dstate u) 2 (unfold view in recipe .out)) _ _)
 
       pub whole-kept : wholeSlot (view s) u r ≡ wholeSlot (view s₀) u r

@@ -8,8 +8,8 @@ use borrow.Author.Tests.{eqb-true, eq-eqb, lt-ltb, le-ltb, le-leb, ltb-true, ltb
 use Rattle.buffer.specs.Choice.{pick}
 use Rattle.buffer.specs.ChoiceLaws.{by-test, by-pick, pick-true, pick-false}
 use Rattle.buffer.specs.TestLaws.{not-both}
-use Rattle.buffer.specs.Range.{all}
-use Rattle.buffer.specs.RangeLaws.{all-true, all-holds, first-le}
+use Rattle.buffer.specs.Range.{all, first}
+use Rattle.buffer.specs.RangeLaws.{all-true, all-holds, first-le, first-le-at}
 use Rattle.soundness.specs.Keys.{fillOf, ownAndNew, reached, noKeys}
 
 -- keys are dense, different and in their own unit: the test of each rank
@@ -71,3 +71,19 @@ unfolding noKeys
 no-keys-holds n b key z =
     all-holds b (λ r. ltb r n || eqb (key r) 0) (λ r k.
     by-test (λ t. (t || eqb (key r) 0) ≡ true) (ltb r n) (λ _. refl) (λ e. eq-eqb (key r) 0 (z r (ltb-false r n e) k)))
+
+-- no key at all
+pub no-fill : (b : ℕ) (key : ℕ → ℕ) → ((r : ℕ) → r < b → key r ≡ 0) → fillOf b key ≡ 0
+unfolding fillOf
+no-fill b key z =
+    by-test
+    (λ _. first b (λ r. eqb (key r) 0) ≡ 0)
+    (ltb 0 b)
+    (λ e.
+    let l : 0 < b = ltb-true 0 b e in
+    let h : first b (λ r. eqb (key r) 0) ≤ 0 = first-le-at b (λ r. eqb (key r) 0) 0 l (eq-eqb (key 0) 0 (z 0 l)) in
+    omega arith)
+    (λ e.
+    let l : b ≤ 0 = ltb-false 0 b e in
+    let h : first b (λ r. eqb (key r) 0) ≤ b = first-le b (λ r. eqb (key r) 0) in
+    omega arith)

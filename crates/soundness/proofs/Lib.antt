@@ -11,3 +11,4 @@ pub mod Good
 pub mod Units
 pub mod Checks
 pub mod Theorem
+pub mod Surveys

@@ -6,23 +6,24 @@ use Prim.Native.Nat.{ℕ, _+_, _*_, _/_, _≤_, _<_}
 use native.Mathlib.Omega.{arith}
 use lib.Dec.{eqb, ltb, leb}
 use lib.ListN.{length}
-use borrow.Author.Tests.{eqb-true, eq-eqb, ne-eqb, ltb-false, le-ltb}
+use borrow.Author.Tests.{eqb-true, eq-eqb, ne-eqb, ltb-false, le-ltb, leb-true}
 use Rattle.buffer.specs.Choice.{pick}
-use Rattle.buffer.specs.ChoiceLaws.{by-test}
-use Rattle.buffer.specs.TestLaws.{and-true, and-first, and-second, same-test}
+use Rattle.buffer.specs.ChoiceLaws.{by-test, pick-true, pick-false}
+use Rattle.buffer.specs.TestLaws.{and-true, and-first, and-second, and-false-first, same-test}
 use Rattle.buffer.specs.Range.{all, first}
 use Rattle.buffer.specs.RangeLaws.{all-true, all-holds, first-ext, first-none, first-misses}
 use Rattle.buffer.specs.Bytes.{byte, be32, zeros}
 use Rattle.model.specs.Layout.{view, keyOf, slotAt}
-use Rattle.model.specs.Reads.{fillIn, keeper, listedKey}
+use Rattle.model.specs.Reads.{fillIn, keeper, listedKey, listedFill}
 use Rattle.model.specs.Sound.{same, keysKnown}
-use Rattle.soundness.specs.Keys.{keyFrom, fillOf, ownAndNew, reached, sameKeys}
-use Rattle.soundness.specs.Pieces.{Ranged, placed, zeroBetween, dataKeys, columnKeys, unkept, dataFill, columnFill, served, lost, absent, unitGood}
+use Rattle.soundness.specs.Keys.{keyFrom, fillOf, ownAndNew, reached, sameKeys, noKeys}
+use Rattle.soundness.specs.Pieces.{Ranged, placed, zeroBetween, dataKeys, columnKeys, unkept, dataFill, columnFill, lostFill, served, lost, absent, unitGood, unitFill}
+use Rattle.soundness.specs.Survey.{keysLost, knownFill}
 use Rattle.soundness.proofs.Joined.{or-right, or-left, either, behind, second, unless, once}
 use Rattle.soundness.proofs.Places.{row-within}
 use Rattle.soundness.proofs.Listed.{slot-key, listed-own, listed-out}
 use Rattle.soundness.proofs.Zeros.{Zero, zero-range, range-zero, slot-zero, zero-slots}
-use Rattle.soundness.proofs.Good.{keysGood, fill-le, reached-fill, reached-front, front-reached, good-parts, parts-good, no-keys-true, no-keys-holds}
+use Rattle.soundness.proofs.Good.{keysGood, fill-le, reached-fill, reached-front, front-reached, good-parts, parts-good, no-keys-true, no-keys-holds, no-fill}
 
 -- the clauses of soundness that speak of data unit u
 pub record Unit (s : List ℕ) (u : ℕ) : Type 0 where
@@ -77,6 +78,51 @@ module _ (s : List ℕ) (u : ℕ) where
   known-out : byte s (8 + u) ≡ 2 → keysKnown (view s) u ≡ not (unkept s (u / 4))
   unfolding keysKnown view
   known-out e = rw (e, none-kept)
+
+  -- whether its keys are lost, and how many are known where they are not
+  not-lost : (byte s (8 + u) ≡ 2 → ⊥) → keysLost (view s) u ≡ false
+  unfolding keysLost view
+  not-lost h = and-false-first (ne-eqb (byte s (8 + u)) 2 h) _
+
+  lost-out : byte s (8 + u) ≡ 2 → keysLost (view s) u ≡ unkept s (u / 4)
+  unfolding keysLost unkept view
+  lost-out e = rw e
+
+  fill-known : {key : ℕ → ℕ} → keysLost (view s) u ≡ false → (λ r. keyOf (listedKey (view s) u r)) ≡ key → fillOf (byte s 5) key ≡ knownFill (view s) u
+  unfolding knownFill
+  fill-known h e =
+      let all-listed : fillOf (byte s 5) (λ r. keyOf (listedKey (view s) u r)) ≡ listedFill (view s) u = unfold fillOf listedFill view in refl in
+      ap (fillOf (byte s 5)) (sym e) ∙ all-listed ∙ sym (pick-false h 0 (listedFill (view s) u))
+
+  -- ---- a unit that is good has no more keys than there is room for
+  served-small : served s u ≡ true → dataFill s u ≤ 64
+  unfolding served
+  served-small h =
+      leb-true _ 64 (and-first (leb (dataFill s u) 64) _ (and-first (leb (dataFill s u) 64 && zeroBetween s (slotAt (byte s 5) u 0 + 20 * dataFill s u) (slotAt (byte s 5) u 0 + 20 * byte s 5)) _ h))
+
+  lost-small : lost s u ≡ true → lostFill s u ≤ 64
+  unfolding lost lostFill pick
+  lost-small h =
+      by-test
+      (λ t. (t || leb (columnFill s u) 64 && noKeys (columnFill s u) (byte s 5) (columnKeys s u)) ≡ true → pick t 0 (columnFill s u) ≤ 64)
+      (unkept s (u / 4))
+      (λ _ _. omega arith)
+      (λ _ k. leb-true _ 64 (and-first (leb (columnFill s u) 64) _ k))
+      (and-second (zeroBetween s (slotAt (byte s 5) u 0) (slotAt (byte s 5) u 0 + 20 * byte s 5)) _ h)
+
+  pub fill-small : unitGood s u ≡ true → unitFill s u ≤ 64
+  unfolding unitGood unitFill pick
+  fill-small =
+      by-test
+      (λ t. pick t (pick (eqb (byte s (8 + u)) 1) (served s u) (lost s u)) (absent s u) ≡ true → pick t (pick (eqb (byte s (8 + u)) 1) (dataFill s u) (lostFill s u)) 0 ≤ 64)
+      (ltb u (byte s 6))
+      (λ _.
+      by-test
+      (λ t. pick t (served s u) (lost s u) ≡ true → pick t (dataFill s u) (lostFill s u) ≤ 64)
+      (eqb (byte s (8 + u)) 1)
+      (λ _. served-small)
+      (λ _. lost-small))
+      (λ _ _. omega arith)
 
 module _ (s : List ℕ) (ok : Ranged s) (u : ℕ) (low : u < 16) where
   fits : slotAt (byte s 5) u 0 + 20 * byte s 5 ≤ length s
@@ -156,6 +202,13 @@ module _ (s : List ℕ) (ok : Ranged s) (u : ℕ) (low : u < 16) where
         (unless (unkept s (u / 4)) _ (λ e.
         all-holds (byte s 5) (λ r. eqb (dataKeys s u r) (columnKeys s u r)) (λ r l. eq-eqb _ _ (sym (ap (λ f. f r) own) ∙ sym (g .lists e r l)))))
 
+    served-fill : served s u ≡ true → dataFill s u ≡ knownFill (view s) u
+    unfolding served dataFill Front
+    served-fill h =
+        let found = and-first (leb (dataFill s u) 64 && zeroBetween s (slotAt (byte s 5) u 0 + 20 * dataFill s u) (slotAt (byte s 5) u 0 + 20 * byte s 5)) _ h in
+        reached-fill (byte s 5) (byte s 6) u (dataKeys s u) (front-of (and-first (leb (dataFill s u) 64) _ found))
+        ∙ fill-known s u (not-lost s u (λ e. absurd (omega arith))) own
+
   -- ---- out
   module _ (state : byte s (8 + u) ≡ 2) where
     listed : (λ r. keyOf (listedKey (view s) u r)) ≡ columnKeys s u
@@ -188,6 +241,19 @@ module _ (s : List ℕ) (ok : Ranged s) (u : ℕ) (low : u < 16) where
         (front-reached (byte s 5) (byte s 6) u (columnKeys s u) (ok .few) (k .0))
         (rw (reached-fill (byte s 5) (byte s 6) u (columnKeys s u) (k .0)) (no-keys-holds _ (byte s 5) (columnKeys s u) (k .1)))))
 
+    lost-fill : lost s u ≡ true → lostFill s u ≡ knownFill (view s) u
+    unfolding lost lostFill columnFill
+    lost-fill h =
+        by-test
+        (λ _. pick (unkept s (u / 4)) 0 (columnFill s u) ≡ knownFill (view s) u)
+        (unkept s (u / 4))
+        (λ e. pick-true e 0 (columnFill s u) ∙ unfold knownFill in sym (pick-true (lost-out s u state ∙ e) 0 (listedFill (view s) u)))
+        (λ e.
+        let both = second (unkept s (u / 4)) _ e (and-second (zeroBetween s (slotAt (byte s 5) u 0) (slotAt (byte s 5) u 0 + 20 * byte s 5)) _ h) in
+        pick-false e 0 (columnFill s u)
+        ∙ reached-fill (byte s 5) (byte s 6) u (columnKeys s u) (reached-front (byte s 5) (byte s 6) u (columnKeys s u) (and-first (leb (columnFill s u) 64) _ both))
+        ∙ fill-known s u (lost-out s u state ∙ e) listed)
+
   -- ---- not in place
   module _ (state : byte s (8 + u) ≡ 0) where
     none : (λ r. keyOf (listedKey (view s) u r)) ≡ dataKeys s u
@@ -213,17 +279,26 @@ module _ (s : List ℕ) (ok : Ranged s) (u : ℕ) (low : u < 16) where
         and-true z (unless (unkept s (u / 4)) _ (λ e.
         no-keys-holds 0 (byte s 5) (columnKeys s u) (λ r _ l. g .lists e r l ∙ ap (λ f. f r) none ∙ data-zero s u 0 (whole z) r (omega arith) l)))
 
+    absent-fill : absent s u ≡ true → 0 ≡ knownFill (view s) u
+    unfolding absent
+    absent-fill h =
+        let z = and-first (zeroBetween s (slotAt (byte s 5) u 0) (slotAt (byte s 5) u 0 + 20 * byte s 5)) _ h in
+        sym (no-fill (byte s 5) (dataKeys s u) (λ r l. data-zero s u 0 (whole z) r (omega arith) l)) ∙ fill-known s u (not-lost s u (λ e. absurd (omega arith))) none
+
   -- ---- by the unit's state
-  by-state : (Q : Bool → Type 0) → placed (ltb u (byte s 6)) (byte s (8 + u)) ≡ true
-      → (byte s (8 + u) ≡ 1 → Q (served s u)) → (byte s (8 + u) ≡ 2 → Q (lost s u)) → (byte s (8 + u) ≡ 0 → Q (absent s u)) → Q (unitGood s u)
-  unfolding placed unitGood pick
+  by-state : (Q : Bool → ℕ → Type 0) → placed (ltb u (byte s 6)) (byte s (8 + u)) ≡ true
+      → (byte s (8 + u) ≡ 1 → Q (served s u) (dataFill s u)) → (byte s (8 + u) ≡ 2 → Q (lost s u) (lostFill s u)) → (byte s (8 + u) ≡ 0 → Q (absent s u) 0)
+      → Q (unitGood s u) (unitFill s u)
+  unfolding placed unitGood unitFill pick
   by-state Q h one two none =
       by-test
-      (λ t. pick t (eqb (byte s (8 + u)) 1 || eqb (byte s (8 + u)) 2) (eqb (byte s (8 + u)) 0) ≡ true → Q (pick t (pick (eqb (byte s (8 + u)) 1) (served s u) (lost s u)) (absent s u)))
+      (λ t.
+      pick t (eqb (byte s (8 + u)) 1 || eqb (byte s (8 + u)) 2) (eqb (byte s (8 + u)) 0) ≡ true
+      → Q (pick t (pick (eqb (byte s (8 + u)) 1) (served s u) (lost s u)) (absent s u)) (pick t (pick (eqb (byte s (8 + u)) 1) (dataFill s u) (lostFill s u)) 0))
       (ltb u (byte s 6))
       (λ _.
       by-test
-      (λ t. (t || eqb (byte s (8 + u)) 2) ≡ true → Q (pick t (served s u) (lost s u)))
+      (λ t. (t || eqb (byte s (8 + u)) 2) ≡ true → Q (pick t (served s u) (lost s u)) (pick t (dataFill s u) (lostFill s u)))
       (eqb (byte s (8 + u)) 1)
       (λ e _. one (eqb-true _ _ e))
       (λ _ k. two (eqb-true _ _ k)))
@@ -231,7 +306,10 @@ module _ (s : List ℕ) (ok : Ranged s) (u : ℕ) (low : u < 16) where
       h
 
   pub good-unit : placed (ltb u (byte s 6)) (byte s (8 + u)) ≡ true → unitGood s u ≡ true → Unit s u
-  good-unit p = by-state (λ t. t ≡ true → Unit s u) p served-unit lost-unit absent-unit
+  good-unit p = by-state (λ t _. t ≡ true → Unit s u) p served-unit lost-unit absent-unit
+
+  pub good-fill : placed (ltb u (byte s 6)) (byte s (8 + u)) ≡ true → unitGood s u ≡ true → unitFill s u ≡ knownFill (view s) u
+  good-fill p = by-state (λ t n. t ≡ true → n ≡ knownFill (view s) u) p served-fill lost-fill absent-fill
 
   pub unit-good : placed (ltb u (byte s 6)) (byte s (8 + u)) ≡ true → Unit s u → unitGood s u ≡ true
-  unit-good p g = by-state (λ t. t ≡ true) p (λ e. unit-served e g) (λ e. unit-lost e g) (λ e. unit-absent e g)
+  unit-good p g = by-state (λ t _. t ≡ true) p (λ e. unit-served e g) (λ e. unit-lost e g) (λ e. unit-absent e g)

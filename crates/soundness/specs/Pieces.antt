@@ -55,6 +55,10 @@ dataFill s u = reached (byte s 5) (byte s 6) u (dataKeys s u)
 unfoldable pub columnFill : List ℕ → ℕ → ℕ
 columnFill s u = reached (byte s 5) (byte s 6) u (columnKeys s u)
 
+-- the keys listed for a unit that is out: none where no check unit of its group is in service
+unfoldable pub lostFill : List ℕ → ℕ → ℕ
+lostFill s u = pick (unkept s (u / 4)) 0 (columnFill s u)
+
 -- in service: its keys, zeros behind them, and the keys listed for it
 unfoldable pub served : List ℕ → ℕ → Bool
 served s u =
@@ -76,6 +80,13 @@ absent s u =
 
 unfoldable pub unitGood : List ℕ → ℕ → Bool
 unitGood s u = pick (ltb u (byte s 6)) (pick (eqb (byte s (8 + u)) 1) (served s u) (lost s u)) (absent s u)
+
+-- how many keys are listed for a unit; and 65, which no unit has room for, where the unit is not good
+unfoldable pub unitFill : List ℕ → ℕ → ℕ
+unitFill s u = pick (ltb u (byte s 6)) (pick (eqb (byte s (8 + u)) 1) (dataFill s u) (lostFill s u)) 0
+
+unfoldable pub unitCount : List ℕ → ℕ → ℕ
+unitCount s u = pick (unitGood s u) (unitFill s u) 65
 
 -- ---- a check unit: in service it lists the same keys as the first in service of its group, else it is zero
 unfoldable pub checkGood : List ℕ → ℕ → Bool

@@ -1,18 +1,21 @@
 // The soundness test: document 01, "Sound means", over bytes of any length. One pass over the keys of each unit; the body of a record is never
-// read.
+// read. What the pass counts is handed on with the verdict, so that no call counts again.
 ghost use mathlib.Core.Path.{_≡_};
+ghost use mathlib.Core.Bool.{false};
 ghost use Prim.Native.Nat.{ℕ, _+_, _*_, _-_, _/_, _%_, _≤_, _<_};
 ghost use lib.Bits.{bitAnd};
 ghost use lib.Dec.{eqb, ltb};
 ghost use lib.ListN.{length};
 ghost use Rattle.buffer.specs.Bytes.{byte};
-ghost use Rattle.buffer.specs.Range.{all};
+ghost use Rattle.buffer.specs.Choice.{pick};
+ghost use Rattle.buffer.specs.Range.{all, entries};
 ghost use Rattle.model.specs.Units.{unitOf, powerBelow};
 ghost use Rattle.model.specs.Layout.{view, slotAt, checkAt};
 ghost use Rattle.model.specs.Reads.{keeper};
 ghost use Rattle.model.specs.Sound.{ranges, checksIn, sound};
 ghost use Rattle.soundness.specs.Keys.{keyFrom, Within, placeOf, isNew, reached, sameKeys, noKeys, le32, samePair, sameLists};
-ghost use Rattle.soundness.specs.Pieces.{Ranged, placed, groupPlaced, zeroBetween, served, lost, absent, unitGood, checkGood};
+ghost use Rattle.soundness.specs.Pieces.{Ranged, placed, groupPlaced, zeroBetween, dataFill, lostFill, served, lost, absent, unitCount, checkGood};
+ghost use Rattle.soundness.specs.Survey.{Counted, Surveyed};
 
 fn wide32(x: u8) -> u32
     ensures { λ r. ⌜ (r ≡ x) × (r < 256) ⌝ }
@@ -232,12 +235,12 @@ fn keeper_of(s: &[u8], g: u8) -> u8
     3 * g + 3
 }
 
-// ---- one unit
+// ---- one unit: how many keys are listed for it, or 65 where it is not as it should be
 
 // In service: its keys, zeros behind them, and the keys listed for it.
-fn is_served(t: &mut [u8; 2048], s: &[u8], u: u8) -> bool
+fn served_count(t: &mut [u8; 2048], s: &[u8], u: u8) -> u8
     requires { ⌜ Ranged (now s) × (u < byte (now s) 6) × (length (now t) ≡ 2048) ⌝ }
-    ensures { λ r. ⌜ (r ≡ served (now (s .entry)) u) × (length (now (t .exit)) ≡ 2048) ⌝ }
+    ensures { λ r. ⌜ (r ≡ pick (served (now (s .entry)) u) (dataFill (now (s .entry)) u) 65) × (length (now (t .exit)) ≡ 2048) ⌝ }
 {
     let b = s[5];
     let m = s[6];
@@ -245,42 +248,47 @@ fn is_served(t: &mut [u8; 2048], s: &[u8], u: u8) -> bool
     let at = slots_at(b, u);
     let n = reach(t, s, at, 20, w, m, u);
     if 64 < n {
-        return false;
+        return 65;
     }
     if !zero_between(s, at + 20 * n, at + 20 * w) {
-        return false;
+        return 65;
     }
     let g = u / 4;
     let k = keeper_of(s, g);
-    if k == 3 * g + 3 {
-        return true;
+    if k != 3 * g + 3 {
+        if !same_column(s, at, checks_at(b, k) + 4 * buffer::wide(u % 4), w) {
+            return 65;
+        }
     }
-    same_column(s, at, checks_at(b, k) + 4 * buffer::wide(u % 4), w)
+    n as u8
 }
 
 // Out: zeros, and the keys listed for it.
-fn is_lost(t: &mut [u8; 2048], s: &[u8], u: u8) -> bool
+fn lost_count(t: &mut [u8; 2048], s: &[u8], u: u8) -> u8
     requires { ⌜ Ranged (now s) × (u < byte (now s) 6) × (length (now t) ≡ 2048) ⌝ }
-    ensures { λ r. ⌜ (r ≡ lost (now (s .entry)) u) × (length (now (t .exit)) ≡ 2048) ⌝ }
+    ensures { λ r. ⌜ (r ≡ pick (lost (now (s .entry)) u) (lostFill (now (s .entry)) u) 65) × (length (now (t .exit)) ≡ 2048) ⌝ }
 {
     let b = s[5];
     let m = s[6];
     let w = buffer::wide(b);
     let at = slots_at(b, u);
     if !zero_between(s, at, at + 20 * w) {
-        return false;
+        return 65;
     }
     let g = u / 4;
     let k = keeper_of(s, g);
     if k == 3 * g + 3 {
-        return true;
+        return 0;
     }
     let column = checks_at(b, k) + 4 * buffer::wide(u % 4);
     let listed = reach(t, s, column, 32, w, m, u);
     if 64 < listed {
-        return false;
+        return 65;
     }
-    no_keys(s, column, listed, w)
+    if !no_keys(s, column, listed, w) {
+        return 65;
+    }
+    listed as u8
 }
 
 // Not in place: zeros, and no keys listed for it.
@@ -302,32 +310,52 @@ fn is_absent(s: &[u8], u: u8) -> bool
     no_keys(s, checks_at(b, k) + 4 * buffer::wide(u % 4), 0, w)
 }
 
-fn unit_good(t: &mut [u8; 2048], s: &[u8], u: u8) -> bool
+fn unit_count(t: &mut [u8; 2048], s: &[u8], u: u8) -> u8
     requires { ⌜ Ranged (now s) × (u < 16) × (length (now t) ≡ 2048) ⌝ }
-    ensures { λ r. ⌜ (r ≡ unitGood (now (s .entry)) u) × (length (now (t .exit)) ≡ 2048) ⌝ }
+    ensures { λ r. ⌜ (r ≡ unitCount (now (s .entry)) u) × (length (now (t .exit)) ≡ 2048) ⌝ }
 {
     if u < s[6] {
         if s[8 + buffer::wide(u)] == 1 {
-            return is_served(t, s, u);
+            return served_count(t, s, u);
         }
-        return is_lost(t, s, u);
+        return lost_count(t, s, u);
     }
-    is_absent(s, u)
+    if is_absent(s, u) { 0 } else { 65 }
 }
 
-fn units_good(s: &[u8]) -> bool
+// What the test learns of a store: whether it is sound, and where it is, how many keys are listed for each data unit.
+pub struct Survey {
+    pub sound: bool,
+    pub fills: [u8; 16],
+}
+
+fn unsound() -> Survey
+    ensures { λ r. ⌜ (r .sound ≡ false) × (r .fills ≡ entries 16 (λ _. 0)) ⌝ }
+{
+    let fills = [0u8; 16];
+    Survey {
+        sound: false,
+        fills,
+    }
+}
+
+// The keys of every data unit, counted as long as the units are good.
+fn count_units(s: &[u8]) -> Survey
     requires { ⌜ Ranged (now s) ⌝ }
-    ensures { λ r. ⌜ r ≡ all 16 (unitGood (now (s .entry))) ⌝ }
+    ensures { λ r. ⌜ Counted (now (s .entry)) (r .sound) (r .fills) ⌝ }
 {
     let mut t = [0u8; 2048];
+    let mut fills = [0u8; 16];
     let mut u: u8 = 0;
     while u < 16 {
-        if !unit_good(&mut t, s, u) {
-            return false;
+        let n = unit_count(&mut t, s, u);
+        if 64 < n {
+            return unsound();
         }
+        fills[buffer::wide(u)] = n;
         u += 1;
     }
-    true
+    Survey { sound: true, fills }
 }
 
 fn check_good(s: &[u8], c: u8) -> bool
@@ -496,21 +524,33 @@ fn groups_placed(s: &[u8]) -> bool
     true
 }
 
+// Tests bytes of any length for a sound store, and hands on what the test learned.
+pub fn survey_of(s: &[u8]) -> Survey
+    ensures { λ r. ⌜ Surveyed (now (s .entry)) (r .sound) (r .fills) ⌝ }
+{
+    if !ranges_hold(s) {
+        return unsound();
+    }
+    if !units_placed(s) {
+        return unsound();
+    }
+    if !groups_placed(s) {
+        return unsound();
+    }
+    let counted = count_units(s);
+    if !counted.sound {
+        return unsound();
+    }
+    if !checks_good(s) {
+        return unsound();
+    }
+    counted
+}
+
 // Whether bytes of any length are a sound store.
 pub fn is_sound(s: &[u8]) -> bool
     ensures { λ r. ⌜ r ≡ sound (now (s .entry)) ⌝ }
 {
-    if !ranges_hold(s) {
-        return false;
-    }
-    if !units_placed(s) {
-        return false;
-    }
-    if !groups_placed(s) {
-        return false;
-    }
-    if !units_good(s) {
-        return false;
-    }
-    checks_good(s)
+    let survey = survey_of(s);
+    survey.sound
 }

@@ -1,27 +1,39 @@
 -- Where a key belongs, from what the code looks up. Assumes nothing.
-use Prim.Native.Nat.{ℕ, _≤_, _<_}
+use Prim.Native.Nat.{ℕ, _+_, _/_, _≤_, _<_}
 use mathlib.Core.Path.{_≡_, sym, ap, _∙_}
+use mathlib.Core.Bool.{Bool, true, false}
 use mathlib.Core.List.{List}
 use native.Mathlib.Omega.{arith}
-use lib.Dec.{eqb}
+use lib.Dec.{eqb, ltb}
+use lib.ListN.{getD}
 use Rattle.buffer.specs.Bytes.{byte}
 use Rattle.buffer.specs.Range.{first}
 use Rattle.model.specs.Units.{unitOf}
 use Rattle.model.specs.Layout.{view, keyOf}
-use Rattle.model.specs.Reads.{homeIn, fillIn}
+use Rattle.model.specs.Reads.{homeIn, outsIn, fillIn}
 use Rattle.model.specs.StoreLaws.{units-of}
-use Rattle.lookup.specs.Sized.{Sized}
-use Rattle.lookup.specs.Keys.{rank-in}
+use Rattle.soundness.specs.Survey.{Surveyed, found-sound, fill-listed, fill-most}
+use Rattle.lookup.specs.Sized.{sound-sized}
+use Rattle.lookup.specs.Keys.{rank-in, own-fill}
+use Rattle.lookup.specs.Groups.{none-out}
 use Rattle.writing.specs.Homes.{Homed}
 
-pub homed : (s : List ℕ) (k m u n r : ℕ) → Sized s → m ≡ byte s 6 → (u ≡ unitOf m k) × (u < m) → (n ≡ fillIn (view s) u) × (n ≤ byte s 5)
-    → (r ≡ first n (λ q. eqb (keyOf (view s .slot u q)) k)) × (r ≤ n) → Homed s k u n r
+-- the code reads m, u, the number of units out, n at the index i, and r
+pub homed : {s : List ℕ} {ok : Bool} {fills : List ℕ} {u i r : ℕ} {out : Bool} (k : ℕ) → Surveyed s ok fills → ok ≡ true → (u ≡ unitOf (byte s 6) k) × (u < byte s 6)
+    → out ≡ ltb 0 (outsIn (view s) (u / 4)) → i ≡ u → (r ≡ first (getD fills i 0) (λ q. eqb (keyOf (view s .slot u q)) k)) × (r ≤ getD fills i 0)
+    → Homed s k u out (getD fills i 0) r
 unfolding homeIn
-homed s k m u n r h em eu en er = record {
-  unit = ap (λ j. unitOf j k) (sym (units-of s) ∙ sym em) ∙ sym (eu .0);
-  fill = sym (en .0);
-  rank = sym (rank-in s u n r k (en .0) (er .0));
-  below = omega (arith, h .units);
-  most = en .1;
-  among = er .1;
-}
+homed {s} {ok} {fills} {u} {i} {r} {out} k g e eu eo ei er =
+    let low : u < 16 = omega (arith, sound-sized (found-sound g e) .units) in
+    let serves : out ≡ false → byte s (8 + u) ≡ 2 → ⊥ = λ o. none-out s u (sym eo ∙ o) in
+    let own : out ≡ false → getD fills i 0 ≡ fillIn (view s) u =
+    λ o. ap (λ j. getD fills j 0) ei ∙ fill-listed g e u low (λ w. absurd (serves o w)) ∙ sym (own-fill s u (serves o)) in
+    record {
+      unit = ap (λ j. unitOf j k) (sym (units-of s)) ∙ sym (eu .0);
+      away = sym eo;
+      fill = λ o. sym (own o);
+      rank = λ o. sym (rank-in s u (getD fills i 0) r k (own o) (er .0));
+      below = low;
+      most = rw ei (fill-most g u low);
+      among = er .1;
+    }

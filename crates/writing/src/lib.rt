@@ -11,7 +11,7 @@ ghost use Rattle.model.specs.LayoutLaws.{Long};
 ghost use Rattle.model.specs.Numbers.{Call, teach, correct, erase, unitOut, firstOf, refusalsIn};
 ghost use Rattle.model.specs.Perform.{plain, outcome, perform};
 ghost use Rattle.model.specs.Changes.{written, erased, unitLost};
-ghost use Rattle.lookup.specs.Sized.{Sized};
+ghost use Rattle.soundness.specs.Survey.{Surveyed};
 ghost use Rattle.writing.specs.Following.{followed};
 ghost use Rattle.writing.specs.Homes.{Homed};
 
@@ -124,26 +124,44 @@ pub fn clear_unit(s: &mut [u8], w: u8)
     }
 }
 
-// Where a key belongs: its unit, how many records that unit has, and the key's rank among them.
+// Where a key belongs: its unit, and whether a unit of the group is out; where none is, how many records the unit has and the key's rank among
+// them.
 struct Home {
     unit: u8,
+    out: bool,
     fill: u8,
     rank: u8,
 }
 
-fn home_of(s: &[u8], key: u32) -> Home
-    requires { ⌜ Sized (now s) ⌝ }
-    ensures { λ h. ⌜ Homed (now (s .entry)) key (h .unit) (h .fill) (h .rank) ⌝ }
+// The home of a key in a store that is sound, by the survey of the store; nothing is looked up in one that is not.
+fn home_of(s: &[u8], survey: soundness::Survey, key: u32) -> Home
+    requires { ⌜ Surveyed (now s) (survey .sound) (survey .fills) ⌝ }
+    ensures { λ h. ⌜ (survey .sound ≡ true → Homed (now (s .entry)) key (h .unit) (h .out) (h .fill) (h .rank)) ⌝ }
 {
-    let unit = lookup::unit_of(buffer::byte_at(s, 6), key);
-    let fill = lookup::fill(s, unit);
+    if !survey.sound {
+        return Home {
+            unit: 0,
+            out: false,
+            fill: 0,
+            rank: 0,
+        };
+    }
+    let unit = lookup::unit_of(s[6], key);
+    let out = 0 < lookup::outs(s, unit / 4);
+    let fills = survey.fills;
+    let fill = fills[buffer::wide(unit)];
     let rank = lookup::rank(s, unit, fill, key);
-    Home { unit, fill, rank }
+    Home {
+        unit,
+        out,
+        fill,
+        rank,
+    }
 }
 
-// The number of a teach, for a store that is sound or not.
-fn teach_number(s: &[u8], ok: bool, key: u32, body: &[u8]) -> u8
-    requires { ⌜ (ok ≡ true → Sized (now s)) ⌝ }
+// The number of a teach, for a store that is sound or not and the home of the key.
+fn teach_number(s: &[u8], ok: bool, home: Home, key: u32, body: &[u8]) -> u8
+    requires { ⌜ (ok ≡ true → Homed (now s) key (home .unit) (home .out) (home .fill) (home .rank)) ⌝ }
     ensures { λ r. ⌜ r ≡ firstOf (refusalsIn ok (view (now (s .entry))) (Call.teach key (now (body .entry)))) ⌝ }
 {
     let no_key = key == 0;
@@ -157,9 +175,7 @@ fn teach_number(s: &[u8], ok: bool, key: u32, body: &[u8]) -> u8
     if !ok {
         return 1;
     }
-    let home = home_of(s, key);
-    let out = 0 < lookup::outs(s, home.unit / 4);
-    if out {
+    if home.out {
         return 4;
     }
     let known = home.rank < home.fill;
@@ -174,8 +190,8 @@ fn teach_number(s: &[u8], ok: bool, key: u32, body: &[u8]) -> u8
 }
 
 // The number of a correct.
-fn correct_number(s: &[u8], ok: bool, key: u32, body: &[u8]) -> u8
-    requires { ⌜ (ok ≡ true → Sized (now s)) ⌝ }
+fn correct_number(s: &[u8], ok: bool, home: Home, key: u32, body: &[u8]) -> u8
+    requires { ⌜ (ok ≡ true → Homed (now s) key (home .unit) (home .out) (home .fill) (home .rank)) ⌝ }
     ensures { λ r. ⌜ r ≡ firstOf (refusalsIn ok (view (now (s .entry))) (Call.correct key (now (body .entry)))) ⌝ }
 {
     let no_key = key == 0;
@@ -189,9 +205,7 @@ fn correct_number(s: &[u8], ok: bool, key: u32, body: &[u8]) -> u8
     if !ok {
         return 1;
     }
-    let home = home_of(s, key);
-    let out = 0 < lookup::outs(s, home.unit / 4);
-    if out {
+    if home.out {
         return 4;
     }
     let missing = home.fill <= home.rank;
@@ -202,8 +216,8 @@ fn correct_number(s: &[u8], ok: bool, key: u32, body: &[u8]) -> u8
 }
 
 // The number of an erase.
-fn erase_number(s: &[u8], ok: bool, key: u32) -> u8
-    requires { ⌜ (ok ≡ true → Sized (now s)) ⌝ }
+fn erase_number(s: &[u8], ok: bool, home: Home, key: u32) -> u8
+    requires { ⌜ (ok ≡ true → Homed (now s) key (home .unit) (home .out) (home .fill) (home .rank)) ⌝ }
     ensures { λ r. ⌜ r ≡ firstOf (refusalsIn ok (view (now (s .entry))) (Call.erase key)) ⌝ }
 {
     let no_key = key == 0;
@@ -213,9 +227,7 @@ fn erase_number(s: &[u8], ok: bool, key: u32) -> u8
     if !ok {
         return 1;
     }
-    let home = home_of(s, key);
-    let out = 0 < lookup::outs(s, home.unit / 4);
-    if out {
+    if home.out {
         return 4;
     }
     let missing = home.fill <= home.rank;
@@ -252,12 +264,12 @@ fn out_number(s: &[u8], ok: bool, unit: u32) -> u8
 pub fn teach(s: &mut [u8], key: u32, body: &[u8]) -> u8
     ensures { λ r. ⌜ outcome (plain r) (now (s .exit)) ≡ perform (now (s .entry)) (Call.teach key (now (body .entry))) ⌝ }
 {
-    let ok = soundness::is_sound(s);
-    let number = teach_number(s, ok, key, body);
+    let survey = soundness::survey_of(s);
+    let home = home_of(s, survey, key);
+    let number = teach_number(s, survey.sound, home, key, body);
     if number != 0 {
         return number;
     }
-    let home = home_of(s, key);
     let slot = slot_of(key, body);
     let table = field::table();
     write_slot(s, home.unit, home.fill, &slot, &table);
@@ -268,12 +280,12 @@ pub fn teach(s: &mut [u8], key: u32, body: &[u8]) -> u8
 pub fn correct(s: &mut [u8], key: u32, body: &[u8]) -> u8
     ensures { λ r. ⌜ outcome (plain r) (now (s .exit)) ≡ perform (now (s .entry)) (Call.correct key (now (body .entry))) ⌝ }
 {
-    let ok = soundness::is_sound(s);
-    let number = correct_number(s, ok, key, body);
+    let survey = soundness::survey_of(s);
+    let home = home_of(s, survey, key);
+    let number = correct_number(s, survey.sound, home, key, body);
     if number != 0 {
         return number;
     }
-    let home = home_of(s, key);
     let slot = slot_of(key, body);
     let table = field::table();
     write_slot(s, home.unit, home.rank, &slot, &table);
@@ -284,12 +296,12 @@ pub fn correct(s: &mut [u8], key: u32, body: &[u8]) -> u8
 pub fn erase(s: &mut [u8], key: u32) -> u8
     ensures { λ r. ⌜ outcome (plain r) (now (s .exit)) ≡ perform (now (s .entry)) (Call.erase key) ⌝ }
 {
-    let ok = soundness::is_sound(s);
-    let number = erase_number(s, ok, key);
+    let survey = soundness::survey_of(s);
+    let home = home_of(s, survey, key);
+    let number = erase_number(s, survey.sound, home, key);
     if number != 0 {
         return number;
     }
-    let home = home_of(s, key);
     let table = field::table();
     erase_at(s, home.unit, home.rank, home.fill - 1, &table);
     0

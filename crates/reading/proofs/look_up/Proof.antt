@@ -4,7 +4,9 @@ use native.Mathlib.Omega.{arith}
 use borrow.Author.Needs.{needs}
 use borrow.Author.Tests.{not-true, not-false}
 use Rattle.lookup.specs.Groups.{recoverable-known}
-use Rattle.reading.proofs.Verdicts.{refusal, home-is, no-key, no-room, unsound, lost, absent, present, safe-unit}
+use Rattle.soundness.specs.Survey.{found-sound}
+use Rattle.lookup.specs.Sized.{sound-sized}
+use Rattle.reading.proofs.Verdicts.{refusal, home-is, no-key, no-room, unsound, lost, absent, present, safe-unit, safe-fill}
 use Rattle.reading.proofs.look_up.Statement.{statement}
 use Rattle.reading.proofs.look_up.Tie as tie
 
@@ -19,86 +21,93 @@ returns-2 c =
 returns-3 : tie.Need-returns-3
 returns-3 c =
     let good = c .before in
-    let room = good .before in
+    let room = good .before .before in
     refusal 0 (c .refused3 .ensures) (unsound _ _ _ _ (room .before .if1 .left) (room .if2 .left) (not-true _ (good .if3 .taken)))
 
 shared-slice-read-unit-of : tie.Need-shared-slice-read-unit-of
 shared-slice-read-unit-of c =
     let good = c .before in
-    omega (arith, good .before .before .before .before .pre (not-false _ (good .if3 .left)) .long)
+    omega (arith, sound-sized (found-sound (good .before .before .before .before .before .pre) (not-false _ (good .if3 .left))) .long)
 
 unit-of-requires : tie.Need-unit-of-requires
 unit-of-requires c κs =
     let good = c .before in
-    good .before .before .before .before .pre (not-false _ (good .if3 .left)) .unit
+    sound-sized (found-sound (good .before .before .before .before .before .pre) (not-false _ (good .if3 .left))) .unit
 
 gone-requires : tie.Need-gone-requires
 gone-requires c κs =
     let good = c .before .before in
-    let sized = good .before .before .before .before .pre (not-false _ (good .if3 .left)) in
-    (sized, omega (arith, c .unit-of .ensures .1, sized .units))
+    let store = sound-sized (found-sound (good .before .before .before .before .before .pre) (not-false _ (good .if3 .left))) in
+    (store, omega (arith, c .unit-of .ensures .1, store .units))
 
 returns-4 : tie.Need-returns-4
 returns-4 c =
     let gone = c .before .before in
     let unit = gone .before in
     let good = unit .before .before in
-    let room = good .before in
+    let room = good .before .before in
     let start = room .before .before .before in
     refusal 7 (c .refused4 .ensures)
     (lost (start .args .s .now) _ _ _ (room .before .if1 .left) (room .if2 .left) (not-false _ (good .if3 .left)) _ (home-is _ _ _ (unit .unit-of .ensures .0)) (sym (gone .gone .ensures) ∙ c .before .if4 .taken))
 
-listed-fill-requires : tie.Need-listed-fill-requires
-listed-fill-requires c κs =
-    let gone = c .before in
-    let unit = gone .before in
+array-read-n : tie.Need-array-read-n
+array-read-n c =
+    let unit = c .before .before .before .before in
     let good = unit .before .before in
-    let sized = good .before .before .before .before .pre (not-false _ (good .if3 .left)) in
-    recoverable-known (safe-unit sized (omega (arith, unit .unit-of .ensures .1, sized .units)) (sym (gone .gone .ensures) ∙ c .if4 .left))
+    omega (arith, unit .unit-of .ensures .1, sound-sized (found-sound (good .before .before .before .before .before .pre) (not-false _ (good .if3 .left))) .units)
 
 listed-rank-requires : tie.Need-listed-rank-requires
 listed-rank-requires c κs =
-    let gone = c .before .before in
-    let unit = gone .before in
+    let safe = c .before .before in
+    let unit = safe .before .before in
     let good = unit .before .before in
-    let sized = good .before .before .before .before .pre (not-false _ (good .if3 .left)) in
-    let known = recoverable-known (safe-unit sized (omega (arith, unit .unit-of .ensures .1, sized .units)) (sym (gone .gone .ensures) ∙ c .before .if4 .left)) in
-    (known, c .listed-fill .ensures .0, c .listed-fill .ensures .1)
+    let start = good .before .before .before .before .before in
+    let ok = not-false _ (good .if3 .left) in
+    let store = sound-sized (found-sound (start .pre) ok) in
+    let there = safe-unit store (omega (arith, unit .unit-of .ensures .1, store .units)) (sym (safe .before .gone .ensures) ∙ safe .if4 .left) in
+    let fill = safe-fill (start .pre) ok there (c .wide .ensures .0) in
+    (recoverable-known there, fill .0, fill .1)
 
 returns-5 : tie.Need-returns-5
 returns-5 c =
     let found = c .before .before in
-    let fill = found .before in
-    let safe = fill .before in
+    let safe = found .before .before .before in
     let unit = safe .before .before in
     let good = unit .before .before in
-    let room = good .before in
+    let room = good .before .before in
     let start = room .before .before .before in
+    let ok = not-false _ (good .if3 .left) in
+    let store = sound-sized (found-sound (start .pre) ok) in
+    let safe-one = sym (safe .before .gone .ensures) ∙ safe .if4 .left in
+    let there = safe-unit store (omega (arith, unit .unit-of .ensures .1, store .units)) safe-one in
+    let fill = safe-fill (start .pre) ok there (found .before .wide .ensures .0) in
     refusal 5 (c .refused5 .ensures)
-    (absent (start .args .s .now) _ _ _ (room .before .if1 .left) (room .if2 .left) (not-false _ (good .if3 .left)) _ (home-is _ _ _ (unit .unit-of .ensures .0)) (sym (safe .before .gone .ensures) ∙ safe .if4 .left)
-    (rw (← fill .listed-fill .ensures .0, ← found .listed-rank .ensures .0) (c .before .if5 .taken)))
+    (absent (start .args .s .now) _ _ _ (room .before .if1 .left) (room .if2 .left) ok _ (home-is _ _ _ (unit .unit-of .ensures .0)) safe-one
+    (rw (← fill .0, ← found .listed-rank .ensures .0) (c .before .if5 .taken)))
 
 returns-6 : tie.Need-returns-6
 returns-6 c =
     let found = c .before in
-    let fill = found .before in
-    let safe = fill .before in
+    let safe = found .before .before .before in
     let unit = safe .before .before in
     let good = unit .before .before in
-    let room = good .before in
+    let room = good .before .before in
     let start = room .before .before .before in
-    let sized = start .pre (not-false _ (good .if3 .left)) in
+    let ok = not-false _ (good .if3 .left) in
+    let store = sound-sized (found-sound (start .pre) ok) in
     let safe-one = sym (safe .before .gone .ensures) ∙ safe .if4 .left in
+    let there = safe-unit store (omega (arith, unit .unit-of .ensures .1, store .units)) safe-one in
+    let fill = safe-fill (start .pre) ok there (found .before .wide .ensures .0) in
     let home = home-is (start .args .s .now) (start .args .key) (unit .unit-of .result) (unit .unit-of .ensures .0) in
-    let listed = rw (fill .listed-fill .ensures .0) at (c .if5 .left) in
+    let listed = rw (fill .0) at (c .if5 .left) in
     record {
-      given = present (start .args .s .now) _ _ _ (room .before .if1 .left) (room .if2 .left) (not-false _ (good .if3 .left)) _ home safe-one (rw (found .listed-rank .ensures .0) at listed);
+      given = present (start .args .s .now) _ _ _ (room .before .if1 .left) (room .if2 .left) ok _ home safe-one (rw (found .listed-rank .ensures .0) at listed);
       placed = λ z. record {
-        there = safe-unit sized (omega (arith, unit .unit-of .ensures .1, sized .units)) safe-one;
+        there = there;
         home = home;
         found = found .listed-rank .ensures .0;
         listed = listed;
-        small = omega (arith, c .if5 .left, fill .listed-fill .ensures .1);
+        small = omega (arith, c .if5 .left, fill .1);
       };
       room = λ z. room .if2 .left;
     }
@@ -118,7 +127,8 @@ look-up-spec =
     gone-requires
     (λ c κs. search needs)
     returns-4
-    listed-fill-requires
+    (λ c κs. search needs)
+    array-read-n
     listed-rank-requires
     (λ c κs. search needs)
     returns-5

@@ -2,14 +2,13 @@
 use mathlib.Core.Path.{refl, sym, _∙_}
 use native.Mathlib.Omega.{arith}
 use borrow.Author.Needs.{needs}
-use Rattle.lookup.specs.Sized.{sound-sized}
 use Rattle.reading.specs.Rows.{read-rows}
 use Rattle.reading.proofs.Answers.{read-refused, read-granted, body-is}
 use Rattle.reading.proofs.read.Statement.{statement}
 use Rattle.reading.proofs.read.Tie as tie
 
 look-up-requires : tie.Need-look-up-requires
-look-up-requires c κs = λ e. sound-sized (sym (c .is-sound .ensures) ∙ e)
+look-up-requires c κs = c .survey-of .ensures
 
 returns : tie.Need-returns
 returns c =
@@ -17,7 +16,7 @@ returns c =
     let start = look .before .before .before .before in
     let s = start .args .s .now in
     let out = start .args .out .now in
-    read-refused s (start .args .key) out (look .look-up .result .number) (look .look-up .ensures .given ∙ read-rows s _ _ _ out (look .before .is-sound .ensures) refl) (c .if1 .taken)
+    read-refused s (start .args .key) out (look .look-up .result .number) (look .look-up .ensures .given ∙ read-rows s _ _ _ out (look .before .survey-of .ensures .tested) refl) (c .if1 .taken)
 
 copy-body-requires : tie.Need-copy-body-requires
 copy-body-requires c κs =
@@ -37,7 +36,7 @@ returns-2 c =
     let key = start .args .key in
     let placed = look .look-up .ensures .placed (test .if1 .left) in
     let body = body-is s key (look .look-up .result .unit) (look .look-up .result .rank) _ (placed .home) (placed .found) (copied .copy-body .ensures) in
-    read-granted s key out _ (sym (test .if1 .left) ∙ look .look-up .ensures .given ∙ read-rows s _ _ _ out (look .before .is-sound .ensures) refl) body (omega arith)
+    read-granted s key out _ (sym (test .if1 .left) ∙ look .look-up .ensures .given ∙ read-rows s _ _ _ out (look .before .survey-of .ensures .tested) refl) body (omega arith)
 
 pub read-spec : {M : Type 1} → statement M
 read-spec =

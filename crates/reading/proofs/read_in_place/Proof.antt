@@ -9,7 +9,7 @@ use Rattle.buffer.specs.ByteLaws.{length-zeros}
 use Rattle.group.specs.Widths.{bodyBytes}
 use Rattle.model.specs.Layout.{slotAt}
 use Rattle.model.specs.Perform.{placeIn}
-use Rattle.lookup.specs.Sized.{sound-sized, slot-fits}
+use Rattle.lookup.specs.Sized.{slot-fits}
 use Rattle.lookup.specs.States.{state-byte}
 use Rattle.reading.specs.Rows.{read-rows}
 use Rattle.reading.proofs.Answers.{nowhere, out-unit, stands, part-empty, part-body, lent-part}
@@ -17,7 +17,7 @@ use Rattle.reading.proofs.read_in_place.Statement.{statement}
 use Rattle.reading.proofs.read_in_place.Tie as tie
 
 look-up-requires : tie.Need-look-up-requires
-look-up-requires c κs = λ e. sound-sized (sym (c .is-sound .ensures) ∙ e)
+look-up-requires c κs = c .survey-of .ensures
 
 returns : tie.Need-returns
 returns c =
@@ -26,7 +26,7 @@ returns c =
     let start = look .before .before .before in
     let s = start .args .s .now in
     let key = start .args .key in
-    let number = look .look-up .ensures .given ∙ read-rows s _ _ _ (zeros bodyBytes) (look .before .is-sound .ensures) (sym (length-zeros bodyBytes)) in
+    let number = look .look-up .ensures .given ∙ read-rows s _ _ _ (zeros bodyBytes) (look .before .survey-of .ensures .tested) (sym (length-zeros bodyBytes)) in
     let place = part-empty s (placeIn s key) (nowhere s key (look .look-up .result .number) number (test .if1 .taken)) in
     (lent-part s key [] place, place)
 
@@ -67,7 +67,7 @@ returns-3 c =
     let unit = look .look-up .result .unit in
     let rank = look .look-up .result .rank in
     let placed = look .look-up .ensures .placed (test .if1 .left) in
-    let number = sym (test .if1 .left) ∙ look .look-up .ensures .given ∙ read-rows s _ _ _ (zeros bodyBytes) (look .before .is-sound .ensures) (sym (length-zeros bodyBytes)) in
+    let number = sym (test .if1 .left) ∙ look .look-up .ensures .given ∙ read-rows s _ _ _ (zeros bodyBytes) (look .before .survey-of .ensures .tested) (sym (length-zeros bodyBytes)) in
     let serves : (byte s (8 + unit) ≡ 2 → ⊥) = λ h. out .if2 .left (out .before .state .ensures ∙ sym (state-byte s unit) ∙ h) in
     let place = part-body s (placeIn s key) (slotAt (byte s 5) unit rank) (at .slot-at .result) (stands s key unit rank number (placed .home) (placed .found) serves) (at .slot-at .ensures .0) in
     (lent-part s key _ place, place)

@@ -9,63 +9,66 @@ use Rattle.buffer.specs.Table.{tab}
 use Rattle.buffer.specs.LoopWrites.{Appending, appending-start, appending-turn, appending-end}
 use Rattle.model.specs.Layout.{view}
 use Rattle.model.specs.Reads.{wholeSlot}
-use Rattle.lookup.specs.Groups.{whole-unit, recoverable-known}
+use Rattle.lookup.specs.Keys.{listed-fill-small}
+use Rattle.lookup.specs.Groups.{whole-unit}
 use Rattle.lookup.proofs.Lent.{length-lent, put-lent}
-use Rattle.reading.proofs.Lists.{records, records-long, records-fit, listing-is}
+use Rattle.reading.proofs.Lists.{fill-at, records, records-long, records-fit, listing-is}
 use Rattle.reading.proofs.write_records.Statement.{statement}
 use Rattle.reading.proofs.write_records.Tie as tie
 
 abbrev Inv-loop : tie.InvT-loop
-Inv-loop s out₀ table at₀ u₀ out at u = Appending (records s) 16 out₀ out u at
+Inv-loop s out₀ table fills at₀ u₀ out at u = Appending (records s) 16 out₀ out u at
 
 abbrev μ-loop : tie.MeasureT-loop
-μ-loop s out₀ table at₀ u₀ out at u = 16 - u
-
-listed-fill-requires : tie.Need-listed-fill-requires Inv-loop μ-loop
-listed-fill-requires c κs = recoverable-known (whole-unit (c .before .before .before .before .pre .0) (c .before .loop .u) (c .loop-test .taken))
+μ-loop s out₀ table fills at₀ u₀ out at u = 16 - u
 
 -- the next unit's records fit behind those that are written
 add-end : tie.Need-add-end Inv-loop μ-loop
 add-end c =
-    let fill = c .before in
-    let l = fill .before .before in
+    let read = c .before in
+    let l = read .before .before in
     let start = l .before .before .before in
-    omega (arith, l .loop .inv .place, records-fit (start .pre .0) (l .loop .u) (fill .listed-fill .result) (length (start .args .out .now)) (fill .before .loop-test .taken) (fill .listed-fill .ensures .0) (start .pre .1))
+    let fill = fill-at (start .pre .1) (read .before .loop-test .taken) (read .wide .ensures .0) in
+    omega (arith, l .loop .inv .place, c .wide2 .ensures .0, records-fit (start .pre .0) (l .loop .u) _ (length (start .args .out .now)) (read .before .loop-test .taken) fill (start .pre .2))
 
 part-copy-unit-end : tie.Need-part-copy-unit-end Inv-loop μ-loop
 part-copy-unit-end c =
-    let fill = c .before in
-    let l = fill .before .before in
+    let read = c .before in
+    let l = read .before .before in
     let start = l .before .before .before in
-    omega (arith, l .loop .inv .place, l .loop .inv .long, records-fit (start .pre .0) (l .loop .u) (fill .listed-fill .result) (length (start .args .out .now)) (fill .before .loop-test .taken) (fill .listed-fill .ensures .0) (start .pre .1))
+    let fill = fill-at (start .pre .1) (read .before .loop-test .taken) (read .wide .ensures .0) in
+    omega (arith, l .loop .inv .place, l .loop .inv .long, c .wide2 .ensures .0, records-fit (start .pre .0) (l .loop .u) _ (length (start .args .out .now)) (read .before .loop-test .taken) fill (start .pre .2))
 
 copy-unit-requires : tie.Need-copy-unit-requires Inv-loop μ-loop
 copy-unit-requires c κs =
     let wide = c .before in
-    let fill = wide .before in
-    let l = fill .before .before in
+    let read = wide .before in
+    let l = read .before .before in
     let start = l .before .before .before in
     let p = start .pre in
-    let fits = records-fit (p .0) (l .loop .u) (fill .listed-fill .result) (length (start .args .out .now)) (fill .before .loop-test .taken) (fill .listed-fill .ensures .0) (p .1) in
-    let long = length-lent (l .loop .out) (l .loop .at) (20 * wide .wide .result) (omega (arith, l .loop .inv .place, l .loop .inv .long)) in
-    (whole-unit (p .0) (l .loop .u) (fill .before .loop-test .taken), fill .listed-fill .ensures .1, long ∙ ap (λ (n : ℕ). 20 * n) (wide .wide .ensures .0), p .2)
+    let u = l .loop .u in
+    let fill = fill-at (p .1) (read .before .loop-test .taken) (read .wide .ensures .0) in
+    let fits = records-fit (p .0) u _ (length (start .args .out .now)) (read .before .loop-test .taken) fill (p .2) in
+    let long = length-lent (l .loop .out) (l .loop .at) (20 * wide .wide2 .result) (omega (arith, l .loop .inv .place, l .loop .inv .long, wide .wide2 .ensures .0)) in
+    (whole-unit (p .0) u (read .before .loop-test .taken), rw fill (listed-fill-small (start .args .s .now) u), long ∙ ap (λ (n : ℕ). 20 * n) (wide .wide2 .ensures .0), p .3)
 
 loop-again : tie.Need-loop-again Inv-loop μ-loop
 loop-again c =
     let copied = c .before .before in
     let wide = copied .before .before in
-    let fill = wide .before in
-    let l = fill .before .before in
+    let read = wide .before in
+    let l = read .before .before in
     let start = l .before .before .before in
     let p = start .pre in
     let s = start .args .s .now in
     let u = l .loop .u in
     let o = l .loop .out in
     let at = l .loop .at in
-    let w : ℕ = 20 * wide .wide .result in
-    let fits = records-fit (p .0) u (fill .listed-fill .result) (length (start .args .out .now)) (fill .before .loop-test .taken) (fill .listed-fill .ensures .0) (p .1) in
-    let here : copied .copy-unit .last .1 .1 .1 .0 ≡ records s u = copied .copy-unit .ensures ∙ ap (λ (n : ℕ). tab n (wholeSlot (view s) u)) (fill .listed-fill .ensures .0) in
-    appending-turn w (l .loop .inv) (fill .before .loop-test .taken) (omega (arith, records-long (p .0) u (fill .before .loop-test .taken))) (omega (arith, l .loop .inv .place, l .loop .inv .long)) (put-lent o _ at w ∙ ap (λ x. splice at w x o) here)
+    let w : ℕ = 20 * wide .wide2 .result in
+    let fill = fill-at (p .1) (read .before .loop-test .taken) (read .wide .ensures .0) in
+    let fits = records-fit (p .0) u _ (length (start .args .out .now)) (read .before .loop-test .taken) fill (p .2) in
+    let here : copied .copy-unit .last .1 .1 .1 .0 ≡ records s u = copied .copy-unit .ensures ∙ ap (λ (n : ℕ). tab n (wholeSlot (view s) u)) fill in
+    appending-turn w (l .loop .inv) (read .before .loop-test .taken) (omega (arith, wide .wide2 .ensures .0, fill, records-long (p .0) u (read .before .loop-test .taken))) (omega (arith, l .loop .inv .place, l .loop .inv .long, wide .wide2 .ensures .0)) (put-lent o _ at w ∙ ap (λ x. splice at w x o) here)
 
 returns : tie.Need-returns Inv-loop μ-loop
 returns c =
@@ -80,7 +83,8 @@ write-records-spec =
     Inv-loop
     μ-loop
     (λ c. appending-start)
-    listed-fill-requires
+    (λ c κs. search needs)
+    (λ c. search needs)
     (λ c κs. search needs)
     (λ c. search needs)
     add-end

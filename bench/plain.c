@@ -1,0 +1,179 @@
+/*
+ * The soundness test written plainly: clause by clause, each key compared with all before it in its
+ * unit, no tables and no words wider than a key. The bench runs it beside the library's.
+ */
+#include "plain.h"
+
+#include <string.h>
+
+#define UNITS 16u
+#define GROUPS 4u
+#define CHECKS 3u /* check units of a group */
+#define HEADER 36u
+#define SLOT 20u
+#define CHECK_RECORD 32u
+
+enum state { NOT_IN_PLACE = 0, IN_SERVICE = 1, OUT = 2 };
+
+static uint32_t word(const uint8_t *at)
+{
+    return (uint32_t)at[0] << 24 | (uint32_t)at[1] << 16 | (uint32_t)at[2] << 8 | at[3];
+}
+
+static int is_zero(const uint8_t *at, size_t n)
+{
+    for (size_t i = 0; i < n; i++)
+        if (at[i] != 0)
+            return 0;
+    return 1;
+}
+
+static uint8_t data_state(const uint8_t *store, uint32_t unit)
+{
+    return store[8 + unit];
+}
+
+static uint8_t check_state(const uint8_t *store, uint32_t check)
+{
+    return store[24 + check];
+}
+
+static const uint8_t *slot_at(const uint8_t *store, uint32_t unit, uint32_t rank)
+{
+    return store + HEADER + (unit * store[5] + rank) * SLOT;
+}
+
+static const uint8_t *record_at(const uint8_t *store, uint32_t check, uint32_t rank)
+{
+    return store + HEADER + UNITS * SLOT * store[5] + (check * store[5] + rank) * CHECK_RECORD;
+}
+
+/* Ranges hold; the block is long enough. */
+static int ranges_hold(const uint8_t *store, size_t len)
+{
+    if (len < HEADER)
+        return 0;
+    uint32_t slots = store[5], units = store[6], level = store[7];
+    return store[0] == 1 && word(store + 1) == LHRS_LENGTH(slots) && 1 <= slots && slots <= 64
+           && 1 <= units && units <= UNITS && 1 <= level && level <= CHECKS
+           && LHRS_LENGTH(slots) <= len;
+}
+
+static int states_hold(const uint8_t *store)
+{
+    for (uint32_t unit = 0; unit < UNITS; unit++) {
+        uint8_t state = data_state(store, unit);
+        int in_place = state == IN_SERVICE || state == OUT;
+        if (unit < store[6] ? !in_place : state != NOT_IN_PLACE)
+            return 0;
+    }
+    for (uint32_t group = 0; group < GROUPS; group++) {
+        uint32_t count = 0;
+        for (uint32_t j = 0; j < CHECKS; j++) {
+            uint8_t state = check_state(store, CHECKS * group + j);
+            if (state > OUT || (state != NOT_IN_PLACE && count != j))
+                return 0;
+            count += state != NOT_IN_PLACE;
+        }
+        if (4 * group < store[6] ? count < 1 || store[7] < count : count != 0)
+            return 0;
+    }
+    return 1;
+}
+
+/* The first check unit in service of a group, or -1. */
+static int keeper(const uint8_t *store, uint32_t group)
+{
+    for (uint32_t j = 0; j < CHECKS; j++)
+        if (check_state(store, CHECKS * group + j) == IN_SERVICE)
+            return (int)(CHECKS * group + j);
+    return -1;
+}
+
+/* The key of a rank: its own, or for a unit that is out the one that a check unit lists. */
+static uint32_t key_at(const uint8_t *store, uint32_t unit, uint32_t rank)
+{
+    if (data_state(store, unit) == OUT)
+        return word(record_at(store, (uint32_t)keeper(store, unit / 4), rank) + 4 * (unit % 4));
+    return word(slot_at(store, unit, rank));
+}
+
+static uint32_t fill_of(const uint8_t *store, uint32_t unit)
+{
+    uint32_t rank = 0;
+    while (rank < store[5] && key_at(store, unit, rank) != 0)
+        rank++;
+    return rank;
+}
+
+/* The data unit of a key: linear hashing. */
+static uint32_t unit_of(uint32_t units, uint32_t key)
+{
+    uint32_t power = 1;
+    while (2 * power <= units)
+        power *= 2;
+    return key % (2 * power) < units ? key % (2 * power) : key % power;
+}
+
+/* Units out or not in place, and slots without a record, are zero. */
+static int zeros_hold(const uint8_t *store)
+{
+    uint32_t slots = store[5];
+    for (uint32_t unit = 0; unit < UNITS; unit++) {
+        uint32_t from = data_state(store, unit) == IN_SERVICE ? fill_of(store, unit) : 0;
+        if (!is_zero(slot_at(store, unit, from), (slots - from) * SLOT))
+            return 0;
+    }
+    for (uint32_t check = 0; check < GROUPS * CHECKS; check++)
+        if (check_state(store, check) != IN_SERVICE
+            && !is_zero(record_at(store, check, 0), slots * CHECK_RECORD))
+            return 0;
+    return 1;
+}
+
+/* The keys of a unit are dense, different, and in their own unit. */
+static int keys_hold(const uint8_t *store, uint32_t unit)
+{
+    uint32_t fill = fill_of(store, unit);
+    for (uint32_t rank = 0; rank < store[5]; rank++) {
+        uint32_t key = key_at(store, unit, rank);
+        if (rank >= fill) {
+            if (key != 0)
+                return 0;
+            continue;
+        }
+        if (unit_of(store[6], key) != unit)
+            return 0;
+        for (uint32_t before = 0; before < rank; before++)
+            if (key_at(store, unit, before) == key)
+                return 0;
+    }
+    return 1;
+}
+
+/* A check unit in service lists the keys of its group. */
+static int lists_hold(const uint8_t *store, uint32_t check)
+{
+    for (uint32_t rank = 0; rank < store[5]; rank++)
+        for (uint32_t place = 0; place < 4; place++)
+            if (word(record_at(store, check, rank) + 4 * place)
+                != key_at(store, check / CHECKS * 4 + place, rank))
+                return 0;
+    return 1;
+}
+
+int plain_sound(const uint8_t *store, size_t len)
+{
+    if (!ranges_hold(store, len) || !states_hold(store) || !zeros_hold(store))
+        return 0;
+    for (uint32_t unit = 0; unit < UNITS; unit++) {
+        uint8_t state = data_state(store, unit);
+        int known = state == IN_SERVICE || (state == OUT && keeper(store, unit / 4) >= 0);
+        if (known && !keys_hold(store, unit))
+            return 0;
+    }
+    for (uint32_t check = 0; check < GROUPS * CHECKS; check++)
+        if (check_state(store, check) == IN_SERVICE && !lists_hold(store, check))
+            return 0;
+    return 1;
+}

@@ -1,0 +1,109 @@
+-- `soundness::survey_of` meets its contract. Assumes nothing.
+use mathlib.Core.Path.{_≡_, sym, _∙_}
+use mathlib.Core.Bool.{false}
+use native.Mathlib.Omega.{arith}
+use borrow.Author.Needs.{needs}
+use borrow.Author.Tests.{not-true, not-false}
+use Rattle.buffer.specs.TestLaws.{is-no, is-yes}
+use Rattle.soundness.specs.Pieces.{pieces}
+use Rattle.soundness.proofs.Theorem.{ranged}
+use Rattle.soundness.proofs.Surveys.{not-sound, surveyed}
+use Rattle.soundness.proofs.survey_of.Statement.{statement}
+use Rattle.soundness.proofs.survey_of.Tie as tie
+
+returns : tie.Need-returns
+unfolding pieces
+returns c =
+    let test = c .before in
+    not-sound (c .unsound .ensures .0) (c .unsound .ensures .1) (rw (is-no (test .before .ranges-hold .ensures) (test .if1 .taken)))
+
+units-placed-requires : tie.Need-units-placed-requires
+units-placed-requires c κs = ranged _ (is-yes (c .before .ranges-hold .ensures) (c .if1 .left))
+
+returns-2 : tie.Need-returns-2
+unfolding pieces
+returns-2 c =
+    let states = c .before .before in
+    let range = is-yes (states .before .before .ranges-hold .ensures) (states .before .if1 .left) in
+    not-sound (c .unsound2 .ensures .0) (c .unsound2 .ensures .1) (rw (range, is-no (states .units-placed .ensures) (c .before .if2 .taken)))
+
+groups-placed-requires : tie.Need-groups-placed-requires
+groups-placed-requires c κs =
+    let range = c .before .before in
+    let h = ranged _ (is-yes (range .before .ranges-hold .ensures) (range .if1 .left)) in
+    omega arith
+
+returns-3 : tie.Need-returns-3
+unfolding pieces
+returns-3 c =
+    let groups = c .before .before in
+    let states = groups .before .before in
+    let range = is-yes (states .before .before .ranges-hold .ensures) (states .before .if1 .left) in
+    not-sound (c .unsound3 .ensures .0) (c .unsound3 .ensures .1)
+    (rw (range, is-yes (states .units-placed .ensures) (groups .before .if2 .left), is-no (groups .groups-placed .ensures) (c .before .if3 .taken)))
+
+count-units-requires : tie.Need-count-units-requires
+count-units-requires c κs =
+    let range = c .before .before .before .before in
+    ranged _ (is-yes (range .before .ranges-hold .ensures) (range .if1 .left))
+
+returns-4 : tie.Need-returns-4
+unfolding pieces
+returns-4 c =
+    let units = c .before .before .before in
+    let groups = units .before .before in
+    let states = groups .before .before in
+    let range = is-yes (states .before .before .ranges-hold .ensures) (states .before .if1 .left) in
+    not-sound (c .unsound4 .ensures .0) (c .unsound4 .ensures .1)
+    (rw (range, is-yes (states .units-placed .ensures) (groups .before .if2 .left), is-yes (groups .groups-placed .ensures) (units .before .if3 .left), is-no (units .count-units .ensures .tested) (c .before .if4 .taken)))
+
+checks-good-requires : tie.Need-checks-good-requires
+checks-good-requires c κs =
+    let range = c .before .before .before .before .before .before .before in
+    ranged _ (is-yes (range .before .ranges-hold .ensures) (range .if1 .left))
+
+returns-5 : tie.Need-returns-5
+unfolding pieces
+returns-5 c =
+    let checks = c .before .before in
+    let units = checks .before .before .before in
+    let groups = units .before .before in
+    let states = groups .before .before in
+    let range = is-yes (states .before .before .ranges-hold .ensures) (states .before .if1 .left) in
+    not-sound (c .unsound5 .ensures .0) (c .unsound5 .ensures .1)
+    (rw (range, is-yes (states .units-placed .ensures) (groups .before .if2 .left), is-yes (groups .groups-placed .ensures) (units .before .if3 .left), is-yes (units .count-units .ensures .tested) (checks .before .if4 .left), is-no (checks .checks-good .ensures) (c .before .if5 .taken)))
+
+returns-6 : tie.Need-returns-6
+returns-6 c =
+    let checks = c .before in
+    let units = checks .before .before .before in
+    let groups = units .before .before in
+    let states = groups .before .before in
+    surveyed
+    (is-yes (states .before .before .ranges-hold .ensures) (states .before .if1 .left))
+    (is-yes (states .units-placed .ensures) (groups .before .if2 .left))
+    (is-yes (groups .groups-placed .ensures) (units .before .if3 .left))
+    (units .count-units .ensures)
+    (not-false _ (checks .before .if4 .left))
+    (is-yes (checks .checks-good .ensures) (c .if5 .left))
+
+pub survey-of-spec : {M : Type 1} → statement M
+survey-of-spec =
+    tie.close
+    (tie.spec
+    (λ c κs. search needs)
+    (λ c κs. search needs)
+    returns
+    units-placed-requires
+    (λ c κs. search needs)
+    returns-2
+    groups-placed-requires
+    (λ c κs. search needs)
+    returns-3
+    count-units-requires
+    (λ c κs. search needs)
+    returns-4
+    checks-good-requires
+    (λ c κs. search needs)
+    returns-5
+    returns-6)

@@ -1,0 +1,12 @@
+-- `soundness::unsound` meets its contract. Assumes nothing.
+use mathlib.Core.Path.{refl}
+use Rattle.buffer.specs.Range.{entries}
+use Rattle.soundness.proofs.unsound.Statement.{statement}
+use Rattle.soundness.proofs.unsound.Tie as tie
+
+returns : tie.Need-returns
+unfolding entries
+returns c = (refl, refl)
+
+pub unsound-spec : {M : Type 1} → statement M
+unsound-spec = tie.close (tie.spec returns)

@@ -1,0 +1,69 @@
+-- What the soundness test hands on of a store. Assumes nothing.
+use Prim.Native.Nat.{ℕ, _+_, _*_, _/_, _≤_, _<_}
+use mathlib.Core.Path.{_≡_, refl, sym, ap, _∙_}
+use mathlib.Core.List.{List}
+use mathlib.Core.Bool.{Bool, true, false, _&&_}
+use native.Mathlib.Omega.{arith}
+use lib.Dec.{eqb}
+use lib.ListN.{getD}
+use Rattle.buffer.specs.Choice.{pick}
+use Rattle.buffer.specs.ChoiceLaws.{by-pick, pick-true, pick-false}
+use Rattle.buffer.specs.TestLaws.{by-both}
+use Rattle.buffer.specs.Range.{all, entries}
+use Rattle.buffer.specs.RangeLaws.{getD-entries, first-le}
+use Rattle.buffer.specs.Bytes.{byte}
+use Rattle.model.specs.Layout.{Store, view, keyOf}
+use Rattle.model.specs.Reads.{keeper, listedKey, listedFill}
+use Rattle.model.specs.Sound.{sound}
+use Rattle.soundness.specs.Pieces.{unitGood, unitFill}
+
+-- the keys of a unit are lost: it is out, and no check unit of its group is in service
+unfoldable pub keysLost : Store → ℕ → Bool
+keysLost v u = eqb (v .dstate u) 2 && eqb (keeper v (u / 4)) (3 * (u / 4) + 3)
+
+-- how many keys are listed for a unit; none where they are lost
+unfoldable pub knownFill : Store → ℕ → ℕ
+knownFill v u = pick (keysLost v u) 0 (listedFill v u)
+
+-- the data units are good, and the keys of each are counted; where one is not good, nothing is
+pub record Counted (s : List ℕ) (good : Bool) (fills : List ℕ) : Type 0 where
+  pub tested : good ≡ all 16 (unitGood s)
+  pub filled : fills ≡ entries 16 (λ u. pick good (unitFill s u) 0)
+
+-- the store is sound, and the keys that are listed for each data unit are counted; where it is not sound, nothing is
+pub record Surveyed (s : List ℕ) (ok : Bool) (fills : List ℕ) : Type 0 where
+  pub tested : ok ≡ sound s
+  pub filled : fills ≡ entries 16 (λ u. pick ok (knownFill (view s) u) 0)
+
+pub found-sound : {s : List ℕ} {ok : Bool} {fills : List ℕ} → Surveyed s ok fills → ok ≡ true → sound s ≡ true
+found-sound g e = sym (g .tested) ∙ e
+
+-- in a sound store, a unit whose keys are listed
+listed-kept : (s : List ℕ) (u : ℕ) → (byte s (8 + u) ≡ 2 → keeper (view s) (u / 4) < 3 * (u / 4) + 3) → keysLost (view s) u ≡ false
+unfolding keysLost view
+listed-kept s u h =
+    by-both
+    (λ t. t ≡ false)
+    (byte s (8 + u))
+    2
+    (keeper (view s) (u / 4))
+    (3 * (u / 4) + 3)
+    (λ e k. let l = h e in absurd (omega arith))
+    (λ _. refl)
+
+pub fill-listed : {s : List ℕ} {ok : Bool} {fills : List ℕ} → Surveyed s ok fills → ok ≡ true → (u : ℕ) → u < 16
+    → (byte s (8 + u) ≡ 2 → keeper (view s) (u / 4) < 3 * (u / 4) + 3) → getD fills u 0 ≡ listedFill (view s) u
+unfolding knownFill
+fill-listed {s} {ok} g e u l h =
+    ap (λ x. getD x u 0) (g .filled)
+    ∙ getD-entries 16 (λ u. pick ok (pick (keysLost (view s) u) 0 (listedFill (view s) u)) 0) u 0 l
+    ∙ pick-true e _ _
+    ∙ pick-false (listed-kept s u h) _ _
+
+-- and any unit: its ranks are enough for what is counted
+pub fill-most : {s : List ℕ} {ok : Bool} {fills : List ℕ} → Surveyed s ok fills → (u : ℕ) → u < 16 → getD fills u 0 ≤ byte s 5
+unfolding knownFill
+fill-most {s} {ok} g u l =
+    let listed : listedFill (view s) u ≤ byte s 5 = unfold listedFill view in first-le (byte s 5) (λ r. eqb (keyOf (listedKey (view s) u r)) 0) in
+    rw (g .filled, getD-entries 16 (λ u. pick ok (pick (keysLost (view s) u) 0 (listedFill (view s) u)) 0) u 0 l)
+    (by-pick (λ n. n ≤ byte s 5) ok _ 0 (λ _. by-pick (λ n. n ≤ byte s 5) (keysLost (view s) u) 0 (listedFill (view s) u) (λ _. omega arith) (λ _. listed)) (λ _. omega arith))
