@@ -7,10 +7,10 @@ use Rattle.splitting.proofs.making.make_group.Statement.{statement}
 use Rattle.splitting.proofs.making.make_group.Tie as tie
 
 abbrev Inv-loop : tie.InvT-loop
-Inv-loop s₀ g rows b r₀ s r = Making s₀ g s r
+Inv-loop s₀ g b r₀ s r = Making s₀ g s r
 
 abbrev μ-loop : tie.MeasureT-loop
-μ-loop s₀ g rows b r₀ s r = b - r
+μ-loop s₀ g b r₀ s r = b - r
 
 loop-holds : tie.Need-loop-holds Inv-loop μ-loop
 loop-holds c = let e = c .before .before in making-start (e .args .s .now) (e .args .g) (e .pre .0) (e .pre .1)
@@ -20,7 +20,7 @@ make-rank-requires c κs =
     let x = c .before in
     let l = x .before in
     let e = l .before .before .before in
-    (making-rank (e .args .s .now) (e .args .g) (e .pre .0) (e .pre .1) (l .loop .inv) (x .loop-test .taken), e .pre .2)
+    making-rank (e .args .s .now) (e .args .g) (e .pre .0) (e .pre .1) (l .loop .inv) (x .loop-test .taken)
 
 add-r : tie.Need-add-r Inv-loop μ-loop
 add-r c = omega (arith, c .before .before .before .before .before .before .slice-known2 .given 5)

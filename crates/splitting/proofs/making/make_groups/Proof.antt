@@ -15,7 +15,7 @@ make-group-requires-2 : tie.Need-make-group-requires-2
 make-group-requires-2 c κs =
     let k = c .before .before .before .before in
     let e = k .before .before .before in
-    (holds-long (holds-step (remade-change (inGroup (e .args .m / 4))) (holds-start (e .pre .0)) (k .make-group .ensures)), omega (arith, e .pre .2, e .pre .3), e .pre .4)
+    (holds-long (holds-step (remade-change (inGroup (e .args .m / 4))) (holds-start (e .pre .0)) (k .make-group .ensures)), omega (arith, e .pre .2, e .pre .3))
 
 returns : tie.Need-returns
 returns c =

@@ -1,16 +1,23 @@
 -- `splitting::parities::mix` meets its contract. Assumes nothing.
 use borrow.Author.Needs.{needs}
+use lib.Bits.{bitXor, xor-lt}
+use mathlib.Core.Path.{refl}
+use Rattle.splitting.proofs.ParitySums.{mixed}
 use Rattle.splitting.proofs.parities.mix.Statement.{statement}
 use Rattle.splitting.proofs.parities.mix.Tie as tie
 
 returns : tie.Need-returns
-returns c = rw (c .times4 .ensures, c .before .times3 .ensures, c .before .before .times2 .ensures, c .before .before .before .times .ensures)
+returns c =
+    let d2 = c .before in
+    let d1 = d2 .before in
+    let a = d1 .before .args in
+    rw (c .double3 .ensures, d2 .double2 .ensures, d1 .double .ensures)
+    (mixed (a .a) (a .b) (a .c) (a .d) (bitXor (a .a) (a .b)) (bitXor (a .b) (a .d)) (search needs) (xor-lt 8 (a .a) (a .b) (search needs) (search needs)) (xor-lt 8 (a .b) (a .d) (search needs) (search needs)) refl refl)
 
 pub mix-spec : {M : Type 1} → statement M
 mix-spec =
     tie.close
     (tie.spec
-    (λ c κs. search needs)
     (λ c κs. search needs)
     (λ c κs. search needs)
     (λ c κs. search needs)

@@ -1,0 +1,112 @@
+-- The bytes of the parities at the three check places, by doubling; pieces of one width written one behind the other. Assumes nothing.
+use Prim.Native.Nat.{ℕ, _+_, _*_, _≤_, _<_}
+use mathlib.Core.Path.{_≡_, refl, sym, ap, ap₂, _∙_}
+use mathlib.Core.List.{List, _++_, append-nil}
+use native.Mathlib.Omega.{arith}
+use lib.Bits.{bitXor, xor-comm}
+use lib.ListN.{length, drop-of-length-le}
+use Rattle.buffer.specs.Range.{entries}
+use Rattle.buffer.specs.RangeLaws.{below-four, entries-of}
+use Rattle.buffer.specs.Bytes.{byte}
+use Rattle.buffer.specs.Table.{tab}
+use Rattle.buffer.specs.TableLaws.{Wide, length-tab}
+use Rattle.buffer.specs.LoopWrites.{Filling, filling-end, Appending, appending-end}
+use Rattle.algebra.specs.Binary.{times, remainder, productIn}
+use Rattle.algebra.specs.Xor.{xor-assoc}
+use Rattle.field.specs.Gf16.{product}
+use Rattle.field.specs.Byte.{scale}
+use Rattle.field.specs.ByteLaws.{scale-add, add-scale, scale-one, scale-product}
+use Rattle.code.specs.Matrix.{matrix, entry}
+use Rattle.group.specs.Widths.{bodyBytes}
+use Rattle.group.specs.Body.{scaleBody}
+use Rattle.group.specs.BodyLaws.{length-scale, byte-scale}
+use Rattle.group.specs.Parity.{coefficient, parity}
+use Rattle.group.specs.ParityLaws.{byte-sum4, length-parity}
+use Rattle.group.specs.Rebuilding.{fourBodies}
+
+-- ---- pieces of w bytes, one behind the other
+module _ {f : ℕ → List ℕ} {n : ℕ} {o₀ o : List ℕ} {i at : ℕ} (g : Appending f n o₀ o i at) where
+  pub appended-at : (w : ℕ) → Wide n w f → at ≡ w * i
+  appended-at w h = g .place ∙ length-tab i w f (λ k l. h k (omega (arith, g .within)))
+
+  pub appended-all : n ≤ i → length o₀ ≡ length (tab n f) → o ≡ tab n f
+  appended-all l e = appending-end g l ∙ ap (λ x. tab n f ++ x) (drop-of-length-le o₀ {i = length (tab n f)} (omega arith)) ∙ append-nil (tab n f)
+
+-- ---- four bytes, each times its coefficient in check place 0
+last-two : (a b c : ℕ) → bitXor (bitXor a b) c ≡ bitXor (bitXor a c) b
+last-two a b c = xor-assoc a b c ∙ ap (bitXor a) (xor-comm b c) ∙ sym (xor-assoc a c b)
+
+-- v times s and w times u, doubled, and u added
+doubled : (v w s u : ℕ) → v < 16 → w < 16 → product 2 w < 16 → s < 256 → u < 256
+    → bitXor (scale 2 (bitXor (scale v s) (scale w u))) u ≡ bitXor (scale (product 2 v) s) (scale (bitXor (product 2 w) 1) u)
+doubled v w s u hv hw h hs hu =
+    ap (λ x. bitXor x u) (scale-add 2 (scale v s) (scale w u) (omega arith))
+    ∙ xor-assoc (scale 2 (scale v s)) (scale 2 (scale w u)) u
+    ∙ ap₂ bitXor (sym (scale-product 2 v s (omega arith) hv hs))
+    (ap₂ bitXor (sym (scale-product 2 w u (omega arith) hw hu)) (sym (scale-one u hu)) ∙ sym (add-scale (product 2 w) 1 u h (omega arith)))
+
+eight-seven : (s u : ℕ) → s < 256 → u < 256 → bitXor (scale 2 (bitXor (scale 2 (bitXor (scale 2 s) u)) u)) u ≡ bitXor (scale 8 s) (scale 7 u)
+unfolding productIn remainder times
+eight-seven s u hs hu =
+    ap (λ x. bitXor (scale 2 (bitXor (scale 2 (bitXor (scale 2 s) x)) u)) u) (sym (scale-one u hu))
+    ∙ ap (λ x. bitXor (scale 2 x) u) (doubled 2 1 s u (omega arith) (omega arith) (omega arith) hs hu)
+    ∙ doubled 4 3 s u (omega arith) (omega arith) (omega arith) hs hu
+
+pub mixed : (a b c d s u : ℕ) → c < 256 → s < 256 → u < 256 → s ≡ bitXor a b → u ≡ bitXor b d
+    → bitXor (bitXor (scale 2 (bitXor (scale 2 (bitXor (scale 2 s) u)) u)) u) c
+    ≡ bitXor (bitXor (bitXor (scale (coefficient 0 0) a) (scale (coefficient 1 0) b)) (scale (coefficient 2 0) c)) (scale (coefficient 3 0) d)
+unfolding coefficient entry matrix
+mixed a b c d s u hc hs hu es eu =
+    ap (λ x. bitXor x c) (eight-seven s u hs hu ∙ ap₂ (λ (x y : ℕ). bitXor (scale 8 x) (scale 7 y)) es eu ∙ ap₂ bitXor (scale-add 8 a b (omega arith)) (scale-add 7 b d (omega arith)))
+    ∙ ap (λ x. bitXor x c) (sym (xor-assoc (bitXor (scale 8 a) (scale 8 b)) (scale 7 b) (scale 7 d)) ∙ ap (λ x. bitXor x (scale 7 d)) (xor-assoc (scale 8 a) (scale 8 b) (scale 7 b)))
+    ∙ last-two (bitXor (scale 8 a) (bitXor (scale 8 b) (scale 7 b))) (scale 7 d) c
+    ∙ ap₂ (λ (x y : ℕ). bitXor (bitXor (bitXor (scale 8 a) x) y) (scale 7 d)) (sym (add-scale 8 7 b (omega arith) (omega arith))) (sym (scale-one c hc))
+
+-- ---- the parities of four bodies
+-- four bytes, each times its coefficient
+abbrev pub mixture : (ℕ → ℕ) → ℕ → ℕ → ℕ → ℕ → ℕ
+mixture w a b c d = bitXor (bitXor (bitXor (scale (w 0) a) (scale (w 1) b)) (scale (w 2) c)) (scale (w 3) d)
+
+module _ (a b c d : List ℕ) (la : length a ≡ bodyBytes) (lb : length b ≡ bodyBytes) (lc : length c ≡ bodyBytes) (ld : length d ≡ bodyBytes) where
+  four-long : (p : ℕ) → p < 4 → length (fourBodies a b c d p) ≡ bodyBytes
+  unfolding fourBodies
+  four-long = below-four (λ p. length (fourBodies a b c d p) ≡ bodyBytes) la lb lc ld
+
+  parity-byte : (j i : ℕ) → i < bodyBytes → byte (parity j (fourBodies a b c d)) i ≡ mixture (λ p. coefficient p j) (byte a i) (byte b i) (byte c i) (byte d i)
+  unfolding parity fourBodies
+  parity-byte j i l =
+      byte-sum4 bodyBytes (λ p. scaleBody (coefficient p j) (fourBodies a b c d p)) (λ p k. length-scale (coefficient p j) (fourBodies a b c d p) ∙ four-long p k) i
+      ∙ rw (
+        byte-scale (coefficient 0 j) a i (omega arith),
+        byte-scale (coefficient 1 j) b i (omega arith),
+        byte-scale (coefficient 2 j) c i (omega arith),
+        byte-scale (coefficient 3 j) d i (omega arith),
+      )
+
+  -- check places 1 and 2 have the coefficients of check place 0, with the places exchanged by pairs
+  module _ (i v : ℕ) (l : i < bodyBytes) where
+    pub place-zero : v ≡ mixture (λ p. coefficient p 0) (byte a i) (byte b i) (byte c i) (byte d i) → v ≡ byte (parity 0 (fourBodies a b c d)) i
+    place-zero e = e ∙ sym (parity-byte 0 i l)
+
+    pub place-one : v ≡ mixture (λ p. coefficient p 0) (byte b i) (byte a i) (byte d i) (byte c i) → v ≡ byte (parity 1 (fourBodies a b c d)) i
+    unfolding coefficient entry matrix
+    place-one e =
+        e
+        ∙ last-two (bitXor (scale 8 (byte b i)) (scale 15 (byte a i))) (scale 1 (byte d i)) (scale 7 (byte c i))
+        ∙ ap (λ x. bitXor (bitXor x (scale 7 (byte c i))) (scale 1 (byte d i))) (xor-comm (scale 8 (byte b i)) (scale 15 (byte a i)))
+        ∙ sym (parity-byte 1 i l)
+
+    pub place-two : v ≡ mixture (λ p. coefficient p 0) (byte c i) (byte d i) (byte a i) (byte b i) → v ≡ byte (parity 2 (fourBodies a b c d)) i
+    unfolding coefficient entry matrix
+    place-two e =
+        e
+        ∙ xor-assoc (bitXor (scale 8 (byte c i)) (scale 15 (byte d i))) (scale 1 (byte a i)) (scale 7 (byte b i))
+        ∙ xor-comm (bitXor (scale 8 (byte c i)) (scale 15 (byte d i))) (bitXor (scale 1 (byte a i)) (scale 7 (byte b i)))
+        ∙ sym (xor-assoc (bitXor (scale 1 (byte a i)) (scale 7 (byte b i))) (scale 8 (byte c i)) (scale 15 (byte d i)))
+        ∙ sym (parity-byte 2 i l)
+
+  pub parity-filled : (j : ℕ) {x₀ x : List ℕ} {i : ℕ} → Filling (byte (parity j (fourBodies a b c d))) x₀ x i → length x₀ ≡ bodyBytes → bodyBytes ≤ i → x ≡ parity j (fourBodies a b c d)
+  parity-filled j {x₀} {x} {i} g e h =
+      filling-end g (omega (arith, g .long))
+      ∙ ap (λ n. entries n (byte (parity j (fourBodies a b c d)))) e
+      ∙ sym (entries-of (parity j (fourBodies a b c d)) bodyBytes (byte (parity j (fourBodies a b c d))) (length-parity bodyBytes j (fourBodies a b c d) four-long) (λ k l. refl))
