@@ -3,7 +3,7 @@ use Prim.Native.Nat.{ℕ, _+_, _*_, _≤_, _<_}
 use mathlib.Core.Path.{_≡_, refl, sym, ap, ap₂, _∙_}
 use mathlib.Core.List.{List, _++_, append-nil}
 use native.Mathlib.Omega.{arith}
-use lib.Bits.{bitXor, xor-comm}
+use lib.Bits.{bitXor, xor-comm, xor-lt}
 use lib.ListN.{length, drop-of-length-le}
 use Rattle.buffer.specs.Range.{entries}
 use Rattle.buffer.specs.RangeLaws.{below-four, entries-of}
@@ -32,7 +32,10 @@ module _ {f : ℕ → List ℕ} {n : ℕ} {o₀ o : List ℕ} {i at : ℕ} (g : 
   pub appended-all : n ≤ i → length o₀ ≡ length (tab n f) → o ≡ tab n f
   appended-all l e = appending-end g l ∙ ap (λ x. tab n f ++ x) (drop-of-length-le o₀ {i = length (tab n f)} (omega arith)) ∙ append-nil (tab n f)
 
--- ---- four bytes, each times its coefficient in check place 0
+-- ---- four bytes, each times its coefficient
+abbrev pub mixture : (ℕ → ℕ) → ℕ → ℕ → ℕ → ℕ → ℕ
+mixture w a b c d = bitXor (bitXor (bitXor (scale (w 0) a) (scale (w 1) b)) (scale (w 2) c)) (scale (w 3) d)
+
 last-two : (a b c : ℕ) → bitXor (bitXor a b) c ≡ bitXor (bitXor a c) b
 last-two a b c = xor-assoc a b c ∙ ap (bitXor a) (xor-comm b c) ∙ sym (xor-assoc a c b)
 
@@ -45,6 +48,7 @@ doubled v w s u hv hw h hs hu =
     ∙ ap₂ bitXor (sym (scale-product 2 v s (omega arith) hv hs))
     (ap₂ bitXor (sym (scale-product 2 w u (omega arith) hw hu)) (sym (scale-one u hu)) ∙ sym (add-scale (product 2 w) 1 u h (omega arith)))
 
+-- 8 times s and 7 times u, by three doublings
 eight-seven : (s u : ℕ) → s < 256 → u < 256 → bitXor (scale 2 (bitXor (scale 2 (bitXor (scale 2 s) u)) u)) u ≡ bitXor (scale 8 s) (scale 7 u)
 unfolding productIn remainder times
 eight-seven s u hs hu =
@@ -52,21 +56,20 @@ eight-seven s u hs hu =
     ∙ ap (λ x. bitXor (scale 2 x) u) (doubled 2 1 s u (omega arith) (omega arith) (omega arith) hs hu)
     ∙ doubled 4 3 s u (omega arith) (omega arith) (omega arith) hs hu
 
-pub mixed : (a b c d s u : ℕ) → c < 256 → s < 256 → u < 256 → s ≡ bitXor a b → u ≡ bitXor b d
-    → bitXor (bitXor (scale 2 (bitXor (scale 2 (bitXor (scale 2 s) u)) u)) u) c
-    ≡ bitXor (bitXor (bitXor (scale (coefficient 0 0) a) (scale (coefficient 1 0) b)) (scale (coefficient 2 0) c)) (scale (coefficient 3 0) d)
+-- the coefficients of check place 0 are 8, F, 1 and 7, and F is 8 + 7
+pub mixed : (a b c d : ℕ) → a < 256 → b < 256 → c < 256 → d < 256
+    → bitXor (bitXor (scale 2 (bitXor (scale 2 (bitXor (scale 2 (bitXor a b)) (bitXor b d))) (bitXor b d))) (bitXor b d)) c ≡ mixture (λ p. coefficient p 0) a b c d
 unfolding coefficient entry matrix
-mixed a b c d s u hc hs hu es eu =
-    ap (λ x. bitXor x c) (eight-seven s u hs hu ∙ ap₂ (λ (x y : ℕ). bitXor (scale 8 x) (scale 7 y)) es eu ∙ ap₂ bitXor (scale-add 8 a b (omega arith)) (scale-add 7 b d (omega arith)))
-    ∙ ap (λ x. bitXor x c) (sym (xor-assoc (bitXor (scale 8 a) (scale 8 b)) (scale 7 b) (scale 7 d)) ∙ ap (λ x. bitXor x (scale 7 d)) (xor-assoc (scale 8 a) (scale 8 b) (scale 7 b)))
-    ∙ last-two (bitXor (scale 8 a) (bitXor (scale 8 b) (scale 7 b))) (scale 7 d) c
-    ∙ ap₂ (λ (x y : ℕ). bitXor (bitXor (bitXor (scale 8 a) x) y) (scale 7 d)) (sym (add-scale 8 7 b (omega arith) (omega arith))) (sym (scale-one c hc))
+mixed a b c d ha hb hc hd =
+    ap (λ x. bitXor x c) (
+    eight-seven (bitXor a b) (bitXor b d) (xor-lt 8 a b ha hb) (xor-lt 8 b d hb hd)
+    ∙ ap₂ bitXor (scale-add 8 a b (omega arith)) (scale-add 7 b d (omega arith))
+    ∙ sym (xor-assoc (bitXor (scale 8 a) (scale 8 b)) (scale 7 b) (scale 7 d))
+    ∙ ap (λ x. bitXor x (scale 7 d)) (xor-assoc (scale 8 a) (scale 8 b) (scale 7 b) ∙ ap (bitXor (scale 8 a)) (sym (add-scale 8 7 b (omega arith) (omega arith)))))
+    ∙ last-two (bitXor (scale 8 a) (scale 15 b)) (scale 7 d) c
+    ∙ ap (λ x. bitXor (bitXor (bitXor (scale 8 a) (scale 15 b)) x) (scale 7 d)) (sym (scale-one c hc))
 
 -- ---- the parities of four bodies
--- four bytes, each times its coefficient
-abbrev pub mixture : (ℕ → ℕ) → ℕ → ℕ → ℕ → ℕ → ℕ
-mixture w a b c d = bitXor (bitXor (bitXor (scale (w 0) a) (scale (w 1) b)) (scale (w 2) c)) (scale (w 3) d)
-
 module _ (a b c d : List ℕ) (la : length a ≡ bodyBytes) (lb : length b ≡ bodyBytes) (lc : length c ≡ bodyBytes) (ld : length d ≡ bodyBytes) where
   four-long : (p : ℕ) → p < 4 → length (fourBodies a b c d p) ≡ bodyBytes
   unfolding fourBodies

@@ -7,13 +7,16 @@ ghost use Rattle.group.specs.Widths.{bodyBytes};
 ghost use Rattle.group.specs.Parity.{coefficient, parity};
 ghost use Rattle.group.specs.Rebuilding.{fourBodies};
 
-// The sum of four bytes, each times its coefficient in check place 0: 8a + Fb + c + 7d. That is 8 times a + b, 7 times b + d, and c.
+// The sum of four bytes, each times its coefficient in check place 0: 8a + Fb + c + 7d. That is 8 times a + b, 7 times b + d, and c, so three
+// doublings are enough, with b + d added after each.
 fn mix(a: u8, b: u8, c: u8, d: u8) -> u8
     ensures { λ r. ⌜ r ≡ bitXor (bitXor (bitXor (scale (coefficient 0 0) a) (scale (coefficient 1 0) b)) (scale (coefficient 2 0) c)) (scale (coefficient 3 0) d) ⌝ }
 {
-    let s = a ^ b;
-    let u = b ^ d;
-    field::double(field::double(field::double(s) ^ u) ^ u) ^ u ^ c
+    let eightfold = a ^ b;
+    let sevenfold = b ^ d;
+    let doubled = field::double(eightfold) ^ sevenfold;
+    let fourfold = field::double(doubled) ^ sevenfold;
+    field::double(fourfold) ^ sevenfold ^ c
 }
 
 // The parities of four bodies at the three check places. Check places 1 and 2 have the coefficients of check place 0 with the places exchanged by pairs.

@@ -1,7 +1,5 @@
 -- `splitting::parities::mix` meets its contract. Assumes nothing.
 use borrow.Author.Needs.{needs}
-use lib.Bits.{bitXor, xor-lt}
-use mathlib.Core.Path.{refl}
 use Rattle.splitting.proofs.ParitySums.{mixed}
 use Rattle.splitting.proofs.parities.mix.Statement.{statement}
 use Rattle.splitting.proofs.parities.mix.Tie as tie
@@ -11,8 +9,7 @@ returns c =
     let d2 = c .before in
     let d1 = d2 .before in
     let a = d1 .before .args in
-    rw (c .double3 .ensures, d2 .double2 .ensures, d1 .double .ensures)
-    (mixed (a .a) (a .b) (a .c) (a .d) (bitXor (a .a) (a .b)) (bitXor (a .b) (a .d)) (search needs) (xor-lt 8 (a .a) (a .b) (search needs) (search needs)) (xor-lt 8 (a .b) (a .d) (search needs) (search needs)) refl refl)
+    rw (c .double3 .ensures, d2 .double2 .ensures, d1 .double .ensures) (mixed (a .a) (a .b) (a .c) (a .d) (search needs) (search needs) (search needs) (search needs))
 
 pub mix-spec : {M : Type 1} → statement M
 mix-spec =
