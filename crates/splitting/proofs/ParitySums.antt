@@ -1,21 +1,19 @@
--- The bytes of the parities at the three check places, by doubling; pieces of one width written one behind the other. Assumes nothing.
+-- The bytes of the parities at the three check places, by rows of products; pieces of one width written one behind the other. Assumes nothing.
 use Prim.Native.Nat.{ℕ, _+_, _*_, _≤_, _<_}
 use mathlib.Core.Path.{_≡_, refl, sym, ap, ap₂, _∙_}
 use mathlib.Core.List.{List, _++_, append-nil}
 use native.Mathlib.Omega.{arith}
-use lib.Bits.{bitXor, xor-comm, xor-lt}
+use lib.Bits.{bitXor, xor-comm}
 use lib.ListN.{length, drop-of-length-le}
 use Rattle.buffer.specs.Range.{entries}
-use Rattle.buffer.specs.RangeLaws.{below-four, entries-of}
+use Rattle.buffer.specs.RangeLaws.{below-four, getD-entries, entries-of}
 use Rattle.buffer.specs.Bytes.{byte}
 use Rattle.buffer.specs.Table.{tab}
 use Rattle.buffer.specs.TableLaws.{Wide, length-tab}
 use Rattle.buffer.specs.LoopWrites.{Filling, filling-end, Appending, appending-end}
-use Rattle.algebra.specs.Binary.{times, remainder, productIn}
 use Rattle.algebra.specs.Xor.{xor-assoc}
-use Rattle.field.specs.Gf16.{product}
 use Rattle.field.specs.Byte.{scale}
-use Rattle.field.specs.ByteLaws.{scale-add, add-scale, scale-one, scale-product}
+use Rattle.field.specs.ByteLaws.{scale-add, add-scale, scale-one}
 use Rattle.code.specs.Matrix.{matrix, entry}
 use Rattle.group.specs.Widths.{bodyBytes}
 use Rattle.group.specs.Body.{scaleBody}
@@ -23,6 +21,7 @@ use Rattle.group.specs.BodyLaws.{length-scale, byte-scale}
 use Rattle.group.specs.Parity.{coefficient, parity}
 use Rattle.group.specs.ParityLaws.{byte-sum4, length-parity}
 use Rattle.group.specs.Rebuilding.{fourBodies}
+use Rattle.splitting.specs.Steps.{scaledRow}
 
 -- ---- pieces of w bytes, one behind the other
 module _ {f : ℕ → List ℕ} {n : ℕ} {o₀ o : List ℕ} {i at : ℕ} (g : Appending f n o₀ o i at) where
@@ -39,35 +38,21 @@ mixture w a b c d = bitXor (bitXor (bitXor (scale (w 0) a) (scale (w 1) b)) (sca
 last-two : (a b c : ℕ) → bitXor (bitXor a b) c ≡ bitXor (bitXor a c) b
 last-two a b c = xor-assoc a b c ∙ ap (bitXor a) (xor-comm b c) ∙ sym (xor-assoc a c b)
 
--- v times s and w times u, doubled, and u added
-doubled : (v w s u : ℕ) → v < 16 → w < 16 → product 2 w < 16 → s < 256 → u < 256
-    → bitXor (scale 2 (bitXor (scale v s) (scale w u))) u ≡ bitXor (scale (product 2 v) s) (scale (bitXor (product 2 w) 1) u)
-doubled v w s u hv hw h hs hu =
-    ap (λ x. bitXor x u) (scale-add 2 (scale v s) (scale w u) (omega arith))
-    ∙ xor-assoc (scale 2 (scale v s)) (scale 2 (scale w u)) u
-    ∙ ap₂ bitXor (sym (scale-product 2 v s (omega arith) hv hs))
-    (ap₂ bitXor (sym (scale-product 2 w u (omega arith) hw hu)) (sym (scale-one u hu)) ∙ sym (add-scale (product 2 w) 1 u h (omega arith)))
-
--- 8 times s and 7 times u, by three doublings
-eight-seven : (s u : ℕ) → s < 256 → u < 256 → bitXor (scale 2 (bitXor (scale 2 (bitXor (scale 2 s) u)) u)) u ≡ bitXor (scale 8 s) (scale 7 u)
-unfolding productIn remainder times
-eight-seven s u hs hu =
-    ap (λ x. bitXor (scale 2 (bitXor (scale 2 (bitXor (scale 2 s) x)) u)) u) (sym (scale-one u hu))
-    ∙ ap (λ x. bitXor (scale 2 x) u) (doubled 2 1 s u (omega arith) (omega arith) (omega arith) hs hu)
-    ∙ doubled 4 3 s u (omega arith) (omega arith) (omega arith) hs hu
-
 -- the coefficients of check place 0 are 8, F, 1 and 7, and F is 8 + 7
-pub mixed : (a b c d : ℕ) → a < 256 → b < 256 → c < 256 → d < 256
-    → bitXor (bitXor (scale 2 (bitXor (scale 2 (bitXor (scale 2 (bitXor a b)) (bitXor b d))) (bitXor b d))) (bitXor b d)) c ≡ mixture (λ p. coefficient p 0) a b c d
+pub mixed : (a b c d : ℕ) → c < 256 → bitXor (bitXor (scale 8 (bitXor a b)) (scale 7 (bitXor b d))) c ≡ mixture (λ p. coefficient p 0) a b c d
 unfolding coefficient entry matrix
-mixed a b c d ha hb hc hd =
+mixed a b c d hc =
     ap (λ x. bitXor x c) (
-    eight-seven (bitXor a b) (bitXor b d) (xor-lt 8 a b ha hb) (xor-lt 8 b d hb hd)
-    ∙ ap₂ bitXor (scale-add 8 a b (omega arith)) (scale-add 7 b d (omega arith))
+    ap₂ bitXor (scale-add 8 a b (omega arith)) (scale-add 7 b d (omega arith))
     ∙ sym (xor-assoc (bitXor (scale 8 a) (scale 8 b)) (scale 7 b) (scale 7 d))
     ∙ ap (λ x. bitXor x (scale 7 d)) (xor-assoc (scale 8 a) (scale 8 b) (scale 7 b) ∙ ap (bitXor (scale 8 a)) (sym (add-scale 8 7 b (omega arith) (omega arith)))))
     ∙ last-two (bitXor (scale 8 a) (scale 15 b)) (scale 7 d) c
     ∙ ap (λ x. bitXor (bitXor (bitXor (scale 8 a) (scale 15 b)) x) (scale 7 d)) (sym (scale-one c hc))
+
+-- a row's entry
+pub row-byte : (w x : ℕ) → x < 256 → byte (scaledRow w) x ≡ scale w x
+unfolding scaledRow
+row-byte w x h = getD-entries 256 (scale w) x 0 h
 
 -- ---- the parities of four bodies
 module _ (a b c d : List ℕ) (la : length a ≡ bodyBytes) (lb : length b ≡ bodyBytes) (lc : length c ≡ bodyBytes) (ld : length d ≡ bodyBytes) where

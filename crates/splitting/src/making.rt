@@ -11,7 +11,7 @@ ghost use Rattle.model.specs.Units.{splitPointer};
 ghost use Rattle.model.specs.Layout.{bytes, view};
 ghost use Rattle.model.specs.LayoutLaws.{Long};
 ghost use Rattle.model.specs.StoreLaws.{CheckIn};
-ghost use Rattle.splitting.specs.Steps.{RankIn, putCheck, rankMade, remade, wiped, isUnit, inGroup, ofFirst, ofBoth};
+ghost use Rattle.splitting.specs.Steps.{RankIn, scaledRow, putCheck, rankMade, remade, wiped, isUnit, inGroup, ofFirst, ofBoth};
 
 // The four keys of rank r of group g, one behind the other.
 fn copy_keys(keys: &mut [u8], s: &[u8], g: u8, r: u8)
@@ -30,8 +30,17 @@ fn copy_keys(keys: &mut [u8], s: &[u8], g: u8, r: u8)
 }
 
 // The parities of rank r of group g at the three check places.
-fn fill_parities(x: &mut [u8], y: &mut [u8], z: &mut [u8], s: &[u8], g: u8, r: u8)
-    requires { ⌜ RankIn (now s) g r × (length (now x) ≡ bodyBytes) × (length (now y) ≡ bodyBytes) × (length (now z) ≡ bodyBytes) ⌝ }
+fn fill_parities(
+    x: &mut [u8],
+    y: &mut [u8],
+    z: &mut [u8],
+    s: &[u8],
+    g: u8,
+    r: u8,
+    eights: &[u8; 256],
+    sevens: &[u8; 256],
+)
+    requires { ⌜ RankIn (now s) g r × (length (now x) ≡ bodyBytes) × (length (now y) ≡ bodyBytes) × (length (now z) ≡ bodyBytes) × (now eights ≡ scaledRow 8) × (now sevens ≡ scaledRow 7) ⌝ }
     ensures { λ _. ⌜ (now (x .exit) ≡ parity 0 (λ p. drop keyBytes (view (now (s .entry)) .slot (4 * g + p) r))) × (now (y .exit) ≡ parity 1 (λ p. drop keyBytes (view (now (s .entry)) .slot (4 * g + p) r))) × (now (z .exit) ≡ parity 2 (λ p. drop keyBytes (view (now (s .entry)) .slot (4 * g + p) r))) ⌝ }
 {
     let size = s[5];
@@ -47,6 +56,8 @@ fn fill_parities(x: &mut [u8], y: &mut [u8], z: &mut [u8], s: &[u8], g: u8, r: u
         &s[b + 4..b + 20],
         &s[c + 4..c + 20],
         &s[d + 4..d + 20],
+        eights,
+        sevens,
     );
 }
 
@@ -63,8 +74,8 @@ fn put_check(s: &mut [u8], c: u8, r: u8, keys: [u8; 16], parity: [u8; 16])
 }
 
 // Makes the check records in service of group g at rank r anew.
-fn make_rank(s: &mut [u8], g: u8, r: u8)
-    requires { ⌜ RankIn (now s) g r ⌝ }
+fn make_rank(s: &mut [u8], g: u8, r: u8, eights: &[u8; 256], sevens: &[u8; 256])
+    requires { ⌜ RankIn (now s) g r × (now eights ≡ scaledRow 8) × (now sevens ≡ scaledRow 7) ⌝ }
     ensures { λ _. ⌜ now (s .exit) ≡ bytes (rankMade g r (view (now (s .entry)))) ⌝ }
 {
     let mut keys = [0u8; 16];
@@ -72,21 +83,24 @@ fn make_rank(s: &mut [u8], g: u8, r: u8)
     let mut x = [0u8; 16];
     let mut y = [0u8; 16];
     let mut z = [0u8; 16];
-    fill_parities(&mut x, &mut y, &mut z, s, g, r);
+    fill_parities(&mut x, &mut y, &mut z, s, g, r, eights, sevens);
     put_check(s, 3 * g, r, keys, x);
     put_check(s, 3 * g + 1, r, keys, y);
     put_check(s, 3 * g + 2, r, keys, z);
 }
 
-// Makes the check units in service of group g anew, rank by rank.
-fn make_group(s: &mut [u8], g: u8)
-    requires { ⌜ Long (now s) × (g < 4) ⌝ }
+// Makes the check units in service of group g, if there are any, anew, rank by rank.
+fn make_group(s: &mut [u8], g: u8, eights: &[u8; 256], sevens: &[u8; 256])
+    requires { ⌜ Long (now s) × (g < 4) × (now eights ≡ scaledRow 8) × (now sevens ≡ scaledRow 7) ⌝ }
     ensures { λ _. ⌜ now (s .exit) ≡ bytes (remade (inGroup g) (view (now (s .entry)))) ⌝ }
 {
+    if lookup::keeper(s, g) == 3 * g + 3 {
+        return;
+    }
     let b = s[5];
     let mut r: u8 = 0;
     while r < b {
-        make_rank(s, g, r);
+        make_rank(s, g, r, eights, sevens);
         r += 1;
     }
 }
@@ -96,9 +110,11 @@ pub fn make_groups(s: &mut [u8], n: u8, m: u8)
     requires { ⌜ Long (now s) × (n ≡ splitPointer m) × (n < m) × (m < 16) ⌝ }
     ensures { λ _. ⌜ now (s .exit) ≡ bytes (remade (ofBoth m) (view (now (s .entry)))) ⌝ }
 {
-    make_group(s, m / 4);
+    let eights = parities::scaled_row(8);
+    let sevens = parities::scaled_row(7);
+    make_group(s, m / 4, &eights, &sevens);
     if n / 4 != m / 4 {
-        make_group(s, n / 4);
+        make_group(s, n / 4, &eights, &sevens);
     }
 }
 

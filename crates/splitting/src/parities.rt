@@ -1,27 +1,59 @@
-// The parities of four bodies at the three check places, by doubling: the compiler takes the bytes of a body at once.
+// The parities of four bodies at the three check places, by the products of every byte with 8 and with 7, looked up once for a call and lent.
 ghost use mathlib.Core.Path.{_≡_};
+ghost use Prim.Native.Nat.{_<_};
 ghost use lib.Bits.{bitXor};
 ghost use lib.ListN.{length};
 ghost use Rattle.field.specs.Byte.{scale};
+ghost use Rattle.field.specs.Table.{products};
 ghost use Rattle.group.specs.Widths.{bodyBytes};
 ghost use Rattle.group.specs.Parity.{coefficient, parity};
 ghost use Rattle.group.specs.Rebuilding.{fourBodies};
+ghost use Rattle.splitting.specs.Steps.{scaledRow};
 
-// The sum of four bytes, each times its coefficient in check place 0: 8a + Fb + c + 7d. That is 8 times a + b, 7 times b + d, and c, so three
-// doublings are enough, with b + d added after each.
-fn mix(a: u8, b: u8, c: u8, d: u8) -> u8
+// The products of every byte with a symbol.
+fn fill_row(row: &mut [u8], w: u8, table: &[u8; 256])
+    requires { ⌜ (length (now row) ≡ 256) × (w < 16) × (now table ≡ products) ⌝ }
+    ensures { λ _. ⌜ now (row .exit) ≡ scaledRow w ⌝ }
+{
+    let mut i = 0;
+    while i < row.len() {
+        row[i] = field::scale_in(table, w, i as u8);
+        i += 1;
+    }
+}
+
+// The same, from the product table.
+pub fn scaled_row(w: u8) -> [u8; 256]
+    requires { ⌜ w < 16 ⌝ }
+    ensures { λ r. ⌜ r ≡ scaledRow w ⌝ }
+{
+    let table = field::table();
+    let mut row = [0u8; 256];
+    fill_row(&mut row, w, &table);
+    row
+}
+
+// The sum of four bytes, each times its coefficient in check place 0: 8a + Fb + c + 7d. That is 8 times a + b, 7 times b + d, and c.
+fn mix(eights: &[u8; 256], sevens: &[u8; 256], a: u8, b: u8, c: u8, d: u8) -> u8
+    requires { ⌜ (now eights ≡ scaledRow 8) × (now sevens ≡ scaledRow 7) ⌝ }
     ensures { λ r. ⌜ r ≡ bitXor (bitXor (bitXor (scale (coefficient 0 0) a) (scale (coefficient 1 0) b)) (scale (coefficient 2 0) c)) (scale (coefficient 3 0) d) ⌝ }
 {
-    let eightfold = a ^ b;
-    let sevenfold = b ^ d;
-    let doubled = field::double(eightfold) ^ sevenfold;
-    let fourfold = field::double(doubled) ^ sevenfold;
-    field::double(fourfold) ^ sevenfold ^ c
+    eights[buffer::wide(a ^ b)] ^ sevens[buffer::wide(b ^ d)] ^ c
 }
 
 // The parities of four bodies at the three check places. Check places 1 and 2 have the coefficients of check place 0 with the places exchanged by pairs.
-pub fn fill(x: &mut [u8], y: &mut [u8], z: &mut [u8], a: &[u8], b: &[u8], c: &[u8], d: &[u8])
-    requires { ⌜ (length (now x) ≡ bodyBytes) × (length (now y) ≡ bodyBytes) × (length (now z) ≡ bodyBytes) × (length (now a) ≡ bodyBytes) × (length (now b) ≡ bodyBytes) × (length (now c) ≡ bodyBytes) × (length (now d) ≡ bodyBytes) ⌝ }
+pub fn fill(
+    x: &mut [u8],
+    y: &mut [u8],
+    z: &mut [u8],
+    a: &[u8],
+    b: &[u8],
+    c: &[u8],
+    d: &[u8],
+    eights: &[u8; 256],
+    sevens: &[u8; 256],
+)
+    requires { ⌜ (length (now x) ≡ bodyBytes) × (length (now y) ≡ bodyBytes) × (length (now z) ≡ bodyBytes) × (length (now a) ≡ bodyBytes) × (length (now b) ≡ bodyBytes) × (length (now c) ≡ bodyBytes) × (length (now d) ≡ bodyBytes) × (now eights ≡ scaledRow 8) × (now sevens ≡ scaledRow 7) ⌝ }
     ensures { λ _. ⌜ (now (x .exit) ≡ parity 0 (fourBodies (now (a .entry)) (now (b .entry)) (now (c .entry)) (now (d .entry)))) × (now (y .exit) ≡ parity 1 (fourBodies (now (a .entry)) (now (b .entry)) (now (c .entry)) (now (d .entry)))) × (now (z .exit) ≡ parity 2 (fourBodies (now (a .entry)) (now (b .entry)) (now (c .entry)) (now (d .entry)))) ⌝ }
 {
     let mut i = 0;
@@ -30,9 +62,9 @@ pub fn fill(x: &mut [u8], y: &mut [u8], z: &mut [u8], a: &[u8], b: &[u8], c: &[u
         let f = b[i];
         let g = c[i];
         let h = d[i];
-        x[i] = mix(e, f, g, h);
-        y[i] = mix(f, e, h, g);
-        z[i] = mix(g, h, e, f);
+        x[i] = mix(eights, sevens, e, f, g, h);
+        y[i] = mix(eights, sevens, f, e, h, g);
+        z[i] = mix(eights, sevens, g, h, e, f);
         i += 1;
     }
 }

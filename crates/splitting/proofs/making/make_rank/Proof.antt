@@ -19,7 +19,7 @@ put-check-requires-2 c κs =
     let e0 = record-parts v g r (3 * g) 0 _ _ (omega arith) (omega arith) (k .copy-keys .ensures) (f .fill-parities .ensures .0) in
     let e1 = record-parts v g r (3 * g + 1) 1 _ _ (omega arith) (omega arith) (k .copy-keys .ensures) (f .fill-parities .ensures .1) in
     let e2 = record-parts v g r (3 * g + 2) 2 _ _ (omega arith) (omega arith) (k .copy-keys .ensures) (f .fill-parities .ensures .2) in
-    rank-check (e .pre) (first-put (e .pre) e0 e1 e2 (p1 .put-check .ensures)) (3 * g + 1) (omega (arith, e .pre .group))
+    rank-check (e .pre .0) (first-put (e .pre .0) e0 e1 e2 (p1 .put-check .ensures)) (3 * g + 1) (omega (arith, e .pre .0 .group))
 
 put-check-requires-3 : tie.Need-put-check-requires-3
 put-check-requires-3 c κs =
@@ -34,7 +34,7 @@ put-check-requires-3 c κs =
     let e0 = record-parts v g r (3 * g) 0 _ _ (omega arith) (omega arith) (k .copy-keys .ensures) (f .fill-parities .ensures .0) in
     let e1 = record-parts v g r (3 * g + 1) 1 _ _ (omega arith) (omega arith) (k .copy-keys .ensures) (f .fill-parities .ensures .1) in
     let e2 = record-parts v g r (3 * g + 2) 2 _ _ (omega arith) (omega arith) (k .copy-keys .ensures) (f .fill-parities .ensures .2) in
-    rank-check (e .pre) (second-put (e .pre) e0 e1 e2 (p1 .put-check .ensures) (p2 .put-check2 .ensures)) (3 * g + 2) (omega (arith, e .pre .group))
+    rank-check (e .pre .0) (second-put (e .pre .0) e0 e1 e2 (p1 .put-check .ensures) (p2 .put-check2 .ensures)) (3 * g + 2) (omega (arith, e .pre .0 .group))
 
 returns : tie.Need-returns
 returns c =
@@ -50,7 +50,7 @@ returns c =
     let e0 = record-parts v g r (3 * g) 0 _ _ (omega arith) (omega arith) (k .copy-keys .ensures) (f .fill-parities .ensures .0) in
     let e1 = record-parts v g r (3 * g + 1) 1 _ _ (omega arith) (omega arith) (k .copy-keys .ensures) (f .fill-parities .ensures .1) in
     let e2 = record-parts v g r (3 * g + 2) 2 _ _ (omega arith) (omega arith) (k .copy-keys .ensures) (f .fill-parities .ensures .2) in
-    all-put (e .pre) e0 e1 e2 (p1 .put-check .ensures) (p2 .put-check2 .ensures) (p3 .put-check3 .ensures)
+    all-put (e .pre .0) e0 e1 e2 (p1 .put-check .ensures) (p2 .put-check2 .ensures) (p3 .put-check3 .ensures)
 
 pub make-rank-spec : {M : Type 1} → statement M
 make-rank-spec =
