@@ -7,6 +7,6 @@ pub mod MergeLoop
 pub mod Added
 pub mod Removed
 pub mod Rows
-pub mod Products
+pub mod ParitySums
 pub mod Ranks
 pub mod RankLoop

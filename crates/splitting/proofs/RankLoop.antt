@@ -1,5 +1,5 @@
--- The loop of `make_group`: the check records of the first t ranks of a group are made. Assumes nothing.
-use Prim.Native.Nat.{ℕ, suc, _+_, _-_, _≤_, _<_}
+-- The loop of `make_group`: the check records of the first t ranks of a group are made; and the group without a check unit in service. Assumes nothing.
+use Prim.Native.Nat.{ℕ, suc, _+_, _*_, _-_, _/_, _%_, _≤_, _<_}
 use mathlib.Core.Path.{_≡_, refl, sym, ap, _∙_}
 use mathlib.Core.List.{List}
 use mathlib.Core.Bool.{Bool, true, false, _&&_, and-true, and-false}
@@ -10,16 +10,20 @@ use lib.ListN.{length}
 use borrow.Author.Tests.{eqb-true, eqb-false, lt-ltb, le-ltb}
 use Rattle.buffer.specs.Choice.{pick}
 use Rattle.buffer.specs.ChoiceLaws.{by-test, by-pick, pick-true, pick-false}
-use Rattle.buffer.specs.TestLaws.{ltb-suc}
+use Rattle.buffer.specs.TestLaws.{and-ext, ltb-suc}
+use Rattle.buffer.specs.Range.{first}
+use Rattle.buffer.specs.RangeLaws.{first-misses}
 use Rattle.buffer.specs.Bytes.{byte}
 use Rattle.group.specs.Widths.{checkBytes}
 use Rattle.model.specs.Layout.{Store, bytes, view, withChecks}
 use Rattle.model.specs.LayoutLaws.{Shaped, Same, Long, bytes-ext, bytes-view, view-shaped}
 use Rattle.model.specs.StoreLaws.{size-of, checks-shaped, checks-ext, checks-none}
+use Rattle.model.specs.Reads.{keeper}
+use Rattle.lookup.specs.States.{inService, keeper-found}
 use Rattle.splitting.specs.Steps.{RankIn, madeRecord, rankMade, remade, inGroup}
 use Rattle.splitting.proofs.Holding.{Holds, holds-step, holds-five, holds-long, holds-length}
 use Rattle.splitting.proofs.StepLaws.{made-long}
-use Rattle.splitting.proofs.Ranks.{rank-change}
+use Rattle.splitting.proofs.Ranks.{state-of, rank-change}
 
 -- the records while the ranks are made: the first t are
 unfoldable pub madeTo : Store → ℕ → ℕ → ℕ → ℕ → List ℕ
@@ -97,3 +101,19 @@ module _ (s₀ : List ℕ) (g : ℕ) (l : Long s₀) (hg : g < 4) where
   pub making-end : {s : List ℕ} {t : ℕ} → Making s₀ g s t → byte s₀ 5 ≤ t → s ≡ bytes (remade (inGroup g) (view s₀))
   unfolding remade
   making-end {s} {t} d ht = d .holds .state ∙ checks-ext (view s₀) _ _ (λ c q a k. made-all (view s₀) g t c q (omega (arith, size-of s₀)))
+
+-- where no check unit of the group is in service there is nothing to make
+pub nothing-made : (s : List ℕ) (g : ℕ) → Long s → keeper (view s) g ≡ 3 * g + 3 → s ≡ bytes (remade (inGroup g) (view s))
+unfolding remade
+nothing-made s g l e =
+    sym (bytes-view s l)
+    ∙ ap bytes (sym (checks-none (view s)))
+    ∙ checks-ext (view s) (view s .check) _ (λ c r a b. sym (pick-false (and-ext (inGroup g c) (eqb (view s .cstate c) 1) false (λ t. off c (eqb-true (c / 3) g t)) ∙ and-false (inGroup g c)) _ _))
+  where
+    all : first 3 (inService s g) ≡ 3
+    all = let found = keeper-found s g (first 3 (inService s g)) refl in omega (arith, found, e)
+
+    off : (c : ℕ) → c / 3 ≡ g → eqb (view s .cstate c) 1 ≡ false
+    off c h =
+        let place : 24 + c ≡ 24 + (3 * g + c % 3) = omega arith in
+        ap (λ k. eqb k 1) (sym (state-of s c) ∙ ap (byte s) place) ∙ first-misses 3 (inService s g) (c % 3) (rw all (omega arith))

@@ -91,7 +91,7 @@ put-change c r z e =
     (λ t h d q a b. by-pick (λ (x : List ℕ). length x ≡ checkBytes) (eqb d c && (eqb q r && eqb (t .cstate d) 1)) z (t .check d q) (λ _. e) (λ _. h .check d q a b))
     (λ s t h d q a b. rw (h .check d q a b, h .cstate d a))
 
-state-of : (s : List ℕ) (c : ℕ) → byte s (24 + c) ≡ view s .cstate c
+pub state-of : (s : List ℕ) (c : ℕ) → byte s (24 + c) ≡ view s .cstate c
 unfolding view
 state-of s c = refl
 

@@ -8,10 +8,9 @@ use lib.ListN.{set}
 use Rattle.buffer.specs.Choice.{pick}
 use Rattle.buffer.specs.Bytes.{byte, zeros}
 use Rattle.buffer.specs.Range.{entries}
-use Rattle.buffer.specs.Table.{tab, upd}
+use Rattle.buffer.specs.Table.{upd}
 use Rattle.field.specs.Byte.{scale}
 use Rattle.group.specs.Widths.{slotBytes, checkBytes}
-use Rattle.group.specs.Parity.{coefficient}
 use Rattle.group.specs.CheckRecord.{checkRecord}
 use Rattle.model.specs.Units.{splitPointer, touched}
 use Rattle.model.specs.Layout.{Store, view, withSlots, withChecks}
@@ -19,10 +18,9 @@ use Rattle.model.specs.LayoutLaws.{Long}
 use Rattle.model.specs.StoreLaws.{withFront, withDstates, withCstates}
 use Rattle.lookup.specs.Sized.{Sized}
 
--- the products of every byte with the coefficients of check place 0, a row for each place of a group. The other check places have these coefficients
--- in another order.
-unfoldable pub scaledRows : List ℕ
-scaledRows = tab 4 (λ p. entries 256 (scale (coefficient p 0)))
+-- the products of every byte with the symbol w
+unfoldable pub scaledRow : ℕ → List ℕ
+scaledRow w = entries 256 (scale w)
 
 -- rank r of group g
 pub record RankIn (s : List ℕ) (g r : ℕ) : Type 0 where

@@ -24,12 +24,11 @@ fn add_unit(s: &mut [u8], m: u8)
 {
     let n = lookup::split_pointer(m);
     let level = s[7];
-    let rows = parities::scaled_rows();
     dealing::deal_out(s, n, m);
     states::mark(s, m + 1, m, 1);
     states::set_first(s, m, level);
     states::set_first(s, n, level);
-    making::make_groups(s, n, m, &rows);
+    making::make_groups(s, n, m);
 }
 
 // Removes unit m, the last: its records go behind those of the unit that it was split from.
@@ -38,12 +37,11 @@ fn remove_unit(s: &mut [u8], m: u8)
     ensures { λ _. ⌜ now (s .exit) ≡ bytes (shrunk (view (now (s .entry))) m) ⌝ }
 {
     let n = lookup::split_pointer(m);
-    let rows = parities::scaled_rows();
     dealing::merge_into(s, n, m);
     states::mark(s, m, m, 0);
     states::set_first(s, m, 0);
     making::clear_first(s, m);
-    making::make_groups(s, n, m, &rows);
+    making::make_groups(s, n, m);
 }
 
 // The number of a grow, for a store that is sound or not.

@@ -11,7 +11,7 @@ ghost use Rattle.model.specs.Units.{splitPointer};
 ghost use Rattle.model.specs.Layout.{bytes, view};
 ghost use Rattle.model.specs.LayoutLaws.{Long};
 ghost use Rattle.model.specs.StoreLaws.{CheckIn};
-ghost use Rattle.splitting.specs.Steps.{RankIn, scaledRows, putCheck, rankMade, remade, wiped, isUnit, inGroup, ofFirst, ofBoth};
+ghost use Rattle.splitting.specs.Steps.{RankIn, scaledRow, putCheck, rankMade, remade, wiped, isUnit, inGroup, ofFirst, ofBoth};
 
 // The four keys of rank r of group g, one behind the other.
 fn copy_keys(keys: &mut [u8], s: &[u8], g: u8, r: u8)
@@ -37,9 +37,10 @@ fn fill_parities(
     s: &[u8],
     g: u8,
     r: u8,
-    rows: &[u8; 1024],
+    eights: &[u8; 256],
+    sevens: &[u8; 256],
 )
-    requires { ⌜ RankIn (now s) g r × (length (now x) ≡ bodyBytes) × (length (now y) ≡ bodyBytes) × (length (now z) ≡ bodyBytes) × (now rows ≡ scaledRows) ⌝ }
+    requires { ⌜ RankIn (now s) g r × (length (now x) ≡ bodyBytes) × (length (now y) ≡ bodyBytes) × (length (now z) ≡ bodyBytes) × (now eights ≡ scaledRow 8) × (now sevens ≡ scaledRow 7) ⌝ }
     ensures { λ _. ⌜ (now (x .exit) ≡ parity 0 (λ p. drop keyBytes (view (now (s .entry)) .slot (4 * g + p) r))) × (now (y .exit) ≡ parity 1 (λ p. drop keyBytes (view (now (s .entry)) .slot (4 * g + p) r))) × (now (z .exit) ≡ parity 2 (λ p. drop keyBytes (view (now (s .entry)) .slot (4 * g + p) r))) ⌝ }
 {
     let size = s[5];
@@ -55,25 +56,26 @@ fn fill_parities(
         &s[b + 4..b + 20],
         &s[c + 4..c + 20],
         &s[d + 4..d + 20],
-        rows,
+        eights,
+        sevens,
     );
 }
 
-// Check unit c, if it is in service, gets these keys and this parity at rank r.
-fn put_check(s: &mut [u8], c: u8, r: u8, keys: &[u8], parity: &[u8])
-    requires { ⌜ CheckIn (now s) c r × (length (now keys) ≡ keysBytes) × (length (now parity) ≡ bodyBytes) ⌝ }
-    ensures { λ _. ⌜ now (s .exit) ≡ bytes (putCheck c r (now (keys .entry) ++ now (parity .entry)) (view (now (s .entry)))) ⌝ }
+// Check unit c, if it is in service, gets these keys and this parity at rank r. Both come by value: the compiler copies a whole array at once.
+fn put_check(s: &mut [u8], c: u8, r: u8, keys: [u8; 16], parity: [u8; 16])
+    requires { ⌜ CheckIn (now s) c r ⌝ }
+    ensures { λ _. ⌜ now (s .exit) ≡ bytes (putCheck c r (keys ++ parity) (view (now (s .entry)))) ⌝ }
 {
     if s[24 + buffer::wide(c)] == 1 {
         let at = lookup::check_at(s[5], c, r);
-        buffer::copy(&mut s[at..at + 16], keys);
-        buffer::copy(&mut s[at + 16..at + 32], parity);
+        buffer::copy(&mut s[at..at + 16], &keys);
+        buffer::copy(&mut s[at + 16..at + 32], &parity);
     }
 }
 
 // Makes the check records in service of group g at rank r anew.
-fn make_rank(s: &mut [u8], g: u8, r: u8, rows: &[u8; 1024])
-    requires { ⌜ RankIn (now s) g r × (now rows ≡ scaledRows) ⌝ }
+fn make_rank(s: &mut [u8], g: u8, r: u8, eights: &[u8; 256], sevens: &[u8; 256])
+    requires { ⌜ RankIn (now s) g r × (now eights ≡ scaledRow 8) × (now sevens ≡ scaledRow 7) ⌝ }
     ensures { λ _. ⌜ now (s .exit) ≡ bytes (rankMade g r (view (now (s .entry)))) ⌝ }
 {
     let mut keys = [0u8; 16];
@@ -81,33 +83,38 @@ fn make_rank(s: &mut [u8], g: u8, r: u8, rows: &[u8; 1024])
     let mut x = [0u8; 16];
     let mut y = [0u8; 16];
     let mut z = [0u8; 16];
-    fill_parities(&mut x, &mut y, &mut z, s, g, r, rows);
-    put_check(s, 3 * g, r, &keys, &x);
-    put_check(s, 3 * g + 1, r, &keys, &y);
-    put_check(s, 3 * g + 2, r, &keys, &z);
+    fill_parities(&mut x, &mut y, &mut z, s, g, r, eights, sevens);
+    put_check(s, 3 * g, r, keys, x);
+    put_check(s, 3 * g + 1, r, keys, y);
+    put_check(s, 3 * g + 2, r, keys, z);
 }
 
-// Makes the check units in service of group g anew, rank by rank.
-fn make_group(s: &mut [u8], g: u8, rows: &[u8; 1024])
-    requires { ⌜ Long (now s) × (g < 4) × (now rows ≡ scaledRows) ⌝ }
+// Makes the check units in service of group g, if there are any, anew, rank by rank.
+fn make_group(s: &mut [u8], g: u8, eights: &[u8; 256], sevens: &[u8; 256])
+    requires { ⌜ Long (now s) × (g < 4) × (now eights ≡ scaledRow 8) × (now sevens ≡ scaledRow 7) ⌝ }
     ensures { λ _. ⌜ now (s .exit) ≡ bytes (remade (inGroup g) (view (now (s .entry)))) ⌝ }
 {
+    if lookup::keeper(s, g) == 3 * g + 3 {
+        return;
+    }
     let b = s[5];
     let mut r: u8 = 0;
     while r < b {
-        make_rank(s, g, r, rows);
+        make_rank(s, g, r, eights, sevens);
         r += 1;
     }
 }
 
 // Makes the check units in service of the groups of unit m and of unit n, which m is split from, anew.
-pub fn make_groups(s: &mut [u8], n: u8, m: u8, rows: &[u8; 1024])
-    requires { ⌜ Long (now s) × (n ≡ splitPointer m) × (n < m) × (m < 16) × (now rows ≡ scaledRows) ⌝ }
+pub fn make_groups(s: &mut [u8], n: u8, m: u8)
+    requires { ⌜ Long (now s) × (n ≡ splitPointer m) × (n < m) × (m < 16) ⌝ }
     ensures { λ _. ⌜ now (s .exit) ≡ bytes (remade (ofBoth m) (view (now (s .entry)))) ⌝ }
 {
-    make_group(s, m / 4, rows);
+    let eights = parities::scaled_row(8);
+    let sevens = parities::scaled_row(7);
+    make_group(s, m / 4, &eights, &sevens);
     if n / 4 != m / 4 {
-        make_group(s, n / 4, rows);
+        make_group(s, n / 4, &eights, &sevens);
     }
 }
 

@@ -13,14 +13,14 @@ slice-read-level c = omega (arith, c .before .before .before .pre .0 .long)
 
 deal-out-requires : tie.Need-deal-out-requires
 deal-out-requires c κs =
-    let p = c .before .before .before in
+    let p = c .before .before in
     let e = p .before .before in
     record { sized = e .pre .0; from = p .split-pointer .ensures .0; apart = p .split-pointer .ensures .1; unit = e .pre .2 }
 
 mark-requires : tie.Need-mark-requires
 mark-requires c κs =
     let d = c .before .before .before in
-    let p = d .before .before .before .before in
+    let p = d .before .before .before in
     let e = p .before .before in
     let sp : Split (e .args .s .now) (p .split-pointer .result) (e .args .m) = record { sized = e .pre .0; from = p .split-pointer .ensures .0; apart = p .split-pointer .ensures .1; unit = e .pre .2 } in
     (holds-long (dealt-holds sp (d .deal-out .ensures)), e .pre .2)
@@ -29,7 +29,7 @@ set-first-requires : tie.Need-set-first-requires
 set-first-requires c κs =
     let k = c .before .before .before in
     let d = k .before .before .before .before in
-    let p = d .before .before .before .before in
+    let p = d .before .before .before in
     let e = p .before .before in
     let sp : Split (e .args .s .now) (p .split-pointer .result) (e .args .m) = record { sized = e .pre .0; from = p .split-pointer .ensures .0; apart = p .split-pointer .ensures .1; unit = e .pre .2 } in
     (holds-long (marked-holds sp (d .deal-out .ensures) (k .mark .ensures)), e .pre .2)
@@ -39,31 +39,30 @@ set-first-requires-2 c κs =
     let f = c .before .before .before in
     let k = f .before .before .before .before in
     let d = k .before .before .before .before in
-    let p = d .before .before .before .before in
+    let p = d .before .before .before in
     let e = p .before .before in
     let sp : Split (e .args .s .now) (p .split-pointer .result) (e .args .m) = record { sized = e .pre .0; from = p .split-pointer .ensures .0; apart = p .split-pointer .ensures .1; unit = e .pre .2 } in
     (holds-long (new-holds sp (d .deal-out .ensures) (k .mark .ensures) _ (f .set-first .ensures)), omega (arith, sp .apart, sp .unit))
 
 make-groups-requires : tie.Need-make-groups-requires
 make-groups-requires c κs =
-    let f2 = c .before .before .before .before in
+    let f2 = c .before .before .before in
     let f = f2 .before .before .before .before in
     let k = f .before .before .before .before in
     let d = k .before .before .before .before in
-    let t = d .before .before in
-    let p = t .before .before in
+    let p = d .before .before .before in
     let e = p .before .before in
     let sp : Split (e .args .s .now) (p .split-pointer .result) (e .args .m) = record { sized = e .pre .0; from = p .split-pointer .ensures .0; apart = p .split-pointer .ensures .1; unit = e .pre .2 } in
-    (holds-long (old-holds sp (d .deal-out .ensures) (k .mark .ensures) _ (f .set-first .ensures) (f2 .set-first2 .ensures)), sp .from, sp .apart, sp .unit, t .scaled-rows .ensures)
+    (holds-long (old-holds sp (d .deal-out .ensures) (k .mark .ensures) _ (f .set-first .ensures) (f2 .set-first2 .ensures)), sp .from, sp .apart, sp .unit)
 
 returns : tie.Need-returns
 returns c =
     let g = c .before .before in
-    let f2 = g .before .before .before .before .before in
+    let f2 = g .before .before .before .before in
     let f = f2 .before .before .before .before in
     let k = f .before .before .before .before in
     let d = k .before .before .before .before in
-    let p = d .before .before .before .before in
+    let p = d .before .before .before in
     let e = p .before .before in
     let sp : Split (e .args .s .now) (p .split-pointer .result) (e .args .m) = record { sized = e .pre .0; from = p .split-pointer .ensures .0; apart = p .split-pointer .ensures .1; unit = e .pre .2 } in
     all-added sp (d .deal-out .ensures) (k .mark .ensures) _ (f .set-first .ensures) (f2 .set-first2 .ensures) (level-of (e .args .s .now)) (g .make-groups .ensures)
@@ -74,7 +73,6 @@ add-unit-spec =
     (tie.spec
     (λ c κs. search needs)
     slice-read-level
-    (λ c κs. search needs)
     deal-out-requires
     (λ c. search needs)
     mark-requires

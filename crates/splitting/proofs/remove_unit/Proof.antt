@@ -8,14 +8,14 @@ use Rattle.splitting.proofs.remove_unit.Tie as tie
 
 merge-into-requires : tie.Need-merge-into-requires
 merge-into-requires c κs =
-    let p = c .before .before in
+    let p = c .before in
     let e = p .before .before in
     (record { sized = e .pre .0; from = p .split-pointer .ensures .0; apart = p .split-pointer .ensures .1; unit = e .pre .3 }, rw (p .split-pointer .ensures .0) (e .pre .4))
 
 mark-requires : tie.Need-mark-requires
 mark-requires c κs =
     let d = c .before .before .before in
-    let p = d .before .before .before in
+    let p = d .before .before in
     let e = p .before .before in
     let sp : Split (e .args .s .now) (p .split-pointer .result) (e .args .m) = record { sized = e .pre .0; from = p .split-pointer .ensures .0; apart = p .split-pointer .ensures .1; unit = e .pre .3 } in
     (holds-long (merged-holds sp (d .merge-into .ensures)), e .pre .3)
@@ -24,7 +24,7 @@ set-first-requires : tie.Need-set-first-requires
 set-first-requires c κs =
     let k = c .before .before .before in
     let d = k .before .before .before .before in
-    let p = d .before .before .before in
+    let p = d .before .before in
     let e = p .before .before in
     let sp : Split (e .args .s .now) (p .split-pointer .result) (e .args .m) = record { sized = e .pre .0; from = p .split-pointer .ensures .0; apart = p .split-pointer .ensures .1; unit = e .pre .3 } in
     (holds-long (marked-holds sp (d .merge-into .ensures) (k .mark .ensures)), e .pre .3)
@@ -34,31 +34,30 @@ clear-first-requires c κs =
     let f = c .before .before .before in
     let k = f .before .before .before .before in
     let d = k .before .before .before .before in
-    let p = d .before .before .before in
+    let p = d .before .before in
     let e = p .before .before in
     let sp : Split (e .args .s .now) (p .split-pointer .result) (e .args .m) = record { sized = e .pre .0; from = p .split-pointer .ensures .0; apart = p .split-pointer .ensures .1; unit = e .pre .3 } in
     (holds-long (states-hold sp (d .merge-into .ensures) (k .mark .ensures) (f .set-first .ensures)), e .pre .3)
 
 make-groups-requires : tie.Need-make-groups-requires
 make-groups-requires c κs =
-    let w = c .before .before .before .before in
+    let w = c .before .before .before in
     let f = w .before .before .before .before in
     let k = f .before .before .before .before in
     let d = k .before .before .before .before in
-    let t = d .before .before in
-    let p = t .before in
+    let p = d .before .before in
     let e = p .before .before in
     let sp : Split (e .args .s .now) (p .split-pointer .result) (e .args .m) = record { sized = e .pre .0; from = p .split-pointer .ensures .0; apart = p .split-pointer .ensures .1; unit = e .pre .3 } in
-    (holds-long (wiped-holds sp (d .merge-into .ensures) (k .mark .ensures) (f .set-first .ensures) (w .clear-first .ensures)), sp .from, sp .apart, sp .unit, t .scaled-rows .ensures)
+    (holds-long (wiped-holds sp (d .merge-into .ensures) (k .mark .ensures) (f .set-first .ensures) (w .clear-first .ensures)), sp .from, sp .apart, sp .unit)
 
 returns : tie.Need-returns
 returns c =
     let g = c .before .before in
-    let w = g .before .before .before .before .before in
+    let w = g .before .before .before .before in
     let f = w .before .before .before .before in
     let k = f .before .before .before .before in
     let d = k .before .before .before .before in
-    let p = d .before .before .before in
+    let p = d .before .before in
     let e = p .before .before in
     let sp : Split (e .args .s .now) (p .split-pointer .result) (e .args .m) = record { sized = e .pre .0; from = p .split-pointer .ensures .0; apart = p .split-pointer .ensures .1; unit = e .pre .3 } in
     all-removed sp (d .merge-into .ensures) (k .mark .ensures) (f .set-first .ensures) (w .clear-first .ensures) (e .pre .1) (g .make-groups .ensures)
@@ -67,7 +66,6 @@ pub remove-unit-spec : {M : Type 1} → statement M
 remove-unit-spec =
     tie.close
     (tie.spec
-    (λ c κs. search needs)
     (λ c κs. search needs)
     merge-into-requires
     mark-requires

@@ -10,7 +10,7 @@ use Rattle.buffer.specs.TableLaws.{length-tab}
 use Rattle.buffer.specs.LoopWrites.{Appending, appending-start, appending-turn}
 use Rattle.group.specs.Widths.{keyBytes}
 use Rattle.model.specs.Layout.{view}
-use Rattle.splitting.proofs.Products.{appended-at, appended-all}
+use Rattle.splitting.proofs.ParitySums.{appended-at, appended-all}
 use Rattle.splitting.proofs.Ranks.{slot-parts, rank-slot, key-wide}
 use Rattle.splitting.proofs.making.copy_keys.Statement.{statement}
 use Rattle.splitting.proofs.making.copy_keys.Tie as tie

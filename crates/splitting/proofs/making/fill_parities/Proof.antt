@@ -47,6 +47,7 @@ fill-requires c κs =
       body-lent s (d .before .slot-at3 .result) (omega (arith, rank-slot (e .pre .0) 2 (omega arith), d .before .slot-at3 .ensures .0)),
       body-lent s (d .slot-at4 .result) (omega (arith, rank-slot (e .pre .0) 3 (omega arith), d .slot-at4 .ensures .0)),
       e .pre .4,
+      e .pre .5,
     )
 
 returns : tie.Need-returns

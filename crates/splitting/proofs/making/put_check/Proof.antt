@@ -12,34 +12,34 @@ use Rattle.splitting.proofs.making.put_check.Tie as tie
 
 part-copy-end : tie.Need-part-copy-end
 part-copy-end c =
-    let e = c .before .before .before .before .before .before .before .before in
-    omega (arith, check-end (e .pre .0), c .check-at .ensures .0)
+    let e = c .before .before .before .before .before .before in
+    omega (arith, check-end (e .pre), c .check-at .ensures .0)
 
 part-copy-end-2 : tie.Need-part-copy-end-2
 part-copy-end-2 c =
-    let at = c .before .before .before .before in
-    let e = at .before .before .before .before .before .before .before .before in
-    omega (arith, check-end (e .pre .0), at .check-at .ensures .0)
+    let at = c .before .before .before .before .before in
+    let e = at .before .before .before .before .before .before in
+    omega (arith, check-end (e .pre), at .check-at .ensures .0)
 
 returns : tie.Need-returns
 unfolding splice
 returns c =
     let k2 = c .before .before in
-    let k = k2 .before .before .before .before in
-    let at = k .before .before in
+    let k = k2 .before .before .before .before .before in
+    let at = k .before .before .before in
     let i = at .before .before in
     let w = i .before .before in
-    let e = w .before .before .before .before in
+    let e = w .before .before in
     let keys : at .check-at .result + 16 - at .check-at .result ≡ keysBytes = omega arith in
     let rest : at .check-at .result + 32 - (at .check-at .result + 16) ≡ bodyBytes = omega arith in
     rw (k2 .copy2 .ensures, k .copy .ensures, keys, rest)
-    (put-serving (e .args .s .now) (e .args .c) (e .args .r) (e .args .keys .now) (e .args .parity .now) (e .pre .0) _ (at .check-at .result) (ap (λ x. byte (e .args .s .now) (24 + x)) (sym (w .wide .ensures .0)) ∙ i .if1 .taken) (e .pre .1) refl (at .check-at .ensures .0))
+    (put-serving (e .args .s .now) (e .args .c) (e .args .r) (e .args .t4) (e .args .t5) (e .pre) _ (at .check-at .result) (ap (λ x. byte (e .args .s .now) (24 + x)) (sym (w .wide .ensures .0)) ∙ i .if1 .taken) (search (needs, e .good .1 .1 .1 .0)) refl (at .check-at .ensures .0))
 
 returns-2 : tie.Need-returns-2
 returns-2 c =
     let w = c .before .before in
-    let e = w .before .before .before .before in
-    put-nothing (e .args .s .now) (e .args .c) (e .args .r) (e .args .keys .now) (e .args .parity .now) (e .pre .0) (λ h. c .if1 .left (ap (λ x. byte (e .args .s .now) (24 + x)) (w .wide .ensures .0) ∙ h))
+    let e = w .before .before in
+    put-nothing (e .args .s .now) (e .args .c) (e .args .r) (e .args .t4) (e .args .t5) (e .pre) (λ h. c .if1 .left (ap (λ x. byte (e .args .s .now) (24 + x)) (w .wide .ensures .0) ∙ h))
 
 pub put-check-spec : {M : Type 1} → statement M
 put-check-spec =
@@ -54,12 +54,14 @@ put-check-spec =
     (λ c. search needs)
     (λ c. search needs)
     part-copy-end
+    (λ c. search needs)
     (λ c κs. search needs)
     (λ c. search needs)
     (λ c. search needs)
     (λ c. search needs)
     (λ c. search needs)
     part-copy-end-2
+    (λ c. search needs)
     (λ c κs. search needs)
     (λ c. search needs)
     returns

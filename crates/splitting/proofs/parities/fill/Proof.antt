@@ -5,16 +5,16 @@ use Rattle.buffer.specs.Bytes.{byte}
 use Rattle.buffer.specs.LoopWrites.{Filling, filling-start, filling-turn}
 use Rattle.group.specs.Parity.{parity}
 use Rattle.group.specs.Rebuilding.{fourBodies}
-use Rattle.splitting.proofs.Products.{place-zero, place-one, place-two, parity-filled}
+use Rattle.splitting.proofs.ParitySums.{place-zero, place-one, place-two, parity-filled}
 use Rattle.splitting.proofs.parities.fill.Statement.{statement}
 use Rattle.splitting.proofs.parities.fill.Tie as tie
 
 abbrev Inv-loop : tie.InvT-loop
-Inv-loop x₀ y₀ z₀ a b c d rows i₀ x y z i =
+Inv-loop x₀ y₀ z₀ a b c d eights sevens i₀ x y z i =
     Filling (byte (parity 0 (fourBodies a b c d))) x₀ x i × Filling (byte (parity 1 (fourBodies a b c d))) y₀ y i × Filling (byte (parity 2 (fourBodies a b c d))) z₀ z i
 
 abbrev μ-loop : tie.MeasureT-loop
-μ-loop x₀ y₀ z₀ a b c d rows i₀ x y z i = 16 - i
+μ-loop x₀ y₀ z₀ a b c d eights sevens i₀ x y z i = 16 - i
 
 loop-holds : tie.Need-loop-holds Inv-loop μ-loop
 loop-holds c = (filling-start, filling-start, filling-start)

@@ -5,6 +5,7 @@ use mathlib.Core.Path.{ap, _∙_}
 use Rattle.buffer.specs.Range.{entries}
 use Rattle.buffer.specs.LoopWrites.{Filling, filling-start, filling-turn, filling-end}
 use Rattle.field.specs.Byte.{scale}
+use Rattle.splitting.specs.Steps.{scaledRow}
 use Rattle.splitting.proofs.parities.fill_row.Statement.{statement}
 use Rattle.splitting.proofs.parities.fill_row.Tie as tie
 
@@ -21,6 +22,7 @@ loop-again : tie.Need-loop-again Inv-loop μ-loop
 loop-again c = filling-turn _ (c .before .before .loop .inv) (c .before .loop-test .taken) (c .scale-in .ensures)
 
 returns : tie.Need-returns Inv-loop μ-loop
+unfolding scaledRow
 returns c =
     let l = c .before in
     let e = l .before .before in
