@@ -10,7 +10,8 @@ use lib.ListN.{length, take, drop, length-replicate, replicate-append-replicate,
 use lib.Seq.{getD-take, getD-drop, getD-append-add, ext-getD, length-take-le}
 use borrow.Author.Tests.{eq-eqb, eqb-true}
 use Rattle.buffer.specs.RangeLaws.{below-four, all-true, all-holds}
-use Rattle.buffer.specs.Bytes.{byte, be32, bytes32, zeros, part, splice, allZero}
+use Rattle.buffer.specs.Bytes.{byte, be32, bytes32, zeros, part, splice}
+use Rattle.buffer.specs.Loops.{allZero}
 use Rattle.buffer.specs.SpliceLaws.{length-part}
 
 -- ---- one byte

@@ -1,10 +1,7 @@
 -- Bytes of a buffer: one byte, a number of 32 bits, a part, and a part replaced. Reads are total: past the end counts as 0. Assumes nothing.
 use Prim.Native.Nat.{ℕ, _+_, _*_, _/_, _%_}
-use mathlib.Core.Bool.{Bool}
 use mathlib.Core.List.{List, [], _∷_, _++_}
-use lib.Dec.{eqb}
-use lib.ListN.{length, getD, take, drop, replicate}
-use Rattle.buffer.specs.Range.{all}
+use lib.ListN.{getD, take, drop, replicate}
 
 -- the byte at a place, 0 past the end
 abbrev pub byte : List ℕ → ℕ → ℕ
@@ -29,7 +26,3 @@ part at n s = take n (drop at s)
 -- s with the part of n bytes at a place replaced
 unfoldable pub splice : ℕ → ℕ → List ℕ → List ℕ → List ℕ
 splice at n new s = take at s ++ (new ++ drop n (drop at s))
-
--- every byte is zero
-unfoldable pub allZero : List ℕ → Bool
-allZero s = all (length s) (λ i. eqb (byte s i) 0)

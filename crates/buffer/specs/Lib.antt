@@ -2,6 +2,7 @@ pub mod Choice
 pub mod Range
 pub mod Bytes
 pub mod Table
+pub mod Loops
 pub mod ChoiceLaws
 pub mod TestLaws
 pub mod RangeLaws

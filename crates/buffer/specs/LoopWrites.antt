@@ -8,7 +8,7 @@ use native.Mathlib.Numerals.{add-one}
 use native.Mathlib.Omega.{arith}
 use lib.ListN.{length, getD, set, drop, length-append, length-set, drop-of-length-le, List·getD-eq-default}
 use lib.Seq.{take-at, drop-at, drop-drop}
-use Rattle.buffer.specs.Range.{iter, entries}
+use Rattle.buffer.specs.Loops.{iter, entries}
 use Rattle.buffer.specs.RangeLaws.{length-entries, iter-none, iter-more}
 use Rattle.buffer.specs.Bytes.{splice}
 use Rattle.buffer.specs.SpliceLaws.{length-splice}

@@ -1,7 +1,6 @@
 -- Tests, counts, sums and lists over the numbers 0 to n - 1. Assumes nothing.
 use Prim.Native.Nat.{ℕ, zero, suc, _+_}
 use mathlib.Core.Bool.{Bool, true, _&&_}
-use mathlib.Core.List.{List, [], _∷_}
 use Rattle.buffer.specs.Choice.{pick}
 
 -- the test holds at each of 0 to n - 1
@@ -23,13 +22,3 @@ first (suc n) p = pick (p 0) 0 (suc (first n (λ (k : ℕ). p (suc k))))
 unfoldable pub sum : ℕ → (ℕ → ℕ) → ℕ
 sum zero f = 0
 sum (suc n) f = sum n f + f n
-
--- f 0 to f (n - 1), one after the other
-unfoldable pub iter : {A : Type 0} → ℕ → (ℕ → A → A) → A → A
-iter zero f a = a
-iter (suc n) f a = f n (iter n f a)
-
--- the list of the numbers f 0 to f (n - 1)
-unfoldable pub entries : ℕ → (ℕ → ℕ) → List ℕ
-entries zero f = []
-entries (suc n) f = f 0 ∷ entries n (λ (k : ℕ). f (suc k))

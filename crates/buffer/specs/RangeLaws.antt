@@ -14,7 +14,8 @@ use borrow.Author.Tests.{ltb-true, ltb-false}
 use Rattle.buffer.specs.Choice.{pick}
 use Rattle.buffer.specs.ChoiceLaws.{by-test, by-pick, pick-true, pick-false}
 use Rattle.buffer.specs.TestLaws.{and-true, and-first, and-second, not-both}
-use Rattle.buffer.specs.Range.{all, count, first, sum, iter, entries}
+use Rattle.buffer.specs.Range.{all, count, first, sum}
+use Rattle.buffer.specs.Loops.{iter, entries}
 
 -- what holds at n and at each below it holds at each below its successor
 pub below-suc {ℓ} : (P : ℕ → Type ℓ) (n : ℕ) → ((k : ℕ) → k < n → P k) → P n → (k : ℕ) → k < suc n → P k

@@ -11,7 +11,8 @@ use lib.Dec.{eqb}
 use lib.ListN.{length, length-append}
 use borrow.Author.Tests.{eq-eqb, ne-eqb}
 use Rattle.buffer.specs.ChoiceLaws.{pick-true, pick-false, pick-map, by-pick}
-use Rattle.buffer.specs.Range.{sum, entries}
+use Rattle.buffer.specs.Range.{sum}
+use Rattle.buffer.specs.Loops.{entries}
 use Rattle.buffer.specs.RangeLaws.{entries-of}
 use Rattle.buffer.specs.Bytes.{byte, be32, zeros, part, splice}
 use Rattle.buffer.specs.SpliceLaws.{part-left, part-right, part-whole, part-append, splice-left, splice-right, splice-whole}

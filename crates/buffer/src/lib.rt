@@ -2,7 +2,8 @@
 ghost use mathlib.Core.Path.{_≡_};
 ghost use Prim.Native.Nat.{_+_, _*_, _/_, _%_, _≤_, _<_};
 ghost use lib.ListN.{length};
-ghost use Rattle.buffer.specs.Bytes.{byte, be32, bytes32, zeros, allZero};
+ghost use Rattle.buffer.specs.Bytes.{byte, be32, bytes32, zeros};
+ghost use Rattle.buffer.specs.Loops.{allZero};
 
 // A byte as an index.
 pub fn wide(x: u8) -> usize

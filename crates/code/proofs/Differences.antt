@@ -10,7 +10,8 @@ use Rattle.algebra.specs.Every.{every, every-at}
 use Rattle.algebra.specs.BinaryLaws.{one}
 use Rattle.algebra.specs.BinaryField.{below}
 use Rattle.algebra.specs.Lagrange.{gap}
-use Rattle.field.specs.Gf16.{product, inverse}
+use Rattle.field.specs.Gf16.{product}
+use Rattle.field.specs.Inverse.{inverse}
 use Rattle.field.specs.Gf16Laws.{gf16, tested}
 use Rattle.code.specs.Point.{point}
 use Rattle.code.specs.Weights.{gapOf, gapsOf, weightOf}

@@ -6,7 +6,8 @@ use lib.ListN.{getD}
 use Rattle.algebra.specs.Every.{values, yes-true}
 use Rattle.algebra.specs.Binary.{times, remainder, productIn}
 use Rattle.algebra.specs.BinaryTested.{inverseIn, squares}
-use Rattle.field.specs.Gf16.{product, inverse}
+use Rattle.field.specs.Gf16.{product}
+use Rattle.field.specs.Inverse.{inverse}
 use Rattle.code.specs.Matrix.{matrix, entry, encode, accepted, Rebuilds}
 use Rattle.code.specs.Lists.{each-four}
 

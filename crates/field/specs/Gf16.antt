@@ -2,11 +2,6 @@
 -- a symbol as the coefficient of t^i". The width is 4 and the modulus the number 19, whose digits are those of t^4 + t + 1. Sums are `bitXor`.
 use Prim.Native.Nat.{ℕ}
 use Rattle.algebra.specs.Binary.{productIn}
-use Rattle.algebra.specs.BinaryTested.{inverseIn}
 
 abbrev pub product : ℕ → ℕ → ℕ
 product a b = productIn 4 19 a b
-
--- the inverse of a symbol that is not 0, and 0 for 0
-abbrev pub inverse : ℕ → ℕ
-inverse a = inverseIn 4 19 a

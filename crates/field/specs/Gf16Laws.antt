@@ -5,7 +5,7 @@ use Rattle.algebra.specs.Every.{every}
 use Rattle.algebra.specs.Binary.{times, remainder, productIn}
 use Rattle.algebra.specs.BinaryTested.{inverseIn, squares, Tested}
 use Rattle.algebra.specs.BinaryField.{Below, field-of}
-use Rattle.field.specs.Gf16.{inverse}
+use Rattle.field.specs.Inverse.{inverse}
 
 pub tested : Tested 4 19 inverse
 unfolding every productIn remainder times inverseIn squares

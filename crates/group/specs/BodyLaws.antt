@@ -9,7 +9,7 @@ use lib.ListN.{length, length-map}
 use Rattle.algebra.specs.Xor.{xor-assoc}
 use Rattle.buffer.specs.Bytes.{byte, zeros}
 use Rattle.buffer.specs.ByteLaws.{byte-zeros, length-zeros, bytes-ext}
-use Rattle.buffer.specs.Range.{entries}
+use Rattle.buffer.specs.Loops.{entries}
 use Rattle.buffer.specs.RangeLaws.{entries-of}
 use Rattle.field.specs.Byte.{scale}
 use Rattle.field.specs.ByteLaws.{scale-bound, scale-add, add-scale}

@@ -1,6 +1,7 @@
 pub mod Widths
 pub mod Body
 pub mod BodyLaws
+pub mod Four
 pub mod Parity
 pub mod ParityLaws
 pub mod CheckRecord

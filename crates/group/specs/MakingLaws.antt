@@ -12,7 +12,7 @@ use Rattle.buffer.specs.ChoiceLaws.{by-pick, pick-true, pick-false}
 use Rattle.buffer.specs.TestLaws.{ltb-suc}
 use Rattle.buffer.specs.Bytes.{zeros}
 use Rattle.buffer.specs.ByteLaws.{length-zeros, zeros-append}
-use Rattle.buffer.specs.Range.{iter}
+use Rattle.buffer.specs.Loops.{iter}
 use Rattle.buffer.specs.Table.{upd}
 use Rattle.buffer.specs.TableLaws.{Wide, tab-ext, tab-zeros}
 use Rattle.group.specs.Widths.{keyBytes, keysBytes}

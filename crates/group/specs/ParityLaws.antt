@@ -12,7 +12,7 @@ use Rattle.buffer.specs.Choice.{pick}
 use Rattle.buffer.specs.ChoiceLaws.{by-test}
 use Rattle.buffer.specs.Bytes.{byte, zeros}
 use Rattle.buffer.specs.ByteLaws.{length-zeros}
-use Rattle.buffer.specs.Range.{entries}
+use Rattle.buffer.specs.Loops.{entries}
 use Rattle.buffer.specs.RangeLaws.{below-four, entries-of}
 use Rattle.buffer.specs.Table.{upd}
 use Rattle.buffer.specs.TableLaws.{upd-at, upd-other}

@@ -1,5 +1,5 @@
 -- Rebuilding a body from four members of its group. Member m stands under column m of the matrix. Assumes nothing.
-use Prim.Native.Nat.{ℕ, zero, suc}
+use Prim.Native.Nat.{ℕ}
 use mathlib.Core.Bool.{Bool}
 use mathlib.Core.List.{List}
 use lib.ListN.{getD}
@@ -7,13 +7,6 @@ use Rattle.code.specs.Weights.{weightsOf}
 use Rattle.group.specs.Body.{scaleBody}
 use Rattle.group.specs.Parity.{sum4}
 use Rattle.group.specs.Members.{firstFour}
-
--- four bodies by their numbers
-unfoldable pub fourBodies : List ℕ → List ℕ → List ℕ → List ℕ → ℕ → List ℕ
-fourBodies a b c d zero = a
-fourBodies a b c d (suc zero) = b
-fourBodies a b c d (suc (suc zero)) = c
-fourBodies a b c d (suc (suc (suc i))) = d
 
 -- four bodies, each times its weight, added up
 unfoldable pub weighed : List ℕ → (ℕ → List ℕ) → List ℕ

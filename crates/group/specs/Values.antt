@@ -7,7 +7,7 @@ use Rattle.field.specs.Byte.{scale}
 use Rattle.code.specs.Matrix.{matrix, entry}
 use Rattle.group.specs.Body.{addBody, scaleBody}
 use Rattle.group.specs.Parity.{coefficient, sum4, parity, adjusted}
-use Rattle.group.specs.Rebuilding.{fourBodies}
+use Rattle.group.specs.Four.{fourBodies}
 
 -- the bodies in units 0 to 3
 unfoldable pub units : ℕ → List ℕ

@@ -8,7 +8,7 @@ use lib.Bits.{bitXor, xor-zero-r}
 use lib.ListN.{length, getD}
 use Rattle.algebra.specs.Xor.{xor-assoc}
 use Rattle.buffer.specs.Bytes.{byte}
-use Rattle.buffer.specs.Range.{entries}
+use Rattle.buffer.specs.Loops.{entries}
 use Rattle.buffer.specs.RangeLaws.{below-four, entries-of}
 use Rattle.field.specs.Byte.{scale}
 use Rattle.code.specs.Matrix.{entry, column}

@@ -14,7 +14,8 @@ ghost use Rattle.group.specs.Body.{addBody, scaleBody};
 ghost use Rattle.group.specs.Parity.{coefficient};
 ghost use Rattle.group.specs.CheckRecord.{patched};
 ghost use Rattle.group.specs.Members.{outs, checks, beyond, serves, next, firstFour};
-ghost use Rattle.group.specs.Rebuilding.{weighed, fourBodies};
+ghost use Rattle.group.specs.Rebuilding.{weighed};
+ghost use Rattle.group.specs.Four.{fourBodies};
 
 // The coefficient of the data unit at a place in the check unit at a check place.
 pub fn coefficient(place: u8, check: u8) -> u8

@@ -10,7 +10,7 @@ use lib.ListN.{length, set}
 use borrow.Author.Tests.{lt-ltb, le-ltb}
 use Rattle.buffer.specs.ChoiceLaws.{pick-true, pick-false}
 use Rattle.buffer.specs.TestLaws.{not-both}
-use Rattle.buffer.specs.Range.{entries}
+use Rattle.buffer.specs.Loops.{entries}
 use Rattle.buffer.specs.Bytes.{byte, zeros}
 use Rattle.buffer.specs.LoopTests.{Passing, passing-start, passing-turn, passing-fail, passing-end}
 use Rattle.buffer.specs.LoopWrites.{Filling, filling-start, filling-turn, filling-end}

@@ -5,7 +5,8 @@ use mathlib.Core.Bool.{Bool, _&&_}
 use mathlib.Core.List.{List, [], _∷_, _++_}
 use lib.Dec.{leb, ltb}
 use Rattle.buffer.specs.Choice.{pick}
-use Rattle.buffer.specs.Range.{all, entries}
+use Rattle.buffer.specs.Range.{all}
+use Rattle.buffer.specs.Loops.{entries}
 use Rattle.buffer.specs.Bytes.{byte, zeros}
 use Rattle.buffer.specs.Table.{tab}
 

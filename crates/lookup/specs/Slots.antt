@@ -22,7 +22,8 @@ use Rattle.code.specs.Weights.{weightsOf}
 use Rattle.group.specs.Widths.{keyBytes, keysBytes, bodyBytes, slotBytes, checkBytes}
 use Rattle.group.specs.Members.{firstFour}
 use Rattle.group.specs.MembersLaws.{Members}
-use Rattle.group.specs.Rebuilding.{fourBodies, weighed, rebuilt}
+use Rattle.group.specs.Rebuilding.{weighed, rebuilt}
+use Rattle.group.specs.Four.{fourBodies}
 use Rattle.group.specs.WeighedLaws.{length-weighed, weighed-ext}
 use Rattle.model.specs.Layout.{view, slotAt, checkAt, keyOf}
 use Rattle.model.specs.Reads.{servesIn, holds, keeper, listedKey, listedFill, wholeSlot}

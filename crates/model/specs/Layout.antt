@@ -76,10 +76,3 @@ frontOf b m k = version ∷ (bytes32 (storeBytes b) ++ (b ∷ m ∷ k ∷ []))
 -- a store with these parts and the size and the rest of s
 abbrev pub changed : Store → List ℕ → (ℕ → ℕ) → (ℕ → ℕ) → (ℕ → ℕ → List ℕ) → (ℕ → ℕ → List ℕ) → Store
 changed s front dstate cstate slot check = store front dstate cstate (s .size) slot check (s .rest)
-
--- the same store with other slots, and with other check records
-unfoldable pub withSlots : Store → (ℕ → ℕ → List ℕ) → Store
-withSlots s f = changed s (s .front) (s .dstate) (s .cstate) f (s .check)
-
-unfoldable pub withChecks : Store → (ℕ → ℕ → List ℕ) → Store
-withChecks s f = changed s (s .front) (s .dstate) (s .cstate) (s .slot) f

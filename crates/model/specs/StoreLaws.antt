@@ -15,9 +15,16 @@ use Rattle.buffer.specs.SpliceLaws.{splice-left, splice-right}
 use Rattle.buffer.specs.Table.{tab, upd}
 use Rattle.buffer.specs.TableLaws.{tab-ext, tab-one, tab-zeros, splice-chunk, upd-map}
 use Rattle.group.specs.Widths.{slotBytes, checkBytes}
-use Rattle.model.specs.Layout.{Store, bytes, view, storeBytes, unitsIn, levelIn, slotAt, checkAt, withSlots, withChecks}
+use Rattle.model.specs.Layout.{Store, bytes, view, storeBytes, unitsIn, levelIn, slotAt, checkAt, changed}
 use Rattle.model.specs.LayoutLaws.{Shaped, Same, bytes-ext, bytes-view, view-shaped, length-bytes, byte-front, view-dstate, view-cstate, slot-read, check-read, len-ds, len-cs, len-slots, len-checks}
 use Rattle.model.specs.RunLaws.{upd2, run, run-one, run-unit, splice-run}
+
+-- the same store with other slots, and with other check records
+unfoldable pub withSlots : Store → (ℕ → ℕ → List ℕ) → Store
+withSlots s f = changed s (s .front) (s .dstate) (s .cstate) f (s .check)
+
+unfoldable pub withChecks : Store → (ℕ → ℕ → List ℕ) → Store
+withChecks s f = changed s (s .front) (s .dstate) (s .cstate) (s .slot) f
 
 -- ---- a store with one of its parts replaced: its front, the states of its data units, and those of its check units
 unfoldable pub withFront : Store → List ℕ → Store

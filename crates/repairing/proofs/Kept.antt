@@ -21,9 +21,9 @@ use Rattle.group.specs.Widths.{keyBytes, keysBytes, slotBytes}
 use Rattle.group.specs.Members.{serves, beyond, firstFour}
 use Rattle.group.specs.MembersLaws.{serves-data}
 use Rattle.group.specs.Rebuilding.{rebuilt}
-use Rattle.model.specs.Layout.{Store, bytes, view, keyOf, withSlots}
+use Rattle.model.specs.Layout.{Store, bytes, view, keyOf}
 use Rattle.model.specs.LayoutLaws.{Shaped, Same, Long, bytes-view, view-shaped, view-bytes, len-ds, len-cs}
-use Rattle.model.specs.StoreLaws.{slots-size, slots-slot, slots-shaped, same-long}
+use Rattle.model.specs.StoreLaws.{slots-size, slots-slot, slots-shaped, same-long, withSlots}
 use Rattle.model.specs.Reads.{beyondIn, servesIn, holds, keeper, listedKey, wholeSlot}
 use Rattle.lookup.specs.Sized.{Sized}
 use Rattle.lookup.specs.Groups.{beyond-states, four-states, group-four, recoverable-known}

@@ -17,11 +17,11 @@ use Rattle.group.specs.Widths.{keyBytes, bodyBytes, slotBytes, checkBytes}
 use Rattle.group.specs.CheckRecord.{checkRecord, patched}
 use Rattle.group.specs.CheckRecordLaws.{checkRecord-ext, length-checkRecord, length-key, length-body, length-patched}
 use Rattle.group.specs.MakingLaws.{patched-all}
-use Rattle.model.specs.Layout.{Store, bytes, view, slotAt, checkAt, withChecks}
+use Rattle.model.specs.Layout.{Store, bytes, view, slotAt, checkAt}
 use Rattle.model.specs.LayoutLaws.{Shaped, bytes-view, view-shaped, view-bytes}
 use Rattle.model.specs.RunLaws.{upd2, run, run-unit, length-run}
 use Rattle.model.specs.RunTurns.{run-none, run-more}
-use Rattle.model.specs.StoreLaws.{checks-size, checks-shaped, checks-ext, checks-none, checks-again, check-put, size-of, same-long}
+use Rattle.model.specs.StoreLaws.{checks-size, checks-shaped, checks-ext, checks-none, checks-again, check-put, size-of, same-long, withChecks}
 use Rattle.lookup.specs.Slots.{drop-part}
 use Rattle.repairing.specs.Groups.{Group, CheckPlace}
 use Rattle.repairing.specs.Steps.{slotsOf, unitMade}

@@ -13,11 +13,11 @@ use Rattle.buffer.specs.ChoiceLaws.{pick-false}
 use Rattle.buffer.specs.TestLaws.{and-false-first}
 use Rattle.buffer.specs.Bytes.{byte, splice}
 use Rattle.group.specs.Widths.{slotBytes}
-use Rattle.model.specs.Layout.{Store, bytes, view, slotAt, withSlots}
+use Rattle.model.specs.Layout.{Store, bytes, view, slotAt}
 use Rattle.model.specs.LayoutLaws.{bytes-view, view-shaped}
 use Rattle.model.specs.RunLaws.{upd2, run, run-unit, length-run}
 use Rattle.model.specs.RunTurns.{run-none, run-more}
-use Rattle.model.specs.StoreLaws.{slots-size, slots-ext, slots-none, slots-again, slot-put, size-of}
+use Rattle.model.specs.StoreLaws.{slots-size, slots-ext, slots-none, slots-again, slot-put, size-of, withSlots}
 use Rattle.model.specs.Reads.{wholeSlot}
 use Rattle.lookup.specs.Slots.{Recipe, length-whole}
 use Rattle.repairing.specs.Steps.{unitRebuilt}

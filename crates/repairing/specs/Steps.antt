@@ -6,8 +6,8 @@ use mathlib.Core.Bool.{_&&_}
 use lib.Dec.{eqb, ltb}
 use Rattle.buffer.specs.Choice.{pick}
 use Rattle.group.specs.CheckRecord.{checkRecord}
-use Rattle.model.specs.Layout.{Store, withSlots, withChecks}
-use Rattle.model.specs.StoreLaws.{withDstates, withCstates}
+use Rattle.model.specs.Layout.{Store}
+use Rattle.model.specs.StoreLaws.{withDstates, withCstates, withSlots, withChecks}
 use Rattle.model.specs.Reads.{wholeSlot}
 
 -- ---- first the data units that are out are rebuilt

@@ -9,7 +9,8 @@ use lib.ListN.{length}
 use borrow.Author.Tests.{eqb-true, eq-eqb}
 use Rattle.buffer.specs.TestLaws.{and-true, and-first, and-second, not-both}
 use Rattle.buffer.specs.RangeLaws.{all-true, all-holds}
-use Rattle.buffer.specs.Bytes.{byte, zeros, part, allZero}
+use Rattle.buffer.specs.Bytes.{byte, zeros, part}
+use Rattle.buffer.specs.Loops.{allZero}
 use Rattle.buffer.specs.SpliceLaws.{length-part}
 use Rattle.buffer.specs.ByteLaws.{byte-part, byte-zeros, zeros-of}
 use Rattle.model.specs.Layout.{view, slotAt, checkAt}

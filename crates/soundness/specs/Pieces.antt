@@ -7,7 +7,8 @@ use lib.Dec.{eqb, ltb, leb}
 use lib.ListN.{length}
 use Rattle.buffer.specs.Choice.{pick}
 use Rattle.buffer.specs.Range.{all}
-use Rattle.buffer.specs.Bytes.{byte, part, allZero}
+use Rattle.buffer.specs.Bytes.{byte, part}
+use Rattle.buffer.specs.Loops.{allZero}
 use Rattle.model.specs.Layout.{view, storeBytes, slotAt, checkAt}
 use Rattle.model.specs.Reads.{keeper}
 use Rattle.model.specs.Sound.{ranges, checksIn, checksAllowed}

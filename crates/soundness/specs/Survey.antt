@@ -9,7 +9,8 @@ use lib.ListN.{getD}
 use Rattle.buffer.specs.Choice.{pick}
 use Rattle.buffer.specs.ChoiceLaws.{by-pick, pick-true, pick-false}
 use Rattle.buffer.specs.TestLaws.{by-both}
-use Rattle.buffer.specs.Range.{all, entries}
+use Rattle.buffer.specs.Range.{all}
+use Rattle.buffer.specs.Loops.{entries}
 use Rattle.buffer.specs.RangeLaws.{getD-entries, first-le}
 use Rattle.buffer.specs.Bytes.{byte}
 use Rattle.model.specs.Layout.{Store, view, keyOf}

@@ -14,10 +14,10 @@ use Rattle.buffer.specs.ChoiceLaws.{by-pick, pick-true, pick-false}
 use Rattle.buffer.specs.Bytes.{byte, zeros, splice}
 use Rattle.group.specs.Widths.{slotBytes}
 use Rattle.model.specs.Units.{unitOf, moves}
-use Rattle.model.specs.Layout.{Store, bytes, view, slotAt, keyOf, withSlots}
+use Rattle.model.specs.Layout.{Store, bytes, view, slotAt, keyOf}
 use Rattle.model.specs.LayoutLaws.{Shaped, bytes-ext, view-bytes, view-shaped, bytes-view}
 use Rattle.model.specs.RunLaws.{upd2}
-use Rattle.model.specs.StoreLaws.{SlotIn, size-of, size-at, slots-shaped, slots-ext, slots-none, slots-again, slots-slot, slot-put}
+use Rattle.model.specs.StoreLaws.{SlotIn, size-of, size-at, slots-shaped, slots-ext, slots-none, slots-again, slots-slot, slot-put, withSlots}
 use Rattle.model.specs.Reads.{fillIn}
 use Rattle.model.specs.Changes.{keep, rows, recordsIn, dealt}
 use Rattle.lookup.specs.Sized.{Sized}

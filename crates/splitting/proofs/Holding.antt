@@ -6,9 +6,9 @@ use native.Mathlib.Omega.{arith}
 use lib.ListN.{length}
 use lib.Seq.{getD-take}
 use Rattle.buffer.specs.Bytes.{byte}
-use Rattle.model.specs.Layout.{Store, bytes, view, withSlots}
+use Rattle.model.specs.Layout.{Store, bytes, view}
 use Rattle.model.specs.LayoutLaws.{Shaped, Same, Long, bytes-view, view-shaped, byte-front}
-use Rattle.model.specs.StoreLaws.{size-of, same-long, size-at, long-at, cstate-at}
+use Rattle.model.specs.StoreLaws.{size-of, same-long, size-at, long-at, cstate-at, withSlots}
 use Rattle.model.specs.ChangeLaws.{on-bytes}
 use Rattle.lookup.specs.Sized.{Sized}
 

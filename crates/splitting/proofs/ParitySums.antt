@@ -5,7 +5,7 @@ use mathlib.Core.List.{List, _++_, append-nil}
 use native.Mathlib.Omega.{arith}
 use lib.Bits.{bitXor, xor-comm}
 use lib.ListN.{length, drop-of-length-le}
-use Rattle.buffer.specs.Range.{entries}
+use Rattle.buffer.specs.Loops.{entries}
 use Rattle.buffer.specs.RangeLaws.{below-four, getD-entries, entries-of}
 use Rattle.buffer.specs.Bytes.{byte}
 use Rattle.buffer.specs.Table.{tab}
@@ -20,7 +20,7 @@ use Rattle.group.specs.Body.{scaleBody}
 use Rattle.group.specs.BodyLaws.{length-scale, byte-scale}
 use Rattle.group.specs.Parity.{coefficient, parity}
 use Rattle.group.specs.ParityLaws.{byte-sum4, length-parity}
-use Rattle.group.specs.Rebuilding.{fourBodies}
+use Rattle.group.specs.Four.{fourBodies}
 use Rattle.splitting.specs.Steps.{scaledRow}
 
 -- ---- pieces of w bytes, one behind the other

@@ -16,10 +16,10 @@ use Rattle.buffer.specs.Bytes.{byte, zeros, splice}
 use Rattle.buffer.specs.Table.{upd}
 use Rattle.group.specs.Widths.{slotBytes, checkBytes}
 use Rattle.model.specs.Units.{splitPointer, touched}
-use Rattle.model.specs.Layout.{Store, bytes, view, slotAt, checkAt, withChecks}
+use Rattle.model.specs.Layout.{Store, bytes, view, slotAt, checkAt}
 use Rattle.model.specs.LayoutLaws.{Shaped, Same, Long, bytes-ext, bytes-view, view-shaped}
 use Rattle.model.specs.RunLaws.{run}
-use Rattle.model.specs.StoreLaws.{withFront, withCstates, slots-ext, slots-clear, slots-within, checks-none, checks-ext, checks-clear, checks-within, size-of, front-set, dstate-set, cstate-set}
+use Rattle.model.specs.StoreLaws.{withFront, withCstates, slots-ext, slots-clear, slots-within, checks-none, checks-ext, checks-clear, checks-within, size-of, front-set, dstate-set, cstate-set, withChecks}
 use Rattle.splitting.specs.Steps.{cleared, marked, levelled, wiped, madeRecord, remade, isUnit, inGroup, ofFirst, ofBoth}
 use Rattle.splitting.proofs.Holding.{Change, holds-start, holds-step}
 

@@ -15,9 +15,9 @@ use Rattle.buffer.specs.Range.{first}
 use Rattle.buffer.specs.RangeLaws.{first-misses}
 use Rattle.buffer.specs.Bytes.{byte}
 use Rattle.group.specs.Widths.{checkBytes}
-use Rattle.model.specs.Layout.{Store, bytes, view, withChecks}
+use Rattle.model.specs.Layout.{Store, bytes, view}
 use Rattle.model.specs.LayoutLaws.{Shaped, Same, Long, bytes-ext, bytes-view, view-shaped}
-use Rattle.model.specs.StoreLaws.{size-of, checks-shaped, checks-ext, checks-none}
+use Rattle.model.specs.StoreLaws.{size-of, checks-shaped, checks-ext, checks-none, withChecks}
 use Rattle.model.specs.Reads.{keeper}
 use Rattle.lookup.specs.States.{inService, keeper-found}
 use Rattle.splitting.specs.Steps.{RankIn, madeRecord, rankMade, remade, inGroup}

@@ -7,15 +7,15 @@ use lib.Dec.{eqb, ltb, leb}
 use lib.ListN.{set}
 use Rattle.buffer.specs.Choice.{pick}
 use Rattle.buffer.specs.Bytes.{byte, zeros}
-use Rattle.buffer.specs.Range.{entries}
+use Rattle.buffer.specs.Loops.{entries}
 use Rattle.buffer.specs.Table.{upd}
 use Rattle.field.specs.Byte.{scale}
 use Rattle.group.specs.Widths.{slotBytes, checkBytes}
 use Rattle.group.specs.CheckRecord.{checkRecord}
 use Rattle.model.specs.Units.{splitPointer, touched}
-use Rattle.model.specs.Layout.{Store, view, withSlots, withChecks}
+use Rattle.model.specs.Layout.{Store, view}
 use Rattle.model.specs.LayoutLaws.{Long}
-use Rattle.model.specs.StoreLaws.{withFront, withDstates, withCstates}
+use Rattle.model.specs.StoreLaws.{withFront, withDstates, withCstates, withSlots, withChecks}
 use Rattle.lookup.specs.Sized.{Sized}
 
 -- the products of every byte with the symbol w

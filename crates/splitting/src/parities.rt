@@ -7,7 +7,7 @@ ghost use Rattle.field.specs.Byte.{scale};
 ghost use Rattle.field.specs.Table.{products};
 ghost use Rattle.group.specs.Widths.{bodyBytes};
 ghost use Rattle.group.specs.Parity.{coefficient, parity};
-ghost use Rattle.group.specs.Rebuilding.{fourBodies};
+ghost use Rattle.group.specs.Four.{fourBodies};
 ghost use Rattle.splitting.specs.Steps.{scaledRow};
 
 // The products of every byte with a symbol.

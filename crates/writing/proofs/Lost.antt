@@ -14,10 +14,10 @@ use Rattle.buffer.specs.ByteLaws.{length-zeros}
 use Rattle.buffer.specs.SpliceLaws.{length-part}
 use Rattle.buffer.specs.Table.{upd}
 use Rattle.group.specs.Widths.{slotBytes, checkBytes}
-use Rattle.model.specs.Layout.{Store, bytes, view, slotAt, checkAt, withSlots, withChecks}
+use Rattle.model.specs.Layout.{Store, bytes, view, slotAt, checkAt}
 use Rattle.model.specs.LayoutLaws.{Shaped, Same, Long, bytes-ext, bytes-view, view-shaped}
 use Rattle.model.specs.RunLaws.{run, run-unit, length-run}
-use Rattle.model.specs.StoreLaws.{withDstates, withCstates, size-of, slots-shaped, checks-shaped, slots-clear, checks-clear, slots-within, checks-within, dstate-set, cstate-set}
+use Rattle.model.specs.StoreLaws.{withDstates, withCstates, size-of, slots-shaped, checks-shaped, slots-clear, checks-clear, slots-within, checks-within, dstate-set, cstate-set, withSlots, withChecks}
 use Rattle.model.specs.Changes.{unitLost}
 
 lost-slots : (v : Store) (u b : ℕ) → u < 16 → b ≡ v .size

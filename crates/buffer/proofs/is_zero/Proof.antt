@@ -4,7 +4,8 @@ use Prim.Native.Nat.{_-_}
 use lib.Dec.{eqb}
 use lib.ListN.{length}
 use borrow.Author.Needs.{needs}
-use Rattle.buffer.specs.Bytes.{byte, allZero}
+use Rattle.buffer.specs.Bytes.{byte}
+use Rattle.buffer.specs.Loops.{allZero}
 use Rattle.buffer.specs.LoopTests.{Gathering, gathering-start, gathering-turn, gathering-end}
 use Rattle.buffer.proofs.is_zero.Statement.{statement}
 use Rattle.buffer.proofs.is_zero.Tie as tie

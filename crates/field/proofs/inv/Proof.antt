@@ -8,7 +8,7 @@ use native.Mathlib.Nat.{zero-add}
 use borrow.Author.Needs.{needs}
 use Rattle.algebra.specs.Binary.{times, remainder, productIn}
 use Rattle.algebra.specs.BinaryTested.{inverseIn, squares}
-use Rattle.field.specs.Gf16.{inverse}
+use Rattle.field.specs.Inverse.{inverse}
 use Rattle.algebra.specs.Every.{values, values-at}
 use Rattle.field.proofs.inv.Statement.{statement}
 use Rattle.field.proofs.inv.Tie as tie

@@ -9,7 +9,7 @@ use Rattle.buffer.specs.Bytes.{byte}
 use Rattle.buffer.specs.RangeLaws.{below-four}
 use Rattle.buffer.specs.LoopWrites.{Filling, filling-start, filling-turn, filling-end}
 use Rattle.code.specs.Bytes.{mixed}
-use Rattle.group.specs.Rebuilding.{fourBodies}
+use Rattle.group.specs.Four.{fourBodies}
 use Rattle.group.specs.WeighedLaws.{weighed-entries}
 use Rattle.group.proofs.rebuild_body.Statement.{statement}
 use Rattle.group.proofs.rebuild_body.Tie as tie

@@ -13,7 +13,7 @@ use borrow.Author.Tests.{eqb-true, eqb-false, ltb-true, ltb-false, lt-ltb, le-lt
 use Rattle.buffer.specs.Choice.{pick}
 use Rattle.buffer.specs.ChoiceLaws.{by-test, by-pick, pick-true, pick-false}
 use Rattle.buffer.specs.TestLaws.{not-both, and-first, and-second, and-false-first}
-use Rattle.buffer.specs.Range.{entries}
+use Rattle.buffer.specs.Loops.{entries}
 use Rattle.buffer.specs.RangeLaws.{length-entries, getD-entries, first-le, first-misses}
 use Rattle.buffer.specs.Bytes.{byte, zeros, part}
 use Rattle.buffer.specs.ByteLaws.{byte-past, byte-part, be32-lt}

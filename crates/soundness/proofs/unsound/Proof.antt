@@ -1,6 +1,6 @@
 -- `soundness::unsound` meets its contract. Assumes nothing.
 use mathlib.Core.Path.{refl}
-use Rattle.buffer.specs.Range.{entries}
+use Rattle.buffer.specs.Loops.{entries}
 use Rattle.soundness.proofs.unsound.Statement.{statement}
 use Rattle.soundness.proofs.unsound.Tie as tie
 

@@ -4,7 +4,7 @@ use Prim.Native.Nat.{_-_}
 use Rattle.buffer.specs.Bytes.{byte}
 use Rattle.buffer.specs.LoopWrites.{Filling, filling-start, filling-turn}
 use Rattle.group.specs.Parity.{parity}
-use Rattle.group.specs.Rebuilding.{fourBodies}
+use Rattle.group.specs.Four.{fourBodies}
 use Rattle.splitting.proofs.ParitySums.{place-zero, place-one, place-two, parity-filled}
 use Rattle.splitting.proofs.parities.fill.Statement.{statement}
 use Rattle.splitting.proofs.parities.fill.Tie as tie

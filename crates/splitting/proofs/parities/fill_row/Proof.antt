@@ -2,7 +2,7 @@
 use borrow.Author.Needs.{needs}
 use Prim.Native.Nat.{_-_}
 use mathlib.Core.Path.{ap, _∙_}
-use Rattle.buffer.specs.Range.{entries}
+use Rattle.buffer.specs.Loops.{entries}
 use Rattle.buffer.specs.LoopWrites.{Filling, filling-start, filling-turn, filling-end}
 use Rattle.field.specs.Byte.{scale}
 use Rattle.splitting.specs.Steps.{scaledRow}

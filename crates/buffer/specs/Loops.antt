@@ -1,0 +1,22 @@
+-- What a loop over 0 to n - 1 does: steps in a row, a list filled entry by entry, a test of every byte. Assumes nothing.
+use Prim.Native.Nat.{ℕ, zero, suc}
+use mathlib.Core.Bool.{Bool}
+use mathlib.Core.List.{List, [], _∷_}
+use lib.Dec.{eqb}
+use lib.ListN.{length}
+use Rattle.buffer.specs.Bytes.{byte}
+use Rattle.buffer.specs.Range.{all}
+
+-- every byte is zero
+unfoldable pub allZero : List ℕ → Bool
+allZero s = all (length s) (λ i. eqb (byte s i) 0)
+
+-- f 0 to f (n - 1), one after the other
+unfoldable pub iter : {A : Type 0} → ℕ → (ℕ → A → A) → A → A
+iter zero f a = a
+iter (suc n) f a = f n (iter n f a)
+
+-- the list of the numbers f 0 to f (n - 1)
+unfoldable pub entries : ℕ → (ℕ → ℕ) → List ℕ
+entries zero f = []
+entries (suc n) f = f 0 ∷ entries n (λ (k : ℕ). f (suc k))
