@@ -6,8 +6,7 @@ use mathlib.Core.Bool.{_&&_}
 use lib.Dec.{eqb, ltb}
 use Rattle.buffer.specs.Choice.{pick}
 use Rattle.group.specs.CheckRecord.{checkRecord}
-use Rattle.model.specs.Layout.{Store, withSlots, withChecks}
-use Rattle.model.specs.StoreLaws.{withDstates, withCstates}
+use Rattle.model.specs.Layout.{Store, changed, withSlots, withChecks}
 use Rattle.model.specs.Reads.{wholeSlot}
 
 -- ---- first the data units that are out are rebuilt
@@ -39,8 +38,14 @@ unfoldable pub unitsMade : Store → ℕ → ℕ → Store
 unitsMade v g t = withChecks v (checksMade v g t)
 
 -- ---- then all that are out are put in service
-unfoldable pub dataServing : Store → ℕ → ℕ → Store
-dataServing v g t = withDstates v (λ u. pick (eqb (u / 4) g && eqb (v .dstate u) 2 && ltb (u % 4) t) 1 (v .dstate u))
+-- the state of a unit then
+unfoldable pub inService : ℕ → ℕ
+inService state = pick (eqb state 2) 1 state
 
-unfoldable pub checksServing : Store → ℕ → ℕ → Store
-checksServing v g t = withCstates v (λ c. pick (eqb (c / 3) g && eqb (v .cstate c) 2 && ltb (c % 3) t) 1 (v .cstate c))
+unfoldable pub unitsServing : Store → ℕ → Store
+unitsServing v g =
+    changed v (v .front)
+    (λ u. pick (eqb (u / 4) g && eqb (v .dstate u) 2) 1 (v .dstate u))
+    (λ c. pick (eqb (c / 3) g && eqb (v .cstate c) 2) 1 (v .cstate c))
+    (v .slot)
+    (v .check)
