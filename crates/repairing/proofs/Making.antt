@@ -21,7 +21,7 @@ use Rattle.model.specs.Layout.{Store, bytes, view, slotAt, checkAt, withChecks}
 use Rattle.model.specs.LayoutLaws.{Shaped, bytes-view, view-shaped, view-bytes}
 use Rattle.model.specs.RunLaws.{upd2, run, run-unit, length-run}
 use Rattle.model.specs.RunTurns.{run-none, run-more}
-use Rattle.model.specs.StoreLaws.{checks-size, checks-shaped, checks-ext, checks-none, checks-again, check-put, size-of, same-long}
+use Rattle.model.specs.StoreLaws.{checks-size, checks-shaped, checks-ext, checks-none, checks-again, check-put, slot-within, size-of, same-long}
 use Rattle.lookup.specs.Slots.{drop-part}
 use Rattle.repairing.specs.Groups.{Group, CheckPlace}
 use Rattle.repairing.specs.Steps.{slotsOf, unitMade}
@@ -53,6 +53,10 @@ module _ {s : List ℕ} {g j r : ℕ} (h : CheckPlace s g j r) where
 
   wide : Wide 4 slotBytes (slotsOf (view s) g r)
   wide = slots-wide there r (rw (← size-of s) (h .rank))
+
+  -- the slots lie within the store
+  pub slot-room : (p : ℕ) → p < 4 → slotAt (byte s 5) (4 * g + p) r + slotBytes ≤ length s
+  slot-room p l = let k = h .group in slot-within (byte s 5) (4 * g + p) r (length s) (omega arith) (h .rank) (h .long)
 
   pub following-start : Following s g j r (zeros checkBytes) 0
   following-start = record { steps = stepping-start; long = length-zeros checkBytes }
