@@ -1,4 +1,4 @@
-pub mod Turns
+pub mod Renewed
 pub mod Kept
 pub mod Rebuilding
 pub mod Restoring

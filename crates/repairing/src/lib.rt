@@ -33,7 +33,7 @@ fn rebuild_unit(s: &mut [u8], u: u8, members: [u8; 4], weights: [u8; 4], table: 
 // Rebuilds the data units of group g that are out, from the first four members in service.
 fn rebuild_units(s: &mut [u8], g: u8, table: &[u8; 256])
     requires { ⌜ Repairable (now s) g × (now table ≡ products) ⌝ }
-    ensures { λ _. ⌜ now (s .exit) ≡ bytes (unitsRebuilt (view (now (s .entry))) g 4) ⌝ }
+    ensures { λ _. ⌜ now (s .exit) ≡ bytes (unitsRebuilt (view (now (s .entry))) g) ⌝ }
 {
     let members = lookup::members(s, g);
     let mut p: u8 = 0;
@@ -81,7 +81,7 @@ fn make_unit(s: &mut [u8], g: u8, j: u8, table: &[u8; 256])
 // Makes the check units of group g that are out from the data.
 fn make_units(s: &mut [u8], g: u8, table: &[u8; 256])
     requires { ⌜ Group (now s) g × (now table ≡ products) ⌝ }
-    ensures { λ _. ⌜ now (s .exit) ≡ bytes (unitsMade (view (now (s .entry))) g 3) ⌝ }
+    ensures { λ _. ⌜ now (s .exit) ≡ bytes (unitsMade (view (now (s .entry))) g) ⌝ }
 {
     let mut j: u8 = 0;
     while j < 3 {
