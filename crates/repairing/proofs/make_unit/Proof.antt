@@ -2,7 +2,7 @@
 use borrow.Author.Needs.{needs}
 use native.Mathlib.Omega.{arith}
 use native.Mathlib.Nat.{add-sub-cancel-left}
-use mathlib.Core.Path.{refl, _∙_}
+use mathlib.Core.Path.{_∙_}
 use Prim.Native.Nat.{_+_, _*_, _-_}
 use lib.ListN.{length, getD}
 use Rattle.buffer.specs.Bytes.{part, splice}
@@ -44,7 +44,7 @@ loop-again c =
     let z = at .before in
     let l = z .before .before .before in
     let e = l .before .before .before in
-    making-turn (e .pre .0) (e .pre .1) (l .loop .inv) refl (search needs) (at .check-at .ensures .0) (c .before .before .copy .ensures ∙ z .check-record .ensures) (simp add-sub-cancel-left)
+    making-turn (e .pre .0) (e .pre .1) (l .loop .inv) (search needs) (at .check-at .ensures .0) (c .before .before .copy .ensures ∙ z .check-record .ensures) (simp add-sub-cancel-left)
 
 returns : tie.Need-returns Inv-loop μ-loop
 returns c =

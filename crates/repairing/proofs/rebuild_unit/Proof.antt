@@ -1,13 +1,13 @@
 -- `repairing::rebuild_unit` meets its contract. Assumes nothing.
 use native.Mathlib.Nat.{add-sub-cancel-left}
-use mathlib.Core.Path.{refl, _∙_}
+use mathlib.Core.Path.{_∙_}
 use borrow.Author.Needs.{needs}
 use native.Mathlib.Omega.{arith}
 use Prim.Native.Nat.{_-_}
 use lib.ListN.{length, getD}
 use Rattle.buffer.specs.Bytes.{part, splice}
 use Rattle.model.specs.StoreLaws.{slot-within}
-use Rattle.repairing.proofs.Rebuilding.{Rebuilding, rebuilding-start, rebuilding-recipe, rebuilding-turn, rebuilding-end}
+use Rattle.repairing.proofs.Rebuilding.{Rebuilding, rebuilding-start, rebuilding-recipe, rebuilding-rank, rebuilding-turn, rebuilding-end}
 use Rattle.repairing.proofs.rebuild_unit.Statement.{statement}
 use Rattle.repairing.proofs.rebuild_unit.Tie as tie
 
@@ -24,7 +24,7 @@ rebuild-slot-requires : tie.Need-rebuild-slot-requires Inv-loop μ-loop
 rebuild-slot-requires c κs =
     let l = c .before .before .before in
     let e = l .before .before .before in
-    (search needs, rebuilding-recipe (e .pre .0) (l .loop .inv), search needs, e .pre .1)
+    (search needs, rebuilding-recipe (e .pre .0) (l .loop .inv), rebuilding-rank (e .pre .0) (l .loop .inv) (search needs), e .pre .1)
 
 part-copy-end : tie.Need-part-copy-end Inv-loop μ-loop
 part-copy-end c =
@@ -40,7 +40,7 @@ loop-again c =
     let z = at .before .before in
     let l = z .before .before .before .before in
     let e = l .before .before .before in
-    rebuilding-turn (e .pre .0) (l .loop .inv) refl (search needs) (at .slot-at .ensures .0) (c .before .before .copy .ensures ∙ z .rebuild-slot .ensures) (simp add-sub-cancel-left)
+    rebuilding-turn (e .pre .0) (l .loop .inv) (search needs) (at .slot-at .ensures .0) (c .before .before .copy .ensures ∙ z .rebuild-slot .ensures) (simp add-sub-cancel-left)
 
 returns : tie.Need-returns Inv-loop μ-loop
 returns c =
