@@ -19,6 +19,7 @@ use Rattle.model.specs.LayoutLaws.{Long, bytes-ext, bytes-view}
 use Rattle.repairing.specs.Groups.{Group}
 use Rattle.repairing.specs.Steps.{inService, unitsServing}
 
+-- ---- the state of one unit, among others and by itself
 pub byte-served : (l : List ℕ) (i : ℕ) → byte (map inService l) i ≡ inService (byte l i)
 unfolding inService pick
 byte-served [] i = refl

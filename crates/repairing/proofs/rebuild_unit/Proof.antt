@@ -24,7 +24,7 @@ rebuild-slot-requires : tie.Need-rebuild-slot-requires Inv-loop μ-loop
 rebuild-slot-requires c κs =
     let l = c .before .before .before in
     let e = l .before .before .before in
-    (search needs, rebuilding-recipe (e .pre .0) (l .loop .inv), rebuilding-rank (e .pre .0) (l .loop .inv) (search needs), e .pre .1)
+    (search needs, rebuilding-recipe (e .pre .0) (l .loop .inv), omega (arith, rebuilding-rank (e .pre .0) (l .loop .inv) (search needs)), e .pre .1)
 
 part-copy-end : tie.Need-part-copy-end Inv-loop μ-loop
 part-copy-end c =
