@@ -1,6 +1,6 @@
 -- Laws of `pick`, and proofs by cases on a test. Assumes nothing.
 use mathlib.Core.Path.{_≡_, refl}
-use mathlib.Core.Bool.{Bool, true, false}
+use mathlib.Core.Bool.{Bool, true, false, _&&_}
 use Rattle.buffer.specs.Choice.{pick}
 
 -- a proof by cases on a test, each with what the test said
@@ -40,3 +40,9 @@ pub pick-map {ℓ κ} : {A : Type ℓ} {B : Type κ} (f : A → B) (t : Bool) (x
 unfolding pick
 pick-map f true x y = refl
 pick-map f false x y = refl
+
+-- a pick within a pick, of which either may leave y
+pub pick-and {ℓ} : {A : Type ℓ} (s t : Bool) (x y : A) → pick s (pick t x y) y ≡ pick (s && t) x y
+unfolding pick
+pick-and true t x y = refl
+pick-and false t x y = refl

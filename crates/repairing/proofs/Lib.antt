@@ -1,4 +1,5 @@
-pub mod Turns
+pub mod Renewed
+pub mod Ranks
 pub mod Kept
 pub mod Rebuilding
 pub mod Restoring

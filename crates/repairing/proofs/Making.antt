@@ -1,16 +1,15 @@
 -- A check unit is made from the data rank by rank: one record, and what holds at each turn of the loop over the ranks. Assumes nothing.
 use Prim.Native.Nat.{ℕ, suc, _+_, _*_, _-_, _≤_, _<_}
-use mathlib.Core.Path.{_≡_, refl, sym, ap, ap₂, _∙_}
+use mathlib.Core.Path.{_≡_, sym, ap, ap₂, _∙_}
 use mathlib.Core.List.{List}
 use native.Mathlib.Omega.{arith}
-use native.Mathlib.Nat.{zero-add}
-use native.Mathlib.Numerals.{add-one}
-use lib.Dec.{eqb}
+use native.Mathlib.Nat.{mul-le-mul-right}
 use lib.ListN.{length, take, drop}
 use lib.Seq.{take-take}
-use Rattle.buffer.specs.Choice.{pick}
 use Rattle.buffer.specs.Bytes.{byte, zeros, part, splice}
-use Rattle.buffer.specs.ByteLaws.{length-zeros}
+use Rattle.buffer.specs.ByteLaws.{length-zeros, byte-splice-before}
+use Rattle.buffer.specs.SpliceLaws.{part-splice-before}
+use Rattle.buffer.specs.Table.{tab}
 use Rattle.buffer.specs.TableLaws.{Wide}
 use Rattle.buffer.specs.LoopWrites.{Stepping, stepping-start, stepping-turn, stepping-end}
 use Rattle.group.specs.Widths.{keyBytes, bodyBytes, slotBytes, checkBytes}
@@ -18,13 +17,12 @@ use Rattle.group.specs.CheckRecord.{checkRecord, patched}
 use Rattle.group.specs.CheckRecordLaws.{checkRecord-ext, length-checkRecord, length-key, length-body, length-patched}
 use Rattle.group.specs.MakingLaws.{patched-all}
 use Rattle.model.specs.Layout.{Store, bytes, view, slotAt, checkAt}
-use Rattle.model.specs.LayoutLaws.{Shaped, bytes-view, view-shaped, view-bytes}
-use Rattle.model.specs.RunLaws.{upd2, run, run-unit, length-run}
-use Rattle.model.specs.RunTurns.{run-none, run-more}
-use Rattle.model.specs.StoreLaws.{checks-size, checks-shaped, checks-ext, checks-none, checks-again, check-put, size-of, same-long, withChecks}
+use Rattle.model.specs.LayoutLaws.{bytes-view, view-shaped}
+use Rattle.model.specs.StoreLaws.{splice-check-unit, slot-within, checks-within, size-of}
 use Rattle.lookup.specs.Slots.{drop-part}
 use Rattle.repairing.specs.Groups.{Group, CheckPlace}
 use Rattle.repairing.specs.Steps.{slotsOf, unitMade}
+use Rattle.repairing.proofs.Ranks.{Writing, writing-start, writing-turn, writing-end}
 
 -- ---- one record: the four places follow, one after the other, in an empty record
 -- the slots of a group are slots
@@ -54,6 +52,10 @@ module _ {s : List ℕ} {g j r : ℕ} (h : CheckPlace s g j r) where
   wide : Wide 4 slotBytes (slotsOf (view s) g r)
   wide = slots-wide there r (rw (← size-of s) (h .rank))
 
+  -- the slots lie within the store
+  pub slot-room : (p : ℕ) → p < 4 → slotAt (byte s 5) (4 * g + p) r + slotBytes ≤ length s
+  slot-room p l = let k = h .group in slot-within (byte s 5) (4 * g + p) r (length s) (omega arith) (h .rank) (h .long)
+
   pub following-start : Following s g j r (zeros checkBytes) 0
   following-start = record { steps = stepping-start; long = length-zeros checkBytes }
 
@@ -69,83 +71,52 @@ module _ {s : List ℕ} {g j r : ℕ} (h : CheckPlace s g j r) where
   pub following-end : {x : List ℕ} {t : ℕ} → Following s g j r x t → 4 ≤ t → x ≡ checkRecord j (slotsOf (view s) g r)
   following-end m l = stepping-end (m .steps) l ∙ patched-all bodyBytes j (h .check) (slotsOf (view s) g r) wide
 
--- ---- a unit
--- the check records when the first t ranks of check unit j of group g are made
-abbrev so-far : Store → ℕ → ℕ → ℕ → ℕ → ℕ → List ℕ
-so-far v g j t = run (v .check) (3 * g + j) 0 t (λ r. checkRecord j (slotsOf v g r))
-
-pub record Making (s₀ : List ℕ) (g j : ℕ) (s : List ℕ) (t : ℕ) : Type 0 where
-  pub within : t ≤ byte s₀ 5
-  pub long : length s ≡ length s₀
-  pub five : byte s 5 ≡ byte s₀ 5
-  pub state : s ≡ bytes (withChecks (view s₀) (run (view s₀ .check) (3 * g + j) 0 t (λ r. checkRecord j (slotsOf (view s₀) g r))))
+-- ---- a unit, rank by rank
+abbrev pub Making : List ℕ → ℕ → ℕ → List ℕ → ℕ → Type 0
+Making s₀ g j = Writing (λ r. checkRecord j (slotsOf (view s₀) g r)) checkBytes (view s₀ .size) (checkAt (view s₀ .size) (3 * g + j) 0) s₀
 
 module _ {s₀ : List ℕ} {g j : ℕ} (h : Group s₀ g) (hj : j < 3) where
   abbrev v : Store
   v = view s₀
 
-  abbrev t-store : ℕ → Store
-  t-store t = withChecks v (so-far v g j t)
+  unit : 3 * g + j < 12
+  unit = let k = h .group in omega arith
 
-  shaped : (t : ℕ) → Shaped (t-store t)
-  shaped t =
-      checks-shaped v (so-far v g j t) (view-shaped s₀ (h .long)) (λ c r a b.
-      length-run (v .check) (3 * g + j) 0 t (λ r. checkRecord j (slotsOf v g r)) checkBytes c r (length-checkRecord bodyBytes j (slotsOf v g r) (slots-wide h r b)) (view-shaped s₀ (h .long) .check c r a b))
+  made : Wide (v .size) checkBytes (λ r. checkRecord j (slotsOf v g r))
+  made r l = length-checkRecord bodyBytes j (slotsOf v g r) (slots-wide h r l)
 
-  rest-kept : (t : ℕ) → t-store t .rest ≡ v .rest
-  unfolding withChecks
-  rest-kept t = refl
+  room : checkAt (v .size) (3 * g + j) 0 + checkBytes * v .size ≤ length s₀
+  room = checks-within (v .size) (3 * g + j) 0 (v .size) (length s₀) unit (omega arith) (rw (← size-of s₀) (h .long))
 
-  made : {s : List ℕ} {t : ℕ} → t ≤ byte s₀ 5 → s ≡ bytes (t-store t) → Making s₀ g j s t
-  made {s} {t} l e =
-      record {
-        within = l;
-        long = ap length e ∙ same-long (t-store t) s₀ (shaped t) (h .long) (checks-size v (so-far v g j t)) (rest-kept t);
-        five = size-of s ∙ seen-size ∙ checks-size v (so-far v g j t) ∙ sym (size-of s₀);
-        state = e;
-      }
-    where
-      seen-size : view s .size ≡ t-store t .size
-      seen-size = rw e (view-bytes (t-store t) (shaped t) .size)
+  module _ {s : List ℕ} {t : ℕ} (m : Making s₀ g j s t) where
+    -- the header and the data are as they were
+    five : byte s 5 ≡ byte s₀ 5
+    five = ap (λ x. byte x 5) (m .state) ∙ byte-splice-before (checkAt (v .size) (3 * g + j) 0) (checkBytes * t) _ s₀ 5 (omega (arith, room)) (omega arith)
 
-  -- the data are as they were
-  slots-kept : {s : List ℕ} {t : ℕ} → Making s₀ g j s t → (r p : ℕ) → r < v .size → p < 4 → slotsOf (view s) g r p ≡ slotsOf v g r p
-  unfolding slotsOf
-  slots-kept {s} {t} m r p l k =
-      let q : g < 4 = h .group in
-      ap (λ x. view x .slot (4 * g + p) r) (m .state)
-      ∙ view-bytes (t-store t) (shaped t) .slot (4 * g + p) r (omega arith) (rw (checks-size v (so-far v g j t)) l)
-      ∙ unfold withChecks in refl
+    slots-kept : (r p : ℕ) → r < byte s₀ 5 → p < 4 → slotsOf (view s) g r p ≡ slotsOf v g r p
+    unfolding slotsOf view
+    slots-kept r p l k =
+        let q : g < 4 = h .group in
+        let below : suc (4 * g + p) * byte s₀ 5 ≤ 16 * byte s₀ 5 = mul-le-mul-right (byte s₀ 5) (omega arith) in
+        ap (λ b. part (slotAt b (4 * g + p) r) slotBytes s) five
+        ∙ ap (part (slotAt (byte s₀ 5) (4 * g + p) r) slotBytes) (m .state)
+        ∙ part-splice-before (checkAt (v .size) (3 * g + j) 0) (checkBytes * t) (slotAt (byte s₀ 5) (4 * g + p) r) slotBytes _ s₀ (omega (arith, room)) (omega arith)
 
-  pub making-place : {s : List ℕ} {t : ℕ} → Making s₀ g j s t → t < byte s₀ 5 → CheckPlace s g j t
-  making-place m l = record { long = rw (m .five, m .long) (h .long); group = h .group; check = hj; rank = rw (m .five) l }
+    pub making-place : t < byte s₀ 5 → CheckPlace s g j t
+    making-place l = record { long = rw (five, m .long) (h .long); group = h .group; check = hj; rank = rw five l }
+
+    pub making-turn : {s′ z : List ℕ} {at : ℕ} → t < byte s₀ 5 → at ≡ checkAt (byte s₀ 5) (3 * g + j) t → z ≡ checkRecord j (slotsOf (view s) g t)
+        → s′ ≡ splice at checkBytes z s → Making s₀ g j s′ (t + 1)
+    making-turn lt ea ez es =
+        writing-turn made room m (rw (← size-of s₀) lt) (rw (← size-of s₀) (ea ∙ omega arith))
+        (ez ∙ checkRecord-ext j (slotsOf (view s) g t) (slotsOf v g t) (λ p k. slots-kept t p lt k)) es
+
+    pub making-end : byte s₀ 5 ≤ t → s ≡ bytes (unitMade (view s₀) g j)
+    unfolding unitMade
+    making-end l =
+        writing-end made room m (rw (← size-of s₀) l)
+        ∙ ap (splice (checkAt (v .size) (3 * g + j) 0) (checkBytes * v .size) (tab (v .size) (λ r. checkRecord j (slotsOf v g r)))) (sym (bytes-view s₀ (h .long)))
+        ∙ splice-check-unit v (view-shaped s₀ (h .long)) (3 * g + j) (λ r. checkRecord j (slotsOf v g r)) unit
 
   pub making-start : Making s₀ g j s₀ 0
-  making-start =
-      made (omega arith)
-      (sym (bytes-view s₀ (h .long)) ∙ ap bytes (sym (checks-none v)) ∙ checks-ext v (v .check) (so-far v g j 0) (λ c r a b. run-none (v .check) (3 * g + j) 0 (λ r. checkRecord j (slotsOf v g r)) c r))
-
-  pub making-turn : {s s′ z : List ℕ} {t b at : ℕ} → Making s₀ g j s t → b ≡ byte s₀ 5 → t < b → at ≡ checkAt b (3 * g + j) t → z ≡ checkRecord j (slotsOf (view s) g t)
-      → s′ ≡ splice at checkBytes z s → Making s₀ g j s′ (t + 1)
-  making-turn {s} {s′} {z} {t} {b} {at} m eb lt ea ez es =
-      let size : b ≡ v .size = eb ∙ size-of s₀ in
-      let q : g < 4 = h .group in
-      let new : z ≡ checkRecord j (slotsOf v g t) = ez ∙ checkRecord-ext j (slotsOf (view s) g t) (slotsOf v g t) (λ p k. slots-kept m t p (rw (← size) lt) k) in
-      let place : 0 + t ≡ t = zero-add t in
-      made (omega arith)
-      (check-put (t-store t) (shaped t) s (m .state) b (size ∙ sym (checks-size v (so-far v g j t))) s′ z at (3 * g + j) t ea (omega arith) lt es
-      ∙ ap bytes (checks-again v (so-far v g j t) (3 * g + j) t z)
-      ∙ ap (λ x. bytes (withChecks v (upd2 (so-far v g j t) (3 * g + j) t x))) new
-      ∙ checks-ext v (upd2 (so-far v g j t) (3 * g + j) t (checkRecord j (slotsOf v g t))) (so-far v g j (suc t)) (λ c r a d.
-      ap (λ k. upd2 (so-far v g j t) (3 * g + j) k (checkRecord j (slotsOf v g k)) c r) (sym place)
-      ∙ run-more (v .check) (3 * g + j) 0 (λ r. checkRecord j (slotsOf v g r)) t c r)
-      ∙ ap (λ k. bytes (t-store k)) (sym (add-one t)))
-
-  pub making-end : {s : List ℕ} {t : ℕ} → Making s₀ g j s t → byte s₀ 5 ≤ t → s ≡ bytes (unitMade (view s₀) g j)
-  unfolding unitMade
-  making-end {s} {t} m l =
-      let all : t ≡ v .size = let k = m .within in let e = size-of s₀ in omega arith in
-      m .state
-      ∙ ap (λ k. bytes (t-store k)) all
-      ∙ checks-ext v (so-far v g j (v .size)) (λ c r. pick (eqb c (3 * g + j)) (checkRecord j (slotsOf v g r)) (v .check c r)) (λ c r a b.
-      run-unit (v .check) (3 * g + j) (v .size) (λ r. checkRecord j (slotsOf v g r)) c r b)
+  making-start = writing-start made room

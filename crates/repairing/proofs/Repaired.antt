@@ -1,4 +1,4 @@
--- The four steps of a repair, one after the other, leave the repaired store. Assumes nothing.
+-- The three steps of a repair, one after the other, leave the repaired store. Assumes nothing.
 use Prim.Native.Nat.{ℕ, _+_, _*_, _/_, _%_, _<_}
 use mathlib.Core.Path.{_≡_, ap, ap₂, _∙_}
 use mathlib.Core.Bool.{_&&_}
@@ -12,15 +12,13 @@ use Rattle.group.specs.CheckRecord.{checkRecord}
 use Rattle.group.specs.CheckRecordLaws.{checkRecord-ext}
 use Rattle.model.specs.Layout.{Store, bytes, view}
 use Rattle.model.specs.LayoutLaws.{Shaped, Same, bytes-ext, view-bytes}
-use Rattle.model.specs.StoreLaws.{withDstates, withCstates, long-at, withSlots, withChecks}
+use Rattle.model.specs.StoreLaws.{long-at, withSlots, withChecks}
 use Rattle.model.specs.Reads.{wholeSlot}
 use Rattle.model.specs.Changes.{repaired}
 use Rattle.repairing.specs.Groups.{Group, Repairable}
-use Rattle.repairing.specs.Steps.{slotsRebuilt, unitsRebuilt, slotsOf, checksMade, unitsMade, dataServing, checksServing}
-use Rattle.repairing.proofs.Turns.{turns-all}
+use Rattle.repairing.specs.Steps.{unitsRebuilt, slotsOf, unitsMade, unitsServing}
 use Rattle.repairing.proofs.Restoring.{restored-shaped}
 use Rattle.repairing.proofs.Remaking.{remade-shaped}
-use Rattle.repairing.proofs.Serving.{data-is, data-shaped}
 
 -- ---- a step that is done
 module _ (t : Store) (shaped : Shaped t) {s : List ℕ} (e : s ≡ bytes t) where
@@ -30,29 +28,20 @@ module _ (t : Store) (shaped : Shaped t) {s : List ℕ} (e : s ≡ bytes t) wher
   step-seen : Same (view s) t
   step-seen = rw e (view-bytes t shaped)
 
--- ---- the steps at their ends, where no turn is left
-rebuilt-all : (v : Store) (g u r : ℕ) → slotsRebuilt v g 4 u r ≡ pick (eqb (u / 4) g) (wholeSlot v u r) (v .slot u r)
-unfolding slotsRebuilt
-rebuilt-all v g u r = turns-all (eqb (u / 4) g) (u % 4) 4 (wholeSlot v u r) (v .slot u r) (omega arith)
-
-made-all : (v : Store) (g c r : ℕ) → checksMade v g 3 c r ≡ pick (eqb (c / 3) g && eqb (v .cstate c) 2) (checkRecord (c % 3) (slotsOf v g r)) (v .check c r)
-unfolding checksMade
-made-all v g c r = turns-all (eqb (c / 3) g && eqb (v .cstate c) 2) (c % 3) 3 (checkRecord (c % 3) (slotsOf v g r)) (v .check c r) (omega arith)
-
-module _ {s₀ s₁ : List ℕ} {g : ℕ} (h : Repairable s₀ g) (e₁ : s₁ ≡ bytes (unitsRebuilt (view s₀) g 4)) where
+module _ {s₀ s₁ : List ℕ} {g : ℕ} (h : Repairable s₀ g) (e₁ : s₁ ≡ bytes (unitsRebuilt (view s₀) g)) where
   abbrev v : Store
   v = view s₀
 
   pub group-rebuilt : Group s₁ g
-  group-rebuilt = step-group (unitsRebuilt v g 4) (restored-shaped h 4) e₁ g (h .group)
+  group-rebuilt = step-group (unitsRebuilt v g) (restored-shaped h) e₁ g (h .group)
 
-  seen₁ : Same (view s₁) (unitsRebuilt v g 4)
-  seen₁ = step-seen (unitsRebuilt v g 4) (restored-shaped h 4) e₁
+  seen₁ : Same (view s₁) (unitsRebuilt v g)
+  seen₁ = step-seen (unitsRebuilt v g) (restored-shaped h) e₁
 
   -- the data are whole
   whole₁ : (u r : ℕ) → u < 16 → r < v .size → view s₁ .slot u r ≡ pick (eqb (u / 4) g) (wholeSlot v u r) (v .slot u r)
   unfolding unitsRebuilt withSlots
-  whole₁ u r a b = seen₁ .slot u r a b ∙ rebuilt-all v g u r
+  whole₁ u r a b = seen₁ .slot u r a b
 
   slots₁ : (r p : ℕ) → r < v .size → p < 4 → slotsOf (view s₁) g r p ≡ wholeSlot v (4 * g + p) r
   unfolding slotsOf
@@ -60,12 +49,12 @@ module _ {s₀ s₁ : List ℕ} {g : ℕ} (h : Repairable s₀ g) (e₁ : s₁ �
       let k = h .group in
       whole₁ (4 * g + p) r (omega arith) b ∙ pick-true (eq-eqb ((4 * g + p) / 4) g (omega arith)) (wholeSlot v (4 * g + p) r) (v .slot (4 * g + p) r)
 
-  module _ {s₂ : List ℕ} (e₂ : s₂ ≡ bytes (unitsMade (view s₁) g 3)) where
+  module _ {s₂ : List ℕ} (e₂ : s₂ ≡ bytes (unitsMade (view s₁) g)) where
     pub group-made : Group s₂ g
-    group-made = step-group (unitsMade (view s₁) g 3) (remade-shaped group-rebuilt 3) e₂ g (h .group)
+    group-made = step-group (unitsMade (view s₁) g) (remade-shaped group-rebuilt) e₂ g (h .group)
 
-    seen₂ : Same (view s₂) (unitsMade (view s₁) g 3)
-    seen₂ = step-seen (unitsMade (view s₁) g 3) (remade-shaped group-rebuilt 3) e₂
+    seen₂ : Same (view s₂) (unitsMade (view s₁) g)
+    seen₂ = step-seen (unitsMade (view s₁) g) (remade-shaped group-rebuilt) e₂
 
     -- the check units that were out are made from them
     check₂ : (c r : ℕ) → c < 12 → r < v .size
@@ -74,46 +63,21 @@ module _ {s₀ s₁ : List ℕ} {g : ℕ} (h : Repairable s₀ g) (e₁ : s₁ �
     check₂ c r a b =
         let size : view s₁ .size ≡ v .size = seen₁ .size in
         seen₂ .check c r a (rw size b)
-        ∙ made-all (view s₁) g c r
         ∙ ap₂ (λ x y. pick (eqb (c / 3) g && eqb (view s₁ .cstate c) 2) x y) (checkRecord-ext (c % 3) (slotsOf (view s₁) g r) (λ p. wholeSlot v (4 * g + p) r) (λ p l. slots₁ r p b l)) (seen₁ .check c r a b)
         ∙ ap (λ x. pick (eqb (c / 3) g && eqb x 2) (checkRecord (c % 3) (λ p. wholeSlot v (4 * g + p) r)) (v .check c r)) (seen₁ .cstate c a)
 
-    module _ {s₃ : List ℕ} (e₃ : s₃ ≡ bytes (dataServing (view s₂) g 4)) where
-      served : Shaped (dataServing (view s₂) g 4)
-      served = rw (← data-is group-made 4) (data-shaped group-made 4)
-
-      pub group-served : Group s₃ g
-      group-served = step-group (dataServing (view s₂) g 4) served e₃ g (h .group)
-
-      seen₃ : Same (view s₃) (dataServing (view s₂) g 4)
-      seen₃ = step-seen (dataServing (view s₂) g 4) served e₃
-
-      dstate₃ : (u : ℕ) → u < 16 → view s₃ .dstate u ≡ pick (eqb (u / 4) g && eqb (v .dstate u) 2) 1 (v .dstate u)
-      unfolding dataServing unitsMade unitsRebuilt withDstates withChecks withSlots
-      dstate₃ u a =
-          seen₃ .dstate u a
-          ∙ turns-all (eqb (u / 4) g && eqb (view s₂ .dstate u) 2) (u % 4) 4 1 (view s₂ .dstate u) (omega arith)
-          ∙ ap (λ x. pick (eqb (u / 4) g && eqb x 2) 1 x) (seen₂ .dstate u a ∙ seen₁ .dstate u a)
-
-      cstate₃ : (c : ℕ) → c < 12 → view s₃ .cstate c ≡ v .cstate c
-      unfolding dataServing unitsMade unitsRebuilt withDstates withChecks withSlots
-      cstate₃ c a = seen₃ .cstate c a ∙ seen₂ .cstate c a ∙ seen₁ .cstate c a
-
-      -- THE STEPS TOGETHER
-      pub group-repaired : {s₄ : List ℕ} → s₄ ≡ bytes (checksServing (view s₃) g 3) → s₄ ≡ bytes (repaired (view s₀) g)
-      unfolding checksServing dataServing unitsMade unitsRebuilt withCstates withDstates withChecks withSlots repaired
-      group-repaired e =
-          let size₁ : view s₁ .size ≡ v .size = seen₁ .size in
-          let size₂ : view s₂ .size ≡ v .size = seen₂ .size ∙ size₁ in
-          e
-          ∙ bytes-ext _ _ (record {
-            front = seen₃ .front ∙ seen₂ .front ∙ seen₁ .front;
-            size = seen₃ .size ∙ size₂;
-            dstate = dstate₃;
-            cstate = λ c a.
-                turns-all (eqb (c / 3) g && eqb (view s₃ .cstate c) 2) (c % 3) 3 1 (view s₃ .cstate c) (omega arith)
-                ∙ ap (λ x. pick (eqb (c / 3) g && eqb x 2) 1 x) (cstate₃ c a);
-            slot = λ u r a b. seen₃ .slot u r a (rw size₂ b) ∙ seen₂ .slot u r a (rw size₁ b) ∙ whole₁ u r a b;
-            check = λ c r a b. seen₃ .check c r a (rw size₂ b) ∙ check₂ c r a b;
-            rest = seen₃ .rest ∙ seen₂ .rest ∙ seen₁ .rest;
-          })
+    -- THE STEPS TOGETHER
+    pub group-repaired : {s₃ : List ℕ} → s₃ ≡ bytes (unitsServing (view s₂) g) → s₃ ≡ bytes (repaired (view s₀) g)
+    unfolding unitsServing unitsMade unitsRebuilt withChecks withSlots repaired
+    group-repaired e =
+        let size : view s₁ .size ≡ v .size = seen₁ .size in
+        e
+        ∙ bytes-ext _ _ (record {
+          front = seen₂ .front ∙ seen₁ .front;
+          size = seen₂ .size ∙ size;
+          dstate = λ u a. ap (λ x. pick (eqb (u / 4) g && eqb x 2) 1 x) (seen₂ .dstate u a ∙ seen₁ .dstate u a);
+          cstate = λ c a. ap (λ x. pick (eqb (c / 3) g && eqb x 2) 1 x) (seen₂ .cstate c a ∙ seen₁ .cstate c a);
+          slot = λ u r a b. seen₂ .slot u r a (rw size b) ∙ whole₁ u r a b;
+          check = λ c r a b. check₂ c r a b;
+          rest = seen₂ .rest ∙ seen₁ .rest;
+        })

@@ -1,6 +1,7 @@
 // Repair of a group: its lost data units are rebuilt, its lost check units are made from the data, and all of them are put in service.
 ghost use mathlib.Core.Path.{_≡_};
 ghost use mathlib.Core.Bool.{true};
+ghost use mathlib.Core.List.{map};
 ghost use Prim.Native.Nat.{_+_, _*_, _<_};
 ghost use Rattle.field.specs.Table.{products};
 ghost use Rattle.group.specs.CheckRecord.{checkRecord};
@@ -11,7 +12,7 @@ ghost use Rattle.model.specs.Perform.{outcome, plain, perform};
 ghost use Rattle.lookup.specs.Sized.{Sized};
 ghost use Rattle.lookup.specs.Slots.{Recipe};
 ghost use Rattle.repairing.specs.Groups.{Group, CheckPlace, Repairable};
-ghost use Rattle.repairing.specs.Steps.{slotsOf, unitRebuilt, unitsRebuilt, unitMade, unitsMade, dataServing, checksServing};
+ghost use Rattle.repairing.specs.Steps.{slotsOf, unitRebuilt, unitsRebuilt, unitMade, unitsMade, inService, unitsServing};
 
 // Rebuilds the slots of data unit u, which is out, rank by rank.
 fn rebuild_unit(s: &mut [u8], u: u8, members: [u8; 4], weights: [u8; 4], table: &[u8; 256])
@@ -32,7 +33,7 @@ fn rebuild_unit(s: &mut [u8], u: u8, members: [u8; 4], weights: [u8; 4], table: 
 // Rebuilds the data units of group g that are out, from the first four members in service.
 fn rebuild_units(s: &mut [u8], g: u8, table: &[u8; 256])
     requires { ⌜ Repairable (now s) g × (now table ≡ products) ⌝ }
-    ensures { λ _. ⌜ now (s .exit) ≡ bytes (unitsRebuilt (view (now (s .entry))) g 4) ⌝ }
+    ensures { λ _. ⌜ now (s .exit) ≡ bytes (unitsRebuilt (view (now (s .entry))) g) ⌝ }
 {
     let members = lookup::members(s, g);
     let mut p: u8 = 0;
@@ -80,7 +81,7 @@ fn make_unit(s: &mut [u8], g: u8, j: u8, table: &[u8; 256])
 // Makes the check units of group g that are out from the data.
 fn make_units(s: &mut [u8], g: u8, table: &[u8; 256])
     requires { ⌜ Group (now s) g × (now table ≡ products) ⌝ }
-    ensures { λ _. ⌜ now (s .exit) ≡ bytes (unitsMade (view (now (s .entry))) g 3) ⌝ }
+    ensures { λ _. ⌜ now (s .exit) ≡ bytes (unitsMade (view (now (s .entry))) g) ⌝ }
 {
     let mut j: u8 = 0;
     while j < 3 {
@@ -91,34 +92,29 @@ fn make_units(s: &mut [u8], g: u8, table: &[u8; 256])
     }
 }
 
-// Puts the data units of group g that are out in service.
-fn serve_data(s: &mut [u8], g: u8)
-    requires { ⌜ Group (now s) g ⌝ }
-    ensures { λ _. ⌜ now (s .exit) ≡ bytes (dataServing (view (now (s .entry))) g 4) ⌝ }
+// Puts the units that are out in service, of these states.
+fn put_in_service(states: &mut [u8])
+    ensures { λ _. ⌜ now (states .exit) ≡ map inService (now (states .entry)) ⌝ }
 {
-    let mut p: u8 = 0;
-    while p < 4 {
-        let at = 8 + buffer::wide(4 * g + p);
-        if s[at] == 2 {
-            s[at] = 1;
+    let mut i = 0;
+    while i < states.len() {
+        if states[i] == 2 {
+            states[i] = 1;
         }
-        p += 1;
+        i += 1;
     }
 }
 
-// Puts the check units of group g that are out in service.
-fn serve_checks(s: &mut [u8], g: u8)
+// Puts the units of group g that are out in service.
+fn serve_units(s: &mut [u8], g: u8)
     requires { ⌜ Group (now s) g ⌝ }
-    ensures { λ _. ⌜ now (s .exit) ≡ bytes (checksServing (view (now (s .entry))) g 3) ⌝ }
+    ensures { λ _. ⌜ now (s .exit) ≡ bytes (unitsServing (view (now (s .entry))) g) ⌝ }
 {
-    let mut j: u8 = 0;
-    while j < 3 {
-        let at = 24 + buffer::wide(3 * g + j);
-        if s[at] == 2 {
-            s[at] = 1;
-        }
-        j += 1;
-    }
+    let group = buffer::wide(g);
+    let data_at = 8 + 4 * group;
+    put_in_service(&mut s[data_at..data_at + 4]);
+    let checks_at = 24 + 3 * group;
+    put_in_service(&mut s[checks_at..checks_at + 3]);
 }
 
 // Repairs group g, which is not beyond recovery.
@@ -129,8 +125,7 @@ fn repair_group(s: &mut [u8], g: u8)
     let table = field::table();
     rebuild_units(s, g, &table);
     make_units(s, g, &table);
-    serve_data(s, g);
-    serve_checks(s, g);
+    serve_units(s, g);
 }
 
 // The number of a repair, of a store that is sound or not.

@@ -2,7 +2,7 @@
 use borrow.Author.Needs.{needs}
 use native.Mathlib.Omega.{arith}
 use native.Mathlib.Nat.{add-sub-cancel-left}
-use mathlib.Core.Path.{refl, _∙_}
+use mathlib.Core.Path.{_∙_}
 use Prim.Native.Nat.{_+_, _*_, _-_}
 use lib.ListN.{length, getD}
 use Rattle.buffer.specs.Bytes.{part, splice}
@@ -10,20 +10,12 @@ use Rattle.model.specs.StoreLaws.{check-within}
 use Rattle.repairing.proofs.Making.{Making, making-start, making-place, making-turn, making-end}
 use Rattle.repairing.proofs.make_unit.Statement.{statement}
 use Rattle.repairing.proofs.make_unit.Tie as tie
-use Rattle.repairing.proofs.make_unit.Reads as reads
-use Rattle.repairing.proofs.make_unit.Lts as lts
-use Rattle.buffer.proofs.copy.Reads as copy-reads
-use Rattle.lookup.proofs.check_at.Reads as check-at-reads
-use Rattle.repairing.proofs.check_record.Reads as check-record-reads
 
 abbrev Inv-loop : tie.InvT-loop
 Inv-loop s₀ g j table b r₀ s r = Making s₀ g j s r
 
 abbrev μ-loop : tie.MeasureT-loop
 μ-loop s₀ g j table b r₀ s r = b - r
-
-slice-read-b : tie.Need-slice-read-b Inv-loop μ-loop
-slice-read-b c = search needs
 
 loop-holds : tie.Need-loop-holds Inv-loop μ-loop
 loop-holds c =
@@ -36,41 +28,14 @@ check-record-requires c κs =
     let e = l .before .before .before in
     (making-place (e .pre .0) (e .pre .1) (l .loop .inv) (search needs), e .pre .2)
 
-mul-check-at : tie.Need-mul-check-at Inv-loop μ-loop
-mul-check-at c = search needs
-
-add-check-at : tie.Need-add-check-at Inv-loop μ-loop
-add-check-at c = search needs
-
-check-at-requires : tie.Need-check-at-requires Inv-loop μ-loop
-check-at-requires c κs = search needs
-
-add-copy : tie.Need-add-copy Inv-loop μ-loop
-add-copy c = search needs
-
-sub-copy : tie.Need-sub-copy Inv-loop μ-loop
-sub-copy c = search needs
-
-part-copy-start : tie.Need-part-copy-start Inv-loop μ-loop
-part-copy-start c = search needs
-
 part-copy-end : tie.Need-part-copy-end Inv-loop μ-loop
 part-copy-end c =
     let l = c .before .before .before .before in
     let e = l .before .before .before in
     omega (arith, check-within (getD (e .args .s .now) 5 0) (3 * e .args .g + e .args .j) (l .loop .r) (length (e .args .s .now)) (omega arith) (search needs) (e .pre .0 .long))
 
-slice-aggregate-copy : tie.Need-slice-aggregate-copy Inv-loop μ-loop
-slice-aggregate-copy c = search needs
-
-copy-requires : tie.Need-copy-requires Inv-loop μ-loop
-copy-requires c κs = search needs
-
 add-r : tie.Need-add-r Inv-loop μ-loop
 add-r c = let k = c .before .before .before .before .before .before .before .before .before .before in omega (arith, k .slice-known2 .given 5)
-
-loop-less : tie.Need-loop-less Inv-loop μ-loop
-loop-less c = search needs
 
 loop-again : tie.Need-loop-again Inv-loop μ-loop
 unfolding part splice
@@ -79,10 +44,7 @@ loop-again c =
     let z = at .before in
     let l = z .before .before .before in
     let e = l .before .before .before in
-    making-turn (e .pre .0) (e .pre .1) (l .loop .inv) refl (search needs) (at .check-at .ensures .0) (c .before .before .copy .ensures ∙ z .check-record .ensures) (simp add-sub-cancel-left)
-
-same-length : tie.Need-same-length Inv-loop μ-loop
-same-length c = search needs
+    making-turn (e .pre .0) (e .pre .1) (l .loop .inv) (search needs) (at .check-at .ensures .0) (c .before .before .copy .ensures ∙ z .check-record .ensures) (simp add-sub-cancel-left)
 
 returns : tie.Need-returns Inv-loop μ-loop
 returns c =
@@ -95,20 +57,20 @@ make-unit-spec =
     (tie.spec
     Inv-loop
     μ-loop
-    slice-read-b
+    (λ c. search needs)
     loop-holds
     check-record-requires
-    mul-check-at
-    add-check-at
-    check-at-requires
-    add-copy
-    sub-copy
-    part-copy-start
+    (λ c. search needs)
+    (λ c. search needs)
+    (λ c κs. search needs)
+    (λ c. search needs)
+    (λ c. search needs)
+    (λ c. search needs)
     part-copy-end
-    slice-aggregate-copy
-    copy-requires
+    (λ c. search needs)
+    (λ c κs. search needs)
     add-r
-    loop-less
+    (λ c. search needs)
     loop-again
-    same-length
+    (λ c. search needs)
     returns)

@@ -7,12 +7,6 @@ use Rattle.lookup.specs.States.{state-byte}
 use Rattle.repairing.proofs.Restoring.{Restoring, restoring-start, restoring-unit, restoring-members, restoring-off, restoring-on, restoring-end}
 use Rattle.repairing.proofs.rebuild_units.Statement.{statement}
 use Rattle.repairing.proofs.rebuild_units.Tie as tie
-use Rattle.repairing.proofs.rebuild_units.Reads as reads
-use Rattle.repairing.proofs.rebuild_units.Lts as lts
-use Rattle.lookup.proofs.state.Reads as state-reads
-use Rattle.lookup.proofs.members.Reads as members-reads
-use Rattle.repairing.proofs.rebuild_unit.Reads as rebuild-unit-reads
-use Rattle.lookup.proofs.weights.Reads as weights-reads
 
 abbrev Inv-loop : tie.InvT-loop
 Inv-loop s₀ g table members p₀ s p = Restoring s₀ g s p
@@ -26,15 +20,6 @@ members-requires c κs = (c .before .before .pre .0 .sized, c .before .before .p
 loop-holds : tie.Need-loop-holds Inv-loop μ-loop
 loop-holds c = restoring-start (c .before .before .before .pre .0)
 
-mul-u : tie.Need-mul-u Inv-loop μ-loop
-mul-u c = search needs
-
-add-u : tie.Need-add-u Inv-loop μ-loop
-add-u c = search needs
-
-state-requires : tie.Need-state-requires Inv-loop μ-loop
-state-requires c κs = search needs
-
 weights-requires : tie.Need-weights-requires Inv-loop μ-loop
 weights-requires c κs =
     let t = c .before .before in
@@ -47,12 +32,6 @@ rebuild-unit-requires c κs =
     let e = c .before .before .before .before .before .before .before .before .before .before .before in
     (c .before .weights .ensures, e .pre .1)
 
-add-p : tie.Need-add-p Inv-loop μ-loop
-add-p c = search needs
-
-loop-less : tie.Need-loop-less Inv-loop μ-loop
-loop-less c = search needs
-
 loop-again : tie.Need-loop-again Inv-loop μ-loop
 loop-again c =
     let l = c .before .before .before .before in
@@ -62,9 +41,6 @@ loop-again c =
     (λ w. restoring-on (e .pre .0) (l .loop .inv) (search needs) refl (w .2 .ensures) (w .7 ∙ w .4 .ensures))
     (λ w. rw (w .1) (restoring-off (e .pre .0) (l .loop .inv) (search needs) refl (λ k. w .0 .left (state ∙ sym (state-byte _ _) ∙ k))))
     (c .if1 .came)
-
-same-length : tie.Need-same-length Inv-loop μ-loop
-same-length c = search needs
 
 returns : tie.Need-returns Inv-loop μ-loop
 returns c =
@@ -79,13 +55,13 @@ rebuild-units-spec =
     μ-loop
     members-requires
     loop-holds
-    mul-u
-    add-u
-    state-requires
+    (λ c. search needs)
+    (λ c. search needs)
+    (λ c κs. search needs)
     weights-requires
     rebuild-unit-requires
-    add-p
-    loop-less
+    (λ c. search needs)
+    (λ c. search needs)
     loop-again
-    same-length
+    (λ c. search needs)
     returns)
