@@ -1,17 +1,13 @@
 -- Laws of single bytes, of numbers of 32 bits and of zeros: in a part, in a list in which a part was replaced, in two lists. Assumes nothing.
 use mathlib.Core.Path.{_≡_, refl, sym, ap, _∙_}
-use mathlib.Core.Bool.{true}
 use mathlib.Core.List.{List, _++_}
 use Prim.Native.Nat.{ℕ, zero, suc, _+_, _*_, _-_, _/_, _%_, _≤_, _<_}
 use native.Mathlib.Nat.{add-assoc, add-zero}
 use native.Mathlib.Omega.{arith}
-use lib.Dec.{eqb}
 use lib.ListN.{length, take, drop, length-replicate, replicate-append-replicate, List·getD-eq-default, List·getD-append}
 use lib.Seq.{getD-take, getD-drop, getD-append-add, ext-getD, length-take-le}
-use borrow.Author.Tests.{eq-eqb, eqb-true}
-use Rattle.buffer.specs.RangeLaws.{below-four, all-true, all-holds}
+use Rattle.buffer.specs.RangeLaws.{below-four}
 use Rattle.buffer.specs.Bytes.{byte, be32, bytes32, zeros, part, splice}
-use Rattle.buffer.specs.Loops.{allZero}
 use Rattle.buffer.specs.SpliceLaws.{length-part}
 
 -- ---- one byte
@@ -75,21 +71,8 @@ be32-lt s at h = omega (arith, h at, h (at + 1), h (at + 2), h (at + 3))
 pub be32-left : (x y : List ℕ) (i : ℕ) → i + 4 ≤ length x → be32 (x ++ y) i ≡ be32 x i
 be32-left x y i h = be32-ext (x ++ y) i x i (λ k l. byte-left x y (i + k) (omega arith))
 
-pub be32-right : (m : ℕ) (x y : List ℕ) (i : ℕ) → length x ≡ m → be32 (x ++ y) (m + i) ≡ be32 y i
-be32-right m x y i e = be32-ext (x ++ y) (m + i) y i (λ k l. rw add-assoc (byte-right m x y (i + k) e))
-
 pub be32-part : (at n : ℕ) (s : List ℕ) (i : ℕ) → i + 4 ≤ n → be32 (part at n s) i ≡ be32 s (at + i)
 be32-part at n s i h = be32-ext (part at n s) i s (at + i) (λ k l. byte-part at n s (i + k) (omega arith) ∙ ap (λ j. byte s j) (sym (add-assoc at i k)))
-
-pub be32-splice-before : (at n : ℕ) (new s : List ℕ) (i : ℕ) → at ≤ length s → i + 4 ≤ at → be32 (splice at n new s) i ≡ be32 s i
-be32-splice-before at n new s i h l = be32-ext (splice at n new s) i s i (λ k q. byte-splice-before at n new s (i + k) h (omega arith))
-
-pub be32-splice-inside : (at n : ℕ) (new s : List ℕ) (i : ℕ) → at ≤ length s → length new ≡ n → i + 4 ≤ n → be32 (splice at n new s) (at + i) ≡ be32 new i
-be32-splice-inside at n new s i h e l =
-    be32-ext (splice at n new s) (at + i) new i (λ k q. rw add-assoc (byte-splice-inside at n new s (i + k) h e (omega arith)))
-
-pub be32-splice-behind : (at n : ℕ) (new s : List ℕ) (i : ℕ) → at + n ≤ length s → length new ≡ n → at + n ≤ i → be32 (splice at n new s) i ≡ be32 s i
-be32-splice-behind at n new s i h e l = be32-ext (splice at n new s) i s i (λ k q. byte-splice-behind at n new s (i + k) h e (omega arith))
 
 -- ---- a number as four bytes, and back
 pub length-bytes32 : (x : ℕ) → length (bytes32 x) ≡ 4
@@ -169,16 +152,3 @@ zeros-append n m = replicate-append-replicate n m 0
 -- a list of which every byte is zero
 pub zeros-of : (n : ℕ) (s : List ℕ) → length s ≡ n → ((i : ℕ) → i < n → byte s i ≡ 0) → s ≡ zeros n
 zeros-of n s e h = bytes-ext s (zeros n) (e ∙ sym (length-zeros n)) (λ i l. h i (rw (sym e) l) ∙ sym (byte-zeros n i))
-
-pub part-zeros : (n at m : ℕ) → at + m ≤ n → part at m (zeros n) ≡ zeros m
-part-zeros n at m h =
-    zeros-of m (part at m (zeros n)) (length-part at m (zeros n) (rw length-zeros h)) (λ i l. byte-part at m (zeros n) i l ∙ byte-zeros n (at + i))
-
--- the test for zeros
-pub allZero-zeros : (n : ℕ) → allZero (zeros n) ≡ true
-unfolding allZero
-allZero-zeros n = all-holds (length (zeros n)) (λ i. eqb (byte (zeros n) i) 0) (λ i l. eq-eqb (byte (zeros n) i) 0 (byte-zeros n i))
-
-pub allZero-true : (s : List ℕ) → allZero s ≡ true → s ≡ zeros (length s)
-unfolding allZero
-allZero-true s h = zeros-of (length s) s refl (λ i l. eqb-true (byte s i) 0 (all-true (length s) (λ i. eqb (byte s i) 0) h i l))

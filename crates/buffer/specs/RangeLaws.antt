@@ -295,7 +295,3 @@ entries-ext (suc n) f g h =
 pub entries-of : (l : List ℕ) (n : ℕ) (f : ℕ → ℕ) → length l ≡ n → ((k : ℕ) → k < n → getD l k 0 ≡ f k) → l ≡ entries n f
 entries-of l n f e h =
     ext-getD 0 l (entries n f) (e ∙ sym (length-entries n f)) (λ k q. h k (rw (sym e) q) ∙ sym (getD-entries n f k 0 (rw (sym e) q)))
-
--- a list by its own entries
-pub entries-self : (l : List ℕ) → l ≡ entries (length l) (λ k. getD l k 0)
-entries-self l = entries-of l (length l) (λ k. getD l k 0) refl (λ k h. refl)

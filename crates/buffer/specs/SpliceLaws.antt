@@ -1,5 +1,5 @@
 -- Laws of parts and of parts replaced, over any place and width. Assumes nothing.
-use mathlib.Core.Path.{_≡_, refl, sym, ap, _∙_}
+use mathlib.Core.Path.{_≡_, sym, ap, _∙_}
 use mathlib.Core.List.{List, [], _∷_, _++_, append-assoc, append-nil}
 use Prim.Native.Nat.{ℕ, zero, suc, _+_, _-_, _≤_}
 use native.Mathlib.Nat.{zero-add, suc-add}
@@ -76,49 +76,12 @@ cut : (at n : ℕ) (s : List ℕ) → s ≡ take at s ++ (part at n s ++ drop n 
 unfolding part
 cut at n s = sym (rw (take-append-drop n (drop at s)) (take-append-drop at s))
 
-pub splice-part : (at n : ℕ) (s : List ℕ) → splice at n (part at n s) s ≡ s
-unfolding splice
-splice-part at n s = sym (cut at n s)
-
--- ---- a part of a list in which a part was replaced: inside it, before it, behind it
-pub part-splice-inside : (at n o m : ℕ) (new s : List ℕ) → at ≤ length s → length new ≡ n → o + m ≤ n → part (at + o) m (splice at n new s) ≡ part o m new
-unfolding splice
-part-splice-inside at n o m new s h e l =
-    part-right at o m (take at s) (new ++ drop n (drop at s)) (length-take-le at s h) ∙ part-left o m new (drop n (drop at s)) (omega arith)
-
-pub part-splice : (at n : ℕ) (new s : List ℕ) → at ≤ length s → length new ≡ n → part at n (splice at n new s) ≡ new
-unfolding splice part
-part-splice at n new s h e =
-    rw (drop-at (take at s) (new ++ drop n (drop at s)) at (length-take-le at s h)) (take-at new (drop n (drop at s)) n e)
-
 pub part-splice-before : (at n o m : ℕ) (new s : List ℕ) → at ≤ length s → o + m ≤ at → part o m (splice at n new s) ≡ part o m s
 unfolding splice
 part-splice-before at n o m new s h l =
     part-left o m (take at s) (new ++ drop n (drop at s)) (rw (length-take-le at s h) l)
     ∙ sym (part-left o m (take at s) (drop at s) (rw (length-take-le at s h) l))
     ∙ ap (part o m) (take-append-drop at s)
-
-pub part-splice-behind : (at n o m : ℕ) (new s : List ℕ) → at + n ≤ length s → length new ≡ n → at + n ≤ o → part o m (splice at n new s) ≡ part o m s
-unfolding splice
-part-splice-behind at n o m new s h e l =
-    let k : ℕ = o - (at + n) in
-    let place : o ≡ at + (n + k) = omega arith in
-    let front : length (take at s) ≡ at = length-take-le at s (omega arith) in
-    let mid : length (part at n s) ≡ n = length-part at n s h in
-    ap (λ j. part j m (take at s ++ (new ++ drop n (drop at s)))) place
-    ∙ part-right at (n + k) m (take at s) (new ++ drop n (drop at s)) front
-    ∙ part-right n k m new (drop n (drop at s)) e
-    ∙ sym (part-right n k m (part at n s) (drop n (drop at s)) mid)
-    ∙ sym (part-right at (n + k) m (take at s) (part at n s ++ drop n (drop at s)) front)
-    ∙ ap (λ j. part j m (take at s ++ (part at n s ++ drop n (drop at s)))) (sym place)
-    ∙ ap (part o m) (sym (cut at n s))
-
--- ---- a part replaced in a list in which a part was replaced: the same, the next, one inside it, one behind it
-pub splice-splice : (at n : ℕ) (x y s : List ℕ) → at ≤ length s → length x ≡ n → splice at n y (splice at n x s) ≡ splice at n y s
-unfolding splice
-splice-splice at n x y s h e =
-    rw
-    (take-at (take at s) (x ++ drop n (drop at s)) at (length-take-le at s h), drop-at (take at s) (x ++ drop n (drop at s)) at (length-take-le at s h), drop-at x (drop n (drop at s)) n e)
 
 pub splice-next : (at n m : ℕ) (x y s : List ℕ) → at ≤ length s → length x ≡ n → splice (at + n) m y (splice at n x s) ≡ splice at (n + m) (x ++ y) s
 unfolding splice
@@ -129,34 +92,3 @@ splice-next at n m x y s h e =
   where
     both : length (take at s ++ x) ≡ at + n
     both = simp (length-append, length-take) (omega arith)
-
-pub splice-inside : (at n o m : ℕ) (x y s : List ℕ) → at ≤ length s → length x ≡ n → o + m ≤ n → splice (at + o) m y (splice at n x s) ≡ splice at n (splice o m y x) s
-splice-inside at n o m x y s h e l =
-    unfold splice in splice-right at o m y (take at s) (x ++ drop n (drop at s)) (length-take-le at s h)
-    ∙ ap (λ t. take at s ++ t) (splice-left o m y x (drop n (drop at s)) (omega arith))
-
--- a part of a part replaced
-pub splice-within : (at n o m : ℕ) (y s : List ℕ) → at + n ≤ length s → o + m ≤ n → splice (at + o) m y s ≡ splice at n (splice o m y (part at n s)) s
-splice-within at n o m y s h l =
-    ap (splice (at + o) m y) (sym (splice-part at n s)) ∙ splice-inside at n o m (part at n s) y s (omega arith) (length-part at n s h) l
-
--- two parts that don't meet may be replaced in either order
-pub splice-behind : (at n o m : ℕ) (x y s : List ℕ) → at + n ≤ length s → length x ≡ n → at + n ≤ o → splice o m y (splice at n x s) ≡ splice at n x (splice o m y s)
-unfolding splice
-splice-behind at n o m x y s h e l =
-    let k : ℕ = o - (at + n) in
-    let place : o ≡ at + (n + k) = omega arith in
-    let front : length (take at s) ≡ at = length-take-le at s (omega arith) in
-    let mid : length (part at n s) ≡ n = length-part at n s h in
-    let tail : List ℕ = drop n (drop at s) in
-    let here : splice o m y s ≡ take at s ++ (part at n s ++ splice k m y tail) =
-    ap (splice o m y) (cut at n s)
-    ∙ ap (λ j. splice j m y (take at s ++ (part at n s ++ tail))) place
-    ∙ splice-right at (n + k) m y (take at s) (part at n s ++ tail) front
-    ∙ ap (λ t. take at s ++ t) (splice-right n k m y (part at n s) tail mid) in
-    ap (λ j. splice j m y (take at s ++ (x ++ tail))) place
-    ∙ splice-right at (n + k) m y (take at s) (x ++ tail) front
-    ∙ ap (λ t. take at s ++ t) (splice-right n k m y x tail e)
-    ∙ sym (
-    ap (splice at n x) here
-    ∙ rw (take-at (take at s) (part at n s ++ splice k m y tail) at front, drop-at (take at s) (part at n s ++ splice k m y tail) at front, drop-at (part at n s) (splice k m y tail) n mid) refl)

@@ -14,9 +14,9 @@ use Rattle.buffer.specs.ChoiceLaws.{pick-true, pick-false, pick-map, by-
 use Rattle.buffer.specs.Range.{sum}
 use Rattle.buffer.specs.Loops.{entries}
 use Rattle.buffer.specs.RangeLaws.{entries-of}
-use Rattle.buffer.specs.Bytes.{byte, be32, zeros, part, splice}
+use Rattle.buffer.specs.Bytes.{byte, zeros, part, splice}
 use Rattle.buffer.specs.SpliceLaws.{part-left, part-right, part-whole, part-append, splice-left, splice-right, splice-whole}
-use Rattle.buffer.specs.ByteLaws.{byte-part, be32-part, zeros-append}
+use Rattle.buffer.specs.ByteLaws.{byte-part, zeros-append}
 use Rattle.buffer.specs.Table.{tab, upd}
 
 -- ---- a function changed at one place
@@ -35,11 +35,6 @@ upd-other f i x k e = pick-false (ne-eqb k i e) x (f k)
 pub upd-map {ℓ κ} : {A : Type ℓ} {B : Type κ} (g : A → B) (f : ℕ → A) (i : ℕ) (x : A) (k : ℕ) → g (upd f i x k) ≡ upd (λ j. g (f j)) i (g x) k
 unfolding upd
 upd-map g f i x k = pick-map g (eqb k i) x (f k)
-
--- ---- chunks of any lengths
-pub tab-none : (f : ℕ → List ℕ) → tab 0 f ≡ []
-unfolding tab
-tab-none f = refl
 
 pub tab-more : (n : ℕ) (f : ℕ → List ℕ) → tab (n + 1) f ≡ tab n f ++ f n
 unfolding tab
@@ -113,9 +108,6 @@ part-chunk n w f h i l =
 -- a byte, and a number, of a chunk
 pub byte-tab : (n w : ℕ) (f : ℕ → List ℕ) → Wide n w f → (i o : ℕ) → i < n → o < w → byte (tab n f) (w * i + o) ≡ byte (f i) o
 byte-tab n w f h i o l k = sym (byte-part (w * i) w (tab n f) o k) ∙ ap (λ s. byte s o) (part-chunk n w f h i l)
-
-pub be32-tab : (n w : ℕ) (f : ℕ → List ℕ) → Wide n w f → (i o : ℕ) → i < n → o + 4 ≤ w → be32 (tab n f) (w * i + o) ≡ be32 (f i) o
-be32-tab n w f h i o l k = sym (be32-part (w * i) w (tab n f) o k) ∙ ap (λ s. be32 s o) (part-chunk n w f h i l)
 
 -- a part of a chunk replaced
 pub splice-tab : (n w : ℕ) (f : ℕ → List ℕ) → Wide n w f → (i o m : ℕ) (z : List ℕ) → i < n → o + m ≤ w

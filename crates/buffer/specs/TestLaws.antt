@@ -1,9 +1,8 @@
 -- Tests of numbers, and tests joined by "and". Assumes nothing.
 use mathlib.Core.Path.{_≡_, refl, sym, _∙_}
 use mathlib.Core.Bool.{Bool, true, false, not, _&&_, true≢false}
-use Prim.Native.Nat.{ℕ, suc, _+_, _≤_, _<_}
+use Prim.Native.Nat.{ℕ, suc, _≤_, _<_}
 use native.Mathlib.Omega.{arith}
-use native.Mathlib.Numerals.{add-one}
 use lib.Bits.{bitOr, or-add-and, and-le-l, and-le-r}
 use lib.Dec.{eqb, leb, ltb}
 use borrow.Author.Tests.{lt-ltb, le-ltb, le-leb, lt-leb, eq-eqb, ne-eqb, eqb-true, eqb-false, ltb-true, not-true, not-false}
@@ -102,6 +101,3 @@ ltb-suc a n h =
     (ltb a (suc n))
     (λ e. let l : a < n = ltb-true a n e in lt-ltb a (suc n) (omega arith))
     (λ e. let l : a < suc n = ltb-true a (suc n) e in lt-ltb a n (omega arith))
-
-pub ltb-more : (a n : ℕ) → (a ≡ n → ⊥) → ltb a n ≡ ltb a (n + 1)
-ltb-more a n h = rw add-one (ltb-suc a n h)

@@ -1,14 +1,13 @@
 -- Bytes as pairs of symbols. A reader wants `scale-bound`, `scale-add` and `add-scale` (linear in the byte and in the symbol), and `scale-one`,
 -- `scale-zero`, `scale-product` (1 changes nothing, 0 gives 0, one factor after the other is their product). Each is shown for both halves together.
-use mathlib.Core.Path.{_≡_, sym, ap, ap₂, _∙_}
+use mathlib.Core.Path.{_≡_, sym, ap₂, _∙_}
 use Prim.Native.Nat.{ℕ, _+_, _*_, _/_, _%_, _<_}
 use native.Mathlib.Nat.{mod-lt, div-add-mod'}
 use native.Mathlib.Omega.{arith}
-use lib.Arith.{digits-div, digits-mod}
 use lib.Bits.{bitXor, xor-block, xor-shr, xor-mod}
 use lib.Dec.{lit<}
 use Rattle.algebra.specs.BinaryLinear.{add-product, product-add, product-zero}
-use Rattle.algebra.specs.BinaryLaws.{bound, one, comm, assoc}
+use Rattle.algebra.specs.BinaryLaws.{bound, one}
 use Rattle.field.specs.Gf16.{product}
 use Rattle.field.specs.Gf16Laws.{tested}
 use Rattle.field.specs.Byte.{scale}
@@ -54,13 +53,3 @@ scale-one b hb = ap₂ (λ (x y : ℕ). x * 16 + y) (one tested (b / 16) (high-l
 pub scale-zero : (b : ℕ) → scale 0 b ≡ 0
 unfolding scale
 scale-zero b = ap₂ (λ (x y : ℕ). x * 16 + y) (product-zero 4 19 (b / 16)) (product-zero 4 19 (b % 16))
-
--- one half: w, then v
-in-turn : (v w a : ℕ) → v < 16 → w < 16 → a < 16 → product a (product v w) ≡ product (product a w) v
-in-turn v w a hv hw ha = ap (product a) (comm tested v w hv hw) ∙ sym (assoc tested a w v ha hw hv)
-
-pub scale-product : (v w b : ℕ) → v < 16 → w < 16 → b < 256 → scale (product v w) b ≡ scale v (scale w b)
-unfolding scale
-scale-product v w b hv hw hb =
-    ap₂ (λ (x y : ℕ). x * 16 + y) (in-turn v w (b / 16) hv hw (high-lt b hb)) (in-turn v w (b % 16) hv hw (low-lt b))
-    ∙ sym (ap₂ (λ (x y : ℕ). product x v * 16 + product y v) (digits-div (product (b / 16) w) (low-bound w b hw)) (digits-mod (product (b / 16) w) (low-bound w b hw)))

@@ -16,7 +16,7 @@ use Rattle.buffer.specs.Table.{tab, upd}
 use Rattle.buffer.specs.TableLaws.{tab-ext, tab-one, tab-zeros, splice-chunk, upd-map}
 use Rattle.group.specs.Widths.{slotBytes, checkBytes}
 use Rattle.model.specs.Layout.{Store, bytes, view, storeBytes, unitsIn, levelIn, slotAt, checkAt, changed}
-use Rattle.model.specs.LayoutLaws.{Shaped, Same, bytes-ext, bytes-view, view-shaped, length-bytes, byte-front, view-dstate, view-cstate, slot-read, check-read, len-ds, len-cs, len-slots, len-checks}
+use Rattle.model.specs.LayoutLaws.{Shaped, Same, bytes-ext, bytes-view, view-shaped, length-bytes, byte-front, view-cstate, slot-read, check-read, len-ds, len-cs, len-slots, len-checks}
 use Rattle.model.specs.RunLaws.{upd2, run, run-one, run-unit, splice-run}
 
 -- the same store with other slots, and with other check records
@@ -273,10 +273,6 @@ module _ (t : Store) (h : Shaped t) (s : List ℕ) (e : s ≡ bytes t) where
 
   pub slot-in : (u r : ℕ) → u < 16 → r < t .size → SlotIn s u r
   slot-in u r hu hr = record { long = long-at; unit = hu; rank = rw size-at hr }
-
-  pub dstate-at : (u : ℕ) → u < 16 → byte s (8 + u) ≡ t .dstate u
-  unfolding view
-  dstate-at u l = ap (λ x. byte x (8 + u)) e ∙ view-dstate t h u l
 
   pub cstate-at : (c : ℕ) → c < 12 → byte s (24 + c) ≡ t .cstate c
   unfolding view
