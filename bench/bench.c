@@ -1,6 +1,8 @@
 /*
  * Times the store's calls over the static library, each against a copy of the store's bytes and
- * against the test of soundness, in one run. Build and run it with bench/run.
+ * against the test of soundness, in one run; and a plain test of soundness beside the library's.
+ * The calls that return more than a number, list and read in place, have no C name and are not
+ * timed here. Build and run it with bench/run.
  */
 #define _POSIX_C_SOURCE 199309L
 #include "lhrs.h"

@@ -4,8 +4,6 @@
  */
 #include "plain.h"
 
-#include <string.h>
-
 #define UNITS 16u
 #define GROUPS 4u
 #define CHECKS 3u /* check units of a group */
