@@ -45,7 +45,8 @@ unfoldable pub firstOf : List (Bool × ℕ) → ℕ
 firstOf [] = 0
 firstOf (t ∷ ts) = pick (t .0) (t .1) (firstOf ts)
 
--- The table: each call's rows, in the order of document 01. It looks at facts that a store's bytes give (`refusalsIn`) and that the ledger gives.
+-- The table: each call's rows, in the order of document 01. Read in place returns no number and has no rows. The table looks at facts that a
+-- store's bytes give (`refusalsIn`) and that the ledger gives (`refusals`).
 module _
     (ok : Bool)  -- the store's bytes are sound
     (size units level : ℕ)  -- b, M and K
