@@ -1,7 +1,7 @@
--- Rows of the table of numbers: two lists of rows that give one number, rows of which none holds, and the first row. Assumes nothing.
+-- Rows of the table of numbers: two lists of rows that give one number, rows of which none holds, a front part and the first row. Assumes nothing.
 use Prim.Native.Nat.{ℕ, _≤_}
 use mathlib.Core.Path.{_≡_, refl, sym, _∙_}
-use mathlib.Core.List.{List, [], _∷_}
+use mathlib.Core.List.{List, [], _∷_, _++_}
 use mathlib.Core.Bool.{Bool, true, false, _&&_, _||_}
 use native.Mathlib.Omega.{arith}
 use lib.Dec.{eqb, leb}
@@ -66,6 +66,18 @@ first-low [] h = omega arith
 first-low (t ∷ ts) h =
     let rest : firstOf ts ≤ 9 = first-low ts (h .1) in
     by-pick (λ (n : ℕ). n ≤ 9) (t .0) (t .1) (firstOf ts) (λ e. leb-true (t .1) 9 (and-second (leb 1 (t .1)) (leb (t .1) 9) (h .0))) (λ e. rest)
+
+-- ---- a front part of the rows
+
+pub front-holds : (ts us : List (Bool × ℕ)) → (firstOf ts ≡ 0 → ⊥) → firstOf (ts ++ us) ≡ firstOf ts
+unfolding firstOf
+front-holds [] us h = absurd (h refl)
+front-holds (t ∷ ts) us h = pick-ext (t .0) (t .1) (firstOf (ts ++ us)) (t .1) (firstOf ts) (λ e. refl) (λ e. front-holds ts us (λ z. h (pick-false e (t .1) (firstOf ts) ∙ z)))
+
+pub front-free : (ts us : List (Bool × ℕ)) → Free ts → firstOf (ts ++ us) ≡ firstOf us
+unfolding firstOf
+front-free [] us f = refl
+front-free (t ∷ ts) us f = pick-false (f .0) (t .1) (firstOf (ts ++ us)) ∙ front-free ts us (f .1)
 
 -- ---- the first row
 

@@ -1,5 +1,5 @@
 -- Where a key belongs, from what the code looks up. Assumes nothing.
-use Prim.Native.Nat.{ℕ, _+_, _/_, _≤_, _<_}
+use Prim.Native.Nat.{ℕ, suc, _+_, _/_, _≤_, _<_}
 use mathlib.Core.Path.{_≡_, sym, ap, _∙_}
 use mathlib.Core.Bool.{Bool, true, false}
 use mathlib.Core.List.{List}
@@ -11,29 +11,36 @@ use Rattle.buffer.specs.Range.{first}
 use Rattle.model.specs.Units.{unitOf}
 use Rattle.model.specs.Layout.{view, keyOf}
 use Rattle.model.specs.Reads.{homeIn, outsIn, fillIn}
+use Rattle.model.specs.Numbers.{firstOf}
 use Rattle.model.specs.StoreLaws.{units-of}
 use Rattle.soundness.specs.Survey.{Surveyed, found-sound, fill-listed, fill-most}
 use Rattle.lookup.specs.Sized.{sound-sized}
 use Rattle.lookup.specs.Keys.{rank-in, own-fill}
 use Rattle.lookup.specs.Groups.{none-out}
-use Rattle.writing.specs.Homes.{Homed}
+use Rattle.writing.specs.Homes.{openingRows, Lives, Homed}
 
--- the code reads m, u, the number of units out, n at the index i, and r
-pub homed : {s : List ℕ} {ok : Bool} {fills : List ℕ} {u i r : ℕ} {out : Bool} (k : ℕ) → Surveyed s ok fills → ok ≡ true → (u ≡ unitOf (byte s 6) k) × (u < byte s 6)
-    → out ≡ ltb 0 (outsIn (view s) (u / 4)) → i ≡ u → (r ≡ first (getD fills i 0) (λ q. eqb (keyOf (view s .slot u q)) k)) × (r ≤ getD fills i 0)
-    → Homed s k u out (getD fills i 0) r
+-- a key that is refused
+pub homeless : {s : List ℕ} {k : ℕ} {fits : Bool} {number u n r m : ℕ} → number ≡ suc m → firstOf (openingRows s k fits) ≡ suc m → Homed s k fits number u n r
+homeless e f = record { found = e ∙ sym f; fitting = λ z. absurd (omega (arith, e, z)); lives = λ z. absurd (omega (arith, e, z)) }
+
+pub home-unit : (s : List ℕ) (k : ℕ) {u : ℕ} → u ≡ unitOf (byte s 6) k → homeIn (view s) k ≡ u
 unfolding homeIn
-homed {s} {ok} {fills} {u} {i} {r} {out} k g e eu eo ei er =
-    let low : u < 16 = omega (arith, sound-sized (found-sound g e) .units) in
-    let serves : out ≡ false → byte s (8 + u) ≡ 2 → ⊥ = λ o. none-out s u (sym eo ∙ o) in
-    let own : out ≡ false → getD fills i 0 ≡ fillIn (view s) u =
-    λ o. ap (λ j. getD fills j 0) ei ∙ fill-listed g e u low (λ w. absurd (serves o w)) ∙ sym (own-fill s u (serves o)) in
+home-unit s k e = ap (λ j. unitOf j k) (sym (units-of s)) ∙ sym e
+
+-- the code reads u, whether a unit of its group is out, n at the index i, and r
+pub lives : {s : List ℕ} {ok : Bool} {fills : List ℕ} {u i r : ℕ} (k : ℕ) → Surveyed s ok fills → ok ≡ true → (u ≡ unitOf (byte s 6) k) × (u < byte s 6)
+    → ltb 0 (outsIn (view s) (u / 4)) ≡ false → i ≡ u → (r ≡ first (getD fills i 0) (λ q. eqb (keyOf (view s .slot u q)) k)) × (r ≤ getD fills i 0)
+    → Lives s k u (getD fills i 0) r
+lives {s} {ok} {fills} {u} {i} {r} k g e eu eo ei er =
+    let store = sound-sized (found-sound g e) in
+    let low : u < 16 = omega (arith, store .units) in
+    let serves : byte s (8 + u) ≡ 2 → ⊥ = none-out s u eo in
+    let own : getD fills i 0 ≡ fillIn (view s) u = ap (λ j. getD fills j 0) ei ∙ fill-listed g e u low (λ w. absurd (serves w)) ∙ sym (own-fill s u serves) in
     record {
-      unit = ap (λ j. unitOf j k) (sym (units-of s)) ∙ sym (eu .0);
-      away = sym eo;
-      fill = λ o. sym (own o);
-      rank = λ o. sym (rank-in s u (getD fills i 0) r k (own o) (er .0));
+      sized = store;
+      unit = home-unit s k (eu .0);
+      fill = sym own;
+      rank = sym (rank-in s u (getD fills i 0) r k own (er .0));
       below = low;
       most = rw ei (fill-most g u low);
-      among = er .1;
     }

@@ -1,19 +1,31 @@
--- Where a key belongs in a store. Assumes nothing.
+-- Where a key belongs in a store, and the rows of the table of numbers that teach, correct and erase share. Assumes nothing.
 use Prim.Native.Nat.{ℕ, _/_, _≤_, _<_}
 use mathlib.Core.Path.{_≡_}
-use mathlib.Core.Bool.{Bool, false}
-use mathlib.Core.List.{List}
-use lib.Dec.{ltb}
+use mathlib.Core.Bool.{Bool, true, not}
+use mathlib.Core.List.{List, [], _∷_}
+use lib.Dec.{eqb, ltb}
 use Rattle.buffer.specs.Bytes.{byte}
 use Rattle.model.specs.Layout.{view}
 use Rattle.model.specs.Reads.{homeIn, outsIn, fillIn, rankIn}
+use Rattle.model.specs.Numbers.{firstOf}
+use Rattle.model.specs.Sound.{sound}
+use Rattle.lookup.specs.Sized.{Sized}
 
--- u is the unit of key k, and out tells whether a unit of its group is out; where none is, u has n records and r is the rank of k among them
-pub record Homed (s : List ℕ) (k u : ℕ) (out : Bool) (n r : ℕ) : Type 0 where
+-- the rows: no key, a body that does not fit, bytes that are not sound, a unit of the key's group out
+unfoldable pub openingRows : List ℕ → ℕ → Bool → List (Bool × ℕ)
+openingRows s k fits = (eqb k 0, 2) ∷ (not fits, 2) ∷ (not (sound s), 1) ∷ (ltb 0 (outsIn (view s) (homeIn (view s) k / 4)), 4) ∷ []
+
+-- u is the unit of key k, with n records, and r is the rank of k among them
+pub record Lives (s : List ℕ) (k u n r : ℕ) : Type 0 where
+  pub sized : Sized s
   pub unit : homeIn (view s) k ≡ u
-  pub away : ltb 0 (outsIn (view s) (u / 4)) ≡ out
-  pub fill : out ≡ false → fillIn (view s) u ≡ n
-  pub rank : out ≡ false → rankIn (view s) u k ≡ r
+  pub fill : fillIn (view s) u ≡ n
+  pub rank : rankIn (view s) u k ≡ r
   pub below : u < 16
   pub most : n ≤ byte s 5
-  pub among : r ≤ n
+
+-- what is found of key k in a call whose body fits or not: the number of these rows, and where it is 0 the key's place
+pub record Homed (s : List ℕ) (k : ℕ) (fits : Bool) (number u n r : ℕ) : Type 0 where
+  pub found : number ≡ firstOf (openingRows s k fits)
+  pub fitting : number ≡ 0 → fits ≡ true
+  pub lives : number ≡ 0 → Lives s k u n r

@@ -1,7 +1,6 @@
 // Teach, correct, erase and unit out: a slot is written and its group's check units follow; a unit's bytes are cleared.
 ghost use mathlib.Core.Path.{_≡_};
 ghost use Prim.Native.Nat.{_+_, _*_, _-_, _<_};
-ghost use mathlib.Core.Bool.{true};
 ghost use lib.ListN.{length};
 ghost use Rattle.field.specs.Table.{products};
 ghost use Rattle.group.specs.Body.{addBody};
@@ -11,7 +10,6 @@ ghost use Rattle.model.specs.LayoutLaws.{Long};
 ghost use Rattle.model.specs.Numbers.{Call, teach, correct, erase, unitOut, firstOf, refusalsIn};
 ghost use Rattle.model.specs.Perform.{plain, outcome, perform};
 ghost use Rattle.model.specs.Changes.{written, erased, unitLost};
-ghost use Rattle.soundness.specs.Survey.{Surveyed};
 ghost use Rattle.writing.specs.Following.{followed};
 ghost use Rattle.writing.specs.Homes.{Homed};
 
@@ -88,6 +86,16 @@ fn slot_of(key: u32, body: &[u8]) -> [u8; 20]
     slot
 }
 
+// Slot r of unit u becomes a key and a body, and each check unit in service of its group follows.
+fn write_record(s: &mut [u8], u: u8, r: u8, key: u32, body: &[u8])
+    requires { ⌜ SlotIn (now s) u r × (length (now body) ≡ 16) ⌝ }
+    ensures { λ _. ⌜ now (s .exit) ≡ bytes (written (view (now (s .entry))) u r (slotOf key (now (body .entry)))) ⌝ }
+{
+    let slot = slot_of(key, body);
+    let table = field::table();
+    write_slot(s, u, r, &slot, &table);
+}
+
 // The bytes of data unit u become zero, and its state 2.
 fn clear_data(s: &mut [u8], u: u8)
     requires { ⌜ Long (now s) × (u < 16) ⌝ }
@@ -124,117 +132,56 @@ pub fn clear_unit(s: &mut [u8], w: u8)
     }
 }
 
-// Where a key belongs: its unit, and whether a unit of the group is out; where none is, how many records the unit has and the key's rank among
+// Where a key belongs, or why it is refused: the number, and where that is 0 the key's unit, how many records the unit has and the key's rank among
 // them.
 struct Home {
+    number: u8,
     unit: u8,
-    out: bool,
     fill: u8,
     rank: u8,
 }
 
-// The home of a key in a store that is sound, by the survey of the store; nothing is looked up in one that is not.
-fn home_of(s: &[u8], survey: soundness::Survey, key: u32) -> Home
-    requires { ⌜ Surveyed (now s) (survey .sound) (survey .fills) ⌝ }
-    ensures { λ h. ⌜ (survey .sound ≡ true → Homed (now (s .entry)) key (h .unit) (h .out) (h .fill) (h .rank)) ⌝ }
+// A key that is refused with this number.
+fn refusal(number: u8) -> Home
+    ensures { λ h. ⌜ h .number ≡ number ⌝ }
 {
+    Home {
+        number,
+        unit: 0,
+        fill: 0,
+        rank: 0,
+    }
+}
+
+// The home of a key, for a call with a body that fits or not.
+fn home_of(s: &[u8], key: u32, fits: bool) -> Home
+    ensures { λ h. ⌜ Homed (now (s .entry)) key fits (h .number) (h .unit) (h .fill) (h .rank) ⌝ }
+{
+    let no_key = key == 0;
+    if no_key {
+        return refusal(2);
+    }
+    if !fits {
+        return refusal(2);
+    }
+    let survey = soundness::survey_of(s);
     if !survey.sound {
-        return Home {
-            unit: 0,
-            out: false,
-            fill: 0,
-            rank: 0,
-        };
+        return refusal(1);
     }
     let unit = lookup::unit_of(s[6], key);
     let out = 0 < lookup::outs(s, unit / 4);
+    if out {
+        return refusal(4);
+    }
     let fills = survey.fills;
     let fill = fills[buffer::wide(unit)];
     let rank = lookup::rank(s, unit, fill, key);
     Home {
+        number: 0,
         unit,
-        out,
         fill,
         rank,
     }
-}
-
-// The number of a teach, for a store that is sound or not and the home of the key.
-fn teach_number(s: &[u8], ok: bool, home: Home, key: u32, body: &[u8]) -> u8
-    requires { ⌜ (ok ≡ true → Homed (now s) key (home .unit) (home .out) (home .fill) (home .rank)) ⌝ }
-    ensures { λ r. ⌜ r ≡ firstOf (refusalsIn ok (view (now (s .entry))) (Call.teach key (now (body .entry)))) ⌝ }
-{
-    let no_key = key == 0;
-    if no_key {
-        return 2;
-    }
-    let misfit = body.len() != 16;
-    if misfit {
-        return 2;
-    }
-    if !ok {
-        return 1;
-    }
-    if home.out {
-        return 4;
-    }
-    let known = home.rank < home.fill;
-    if known {
-        return 5;
-    }
-    let full = buffer::byte_at(s, 5) <= home.fill;
-    if full {
-        return 7;
-    }
-    0
-}
-
-// The number of a correct.
-fn correct_number(s: &[u8], ok: bool, home: Home, key: u32, body: &[u8]) -> u8
-    requires { ⌜ (ok ≡ true → Homed (now s) key (home .unit) (home .out) (home .fill) (home .rank)) ⌝ }
-    ensures { λ r. ⌜ r ≡ firstOf (refusalsIn ok (view (now (s .entry))) (Call.correct key (now (body .entry)))) ⌝ }
-{
-    let no_key = key == 0;
-    if no_key {
-        return 2;
-    }
-    let misfit = body.len() != 16;
-    if misfit {
-        return 2;
-    }
-    if !ok {
-        return 1;
-    }
-    if home.out {
-        return 4;
-    }
-    let missing = home.fill <= home.rank;
-    if missing {
-        return 6;
-    }
-    0
-}
-
-// The number of an erase.
-fn erase_number(s: &[u8], ok: bool, home: Home, key: u32) -> u8
-    requires { ⌜ (ok ≡ true → Homed (now s) key (home .unit) (home .out) (home .fill) (home .rank)) ⌝ }
-    ensures { λ r. ⌜ r ≡ firstOf (refusalsIn ok (view (now (s .entry))) (Call.erase key)) ⌝ }
-{
-    let no_key = key == 0;
-    if no_key {
-        return 2;
-    }
-    if !ok {
-        return 1;
-    }
-    if home.out {
-        return 4;
-    }
-    let missing = home.fill <= home.rank;
-    if missing {
-        return 6;
-    }
-    0
 }
 
 // The number of a unit out.
@@ -264,15 +211,19 @@ fn out_number(s: &[u8], ok: bool, unit: u32) -> u8
 pub fn teach(s: &mut [u8], key: u32, body: &[u8]) -> u8
     ensures { λ r. ⌜ outcome (plain r) (now (s .exit)) ≡ perform (now (s .entry)) (Call.teach key (now (body .entry))) ⌝ }
 {
-    let survey = soundness::survey_of(s);
-    let home = home_of(s, survey, key);
-    let number = teach_number(s, survey.sound, home, key, body);
-    if number != 0 {
-        return number;
+    let home = home_of(s, key, body.len() == 16);
+    if home.number != 0 {
+        return home.number;
     }
-    let slot = slot_of(key, body);
-    let table = field::table();
-    write_slot(s, home.unit, home.fill, &slot, &table);
+    let known = home.rank < home.fill;
+    if known {
+        return 5;
+    }
+    let full = buffer::byte_at(s, 5) <= home.fill;
+    if full {
+        return 7;
+    }
+    write_record(s, home.unit, home.fill, key, body);
     0
 }
 
@@ -280,15 +231,15 @@ pub fn teach(s: &mut [u8], key: u32, body: &[u8]) -> u8
 pub fn correct(s: &mut [u8], key: u32, body: &[u8]) -> u8
     ensures { λ r. ⌜ outcome (plain r) (now (s .exit)) ≡ perform (now (s .entry)) (Call.correct key (now (body .entry))) ⌝ }
 {
-    let survey = soundness::survey_of(s);
-    let home = home_of(s, survey, key);
-    let number = correct_number(s, survey.sound, home, key, body);
-    if number != 0 {
-        return number;
+    let home = home_of(s, key, body.len() == 16);
+    if home.number != 0 {
+        return home.number;
     }
-    let slot = slot_of(key, body);
-    let table = field::table();
-    write_slot(s, home.unit, home.rank, &slot, &table);
+    let missing = home.fill <= home.rank;
+    if missing {
+        return 6;
+    }
+    write_record(s, home.unit, home.rank, key, body);
     0
 }
 
@@ -296,11 +247,13 @@ pub fn correct(s: &mut [u8], key: u32, body: &[u8]) -> u8
 pub fn erase(s: &mut [u8], key: u32) -> u8
     ensures { λ r. ⌜ outcome (plain r) (now (s .exit)) ≡ perform (now (s .entry)) (Call.erase key) ⌝ }
 {
-    let survey = soundness::survey_of(s);
-    let home = home_of(s, survey, key);
-    let number = erase_number(s, survey.sound, home, key);
-    if number != 0 {
-        return number;
+    let home = home_of(s, key, true);
+    if home.number != 0 {
+        return home.number;
+    }
+    let missing = home.fill <= home.rank;
+    if missing {
+        return 6;
     }
     let table = field::table();
     erase_at(s, home.unit, home.rank, home.fill - 1, &table);

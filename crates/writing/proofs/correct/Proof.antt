@@ -1,62 +1,50 @@
 -- `writing::correct` meets its contract. Assumes nothing.
-use Rattle.model.specs.PerformLaws.{of-correct, refused, granted}
-use Rattle.soundness.specs.Survey.{found-sound}
-use Rattle.lookup.specs.Sized.{sound-sized}
-use Rattle.writing.proofs.Granted.{corrects, own-slot, slot-long, corrected}
+use borrow.Author.Tests.{eqb-true}
 use borrow.Author.Needs.{needs}
+use Rattle.model.specs.RowLaws.{row-holds}
+use Rattle.writing.proofs.Granted.{of-correcting, refused-first, refused-then, granted-then, own-slot, corrected}
 use Rattle.writing.proofs.correct.Statement.{statement}
 use Rattle.writing.proofs.correct.Tie as tie
 
 returns : tie.Need-returns
 returns c =
-    let n = c .before in
-    let k = n .before .before .before .before in
-    let a = k .before .before .before .before .args in
-    refused (a .s .now) of-correct (k .survey-of .ensures .tested) (n .correct-number .ensures) (c .if1 .taken)
-
-slot-of-requires : tie.Need-slot-of-requires
-slot-of-requires c κs =
-    let n = c .before in
-    let k = n .before .before .before .before in
-    let a = k .before .before .before .before .args in
-    corrects (a .s .now) _ _ (c .if1 .left) (a .key) (a .body .now) (n .correct-number .ensures) .body
-
-write-slot-requires : tie.Need-write-slot-requires
-write-slot-requires c κs =
-    let x = c .before .before .before .before in
-    let i = x .before in
-    let n = i .before in
-    let h = n .before .before in
-    let k = h .before .before in
-    let a = k .before .before .before .before .args in
-    let g = corrects (a .s .now) _ _ (i .if1 .left) (a .key) (a .body .now) (n .correct-number .ensures) in
-    (own-slot (a .s .now) _ _ _ _ _ (h .home-of .ensures (g .sound)) (g .serving) (sound-sized (found-sound (k .survey-of .ensures) (g .sound))) (g .present), slot-long (a .key) (a .body .now) _ (x .slot-of .ensures) (g .body), c .before .before .before .table .ensures)
+    let home = c .before .before in
+    let a = home .before .before .before .before .args in
+    refused-first (of-correcting (a .s .now) (a .key) (a .body .now)) (home .home-of .ensures) (c .if1 .taken)
 
 returns-2 : tie.Need-returns-2
 returns-2 c =
-    let w = c .before .before in
-    let x = w .before .before .before .before .before in
-    let i = x .before in
-    let n = i .before in
-    let h = n .before .before in
-    let k = h .before .before in
-    let a = k .before .before .before .before .args in
-    let g = corrects (a .s .now) _ _ (i .if1 .left) (a .key) (a .body .now) (n .correct-number .ensures) in
-    granted (a .s .now) of-correct (k .survey-of .ensures .tested) (n .correct-number .ensures) (i .if1 .left)
-    (corrected (a .s .now) _ _ _ _ _ (h .home-of .ensures (g .sound)) (g .serving) (a .body .now) _ _ (x .slot-of .ensures) (w .write-slot .ensures))
+    let fine = c .before .before in
+    let home = fine .before .before in
+    let a = home .before .before .before .before .args in
+    refused-then (of-correcting (a .s .now) (a .key) (a .body .now)) (home .home-of .ensures) (fine .if1 .left) (row-holds 6 _ (c .if2 .taken))
+
+write-record-requires : tie.Need-write-record-requires
+write-record-requires c κs =
+    let present = c .before in
+    let fine = present .before .before in
+    let found = fine .before .before .home-of .ensures in
+    (own-slot (found .lives (fine .if1 .left)) (present .if2 .left), eqb-true _ _ (found .fitting (fine .if1 .left)))
+
+returns-3 : tie.Need-returns-3
+returns-3 c =
+    let write = c .before .before in
+    let present = write .before .before in
+    let fine = present .before .before in
+    let home = fine .before .before in
+    let a = home .before .before .before .before .args in
+    granted-then (of-correcting (a .s .now) (a .key) (a .body .now)) (home .home-of .ensures) (fine .if1 .left)
+    (present .if2 .left, tt) (corrected (home .home-of .ensures .lives (fine .if1 .left)) (a .body .now) (write .write-record .ensures))
 
 pub correct-spec : {M : Type 1} → statement M
 correct-spec =
     tie.close
     (tie.spec
     (λ c κs. search needs)
-    (λ c κs. c .before .survey-of .ensures)
-    (λ c κs. c .before .home-of .ensures)
     (λ c. search needs)
     returns
-    slot-of-requires
-    (λ c κs. search needs)
     (λ c. search needs)
-    write-slot-requires
+    returns-2
+    write-record-requires
     (λ c. search needs)
-    returns-2)
+    returns-3)

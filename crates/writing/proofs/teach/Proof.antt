@@ -1,62 +1,67 @@
 -- `writing::teach` meets its contract. Assumes nothing.
-use Rattle.model.specs.PerformLaws.{of-teach, refused, granted}
-use Rattle.soundness.specs.Survey.{found-sound}
-use Rattle.lookup.specs.Sized.{sound-sized}
-use Rattle.writing.proofs.Granted.{teaches, next-slot, slot-long, taught}
+use mathlib.Core.Path.{_∙_}
+use borrow.Author.Tests.{eqb-true}
 use borrow.Author.Needs.{needs}
+use Rattle.model.specs.RowLaws.{row-holds, row-fails}
+use Rattle.writing.proofs.Granted.{of-teaching, refused-first, refused-then, granted-then, next-slot, taught}
 use Rattle.writing.proofs.teach.Statement.{statement}
 use Rattle.writing.proofs.teach.Tie as tie
 
 returns : tie.Need-returns
 returns c =
-    let n = c .before in
-    let k = n .before .before .before .before in
-    let a = k .before .before .before .before .args in
-    refused (a .s .now) of-teach (k .survey-of .ensures .tested) (n .teach-number .ensures) (c .if1 .taken)
-
-slot-of-requires : tie.Need-slot-of-requires
-slot-of-requires c κs =
-    let n = c .before in
-    let k = n .before .before .before .before in
-    let a = k .before .before .before .before .args in
-    teaches (a .s .now) _ _ (c .if1 .left) (a .key) (a .body .now) (n .teach-number .ensures) .body
-
-write-slot-requires : tie.Need-write-slot-requires
-write-slot-requires c κs =
-    let x = c .before .before .before .before in
-    let i = x .before in
-    let n = i .before in
-    let h = n .before .before in
-    let k = h .before .before in
-    let a = k .before .before .before .before .args in
-    let g = teaches (a .s .now) _ _ (i .if1 .left) (a .key) (a .body .now) (n .teach-number .ensures) in
-    (next-slot (a .s .now) _ _ _ _ _ (h .home-of .ensures (g .sound)) (g .serving) (sound-sized (found-sound (k .survey-of .ensures) (g .sound))) (g .room), slot-long (a .key) (a .body .now) _ (x .slot-of .ensures) (g .body), c .before .before .before .table .ensures)
+    let home = c .before .before in
+    let a = home .before .before .before .before .args in
+    refused-first (of-teaching (a .s .now) (a .key) (a .body .now)) (home .home-of .ensures) (c .if1 .taken)
 
 returns-2 : tie.Need-returns-2
 returns-2 c =
-    let w = c .before .before in
-    let x = w .before .before .before .before .before in
-    let i = x .before in
-    let n = i .before in
-    let h = n .before .before in
-    let k = h .before .before in
-    let a = k .before .before .before .before .args in
-    let g = teaches (a .s .now) _ _ (i .if1 .left) (a .key) (a .body .now) (n .teach-number .ensures) in
-    granted (a .s .now) of-teach (k .survey-of .ensures .tested) (n .teach-number .ensures) (i .if1 .left)
-    (taught (a .s .now) _ _ _ _ _ (h .home-of .ensures (g .sound)) (g .serving) (a .body .now) _ _ (x .slot-of .ensures) (w .write-slot .ensures))
+    let fine = c .before .before in
+    let home = fine .before .before in
+    let a = home .before .before .before .before .args in
+    refused-then (of-teaching (a .s .now) (a .key) (a .body .now)) (home .home-of .ensures) (fine .if1 .left) (row-holds 5 _ (c .if2 .taken))
+
+returns-3 : tie.Need-returns-3
+returns-3 c =
+    let size = c .before .before in
+    let new = size .before .before in
+    let fine = new .before .before in
+    let home = fine .before .before in
+    let a = home .before .before .before .before .args in
+    refused-then (of-teaching (a .s .now) (a .key) (a .body .now)) (home .home-of .ensures) (fine .if1 .left)
+    (row-fails 5 _ (new .if2 .left) ∙ row-holds 7 _ (rw (← size .byte-at .ensures) (c .if3 .taken)))
+
+write-record-requires : tie.Need-write-record-requires
+write-record-requires c κs =
+    let room = c .before in
+    let size = room .before .before in
+    let fine = size .before .before .before .before in
+    let found = fine .before .before .home-of .ensures in
+    (next-slot (found .lives (fine .if1 .left)) (rw (← size .byte-at .ensures) (room .if3 .left)), eqb-true _ _ (found .fitting (fine .if1 .left)))
+
+returns-4 : tie.Need-returns-4
+returns-4 c =
+    let write = c .before .before in
+    let room = write .before .before in
+    let size = room .before .before in
+    let new = size .before .before in
+    let fine = new .before .before in
+    let home = fine .before .before in
+    let a = home .before .before .before .before .args in
+    granted-then (of-teaching (a .s .now) (a .key) (a .body .now)) (home .home-of .ensures) (fine .if1 .left)
+    (new .if2 .left, (rw (← size .byte-at .ensures) (room .if3 .left), tt)) (taught (home .home-of .ensures .lives (fine .if1 .left)) (a .body .now) (write .write-record .ensures))
 
 pub teach-spec : {M : Type 1} → statement M
 teach-spec =
     tie.close
     (tie.spec
     (λ c κs. search needs)
-    (λ c κs. c .before .survey-of .ensures)
-    (λ c κs. c .before .home-of .ensures)
     (λ c. search needs)
     returns
-    slot-of-requires
+    (λ c. search needs)
+    returns-2
     (λ c κs. search needs)
     (λ c. search needs)
-    write-slot-requires
+    returns-3
+    write-record-requires
     (λ c. search needs)
-    returns-2)
+    returns-4)
