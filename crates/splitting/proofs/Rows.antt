@@ -1,31 +1,56 @@
 -- What grow, shrink and raise may rely on where their rows give 0, and what a sound store gives them. Assumes nothing.
 use Prim.Native.Nat.{ℕ, suc, pred, _+_, _-_, _≤_, _<_}
-use mathlib.Core.Path.{_≡_, refl, sym, _∙_}
-use mathlib.Core.Bool.{Bool, true, false, _||_}
-use mathlib.Core.List.{List}
+use mathlib.Core.Path.{_≡_, refl, sym, ap, _∙_}
+use mathlib.Core.Bool.{Bool, true, false, not, _||_}
+use mathlib.Core.List.{List, [], _∷_}
 use native.Mathlib.Omega.{arith}
-use lib.Dec.{eqb}
+use lib.Dec.{eqb, ltb, leb}
 use lib.ListN.{set}
 use borrow.Author.Tests.{not-false, leb-false, ltb-false, ne-eqb}
+use Rattle.buffer.specs.Choice.{pick}
 use Rattle.buffer.specs.Bytes.{byte, zeros}
 use Rattle.group.specs.Widths.{checkBytes}
 use Rattle.model.specs.Units.{splitPointer}
-use Rattle.model.specs.Layout.{view, bytes, levelIn}
+use Rattle.model.specs.Layout.{view, bytes, unitsIn, levelIn}
 use Rattle.model.specs.LayoutLaws.{Long, bytes-view, view-shaped}
 use Rattle.model.specs.StoreLaws.{withFront, size-of, units-of, level-of, front-set}
 use Rattle.model.specs.Reads.{fillIn}
 use Rattle.model.specs.Sound.{sound}
 use Rattle.model.specs.Numbers.{Call, grow, shrink, raise, firstOf, refusalsIn}
 use Rattle.model.specs.Changes.{raised}
+use Rattle.model.specs.RowLaws.{row-pair}
 use Rattle.model.specs.PerformLaws.{none-holds}
 use Rattle.model.proofs.history.SoundSays.{same-true, zeroed-says, clauses}
 use Rattle.lookup.specs.Sized.{Sized, sound-sized}
-use Rattle.splitting.specs.Steps.{Blank}
+use Rattle.splitting.specs.Steps.{Blank, pairOut, pairCrowded}
 
 -- ---- the last unit's number, as the code computes it
 pub pred-of : (n : ℕ) → n - 1 ≡ pred n
 pred-of ℕ.zero = refl
 pred-of (suc n) = omega arith
+
+-- ---- the rows, as the code reads them: m is the number of units
+module _ (s : List ℕ) (ok : Bool) {m : ℕ} (e : m ≡ byte s 6) where
+  units : m ≡ unitsIn (view s)
+  units = e ∙ units-of s
+
+  pub grow-rows : firstOf (refusalsIn ok (view s) Call.grow) ≡ firstOf ((not ok, 1) ∷ (leb 16 m, 9) ∷ (pairOut (view s) m, 4) ∷ [])
+  unfolding firstOf refusalsIn pairOut
+  grow-rows = rw (← units) (ap (λ n. pick (not ok) 1 (pick (leb 16 m) 9 n)) (row-pair _ _ 4 []))
+
+  pub shrink-rows : firstOf (refusalsIn ok (view s) Call.shrink) ≡ firstOf ((not ok, 1) ∷ (leb m 1, 9) ∷ (pairOut (view s) (m - 1), 4) ∷ (pairCrowded (view s) (m - 1), 7) ∷ [])
+  unfolding firstOf refusalsIn pairOut pairCrowded
+  shrink-rows = rw (← units, ← pred-of m) (ap (λ n. pick (not ok) 1 (pick (leb m 1) 9 n)) (row-pair _ _ 4 ((pairCrowded (view s) (m - 1), 7) ∷ [])))
+
+  pub raise-rows : firstOf (refusalsIn ok (view s) Call.raise) ≡ firstOf ((not ok, 1) ∷ (ltb 0 (splitPointer m), 9) ∷ (leb 16 m, 9) ∷ (leb 3 (byte s 7), 9) ∷ [])
+  unfolding refusalsIn
+  raise-rows = rw (← units, level-of s)
+
+-- the last unit of a store with more than one
+pub last-unit : {s : List ℕ} {m : ℕ} → Sized s → m ≡ byte s 6 → leb m 1 ≡ false → Sized s × (1 ≤ m - 1) × (m - 1 < 16)
+last-unit {s} {m} store e some =
+    let l : 1 < m = leb-false m 1 some in
+    (store, omega arith, omega (arith, store .units))
 
 -- ---- a store that was tested
 pub sized : (s : List ℕ) {ok : Bool} → ok ≡ sound s → ok ≡ true → Sized s

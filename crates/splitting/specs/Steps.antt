@@ -2,7 +2,7 @@
 use Prim.Native.Nat.{ℕ, _+_, _*_, _/_, _%_, _<_}
 use mathlib.Core.Path.{_≡_}
 use mathlib.Core.List.{List}
-use mathlib.Core.Bool.{Bool, _&&_}
+use mathlib.Core.Bool.{Bool, _&&_, _||_}
 use lib.Dec.{eqb, ltb, leb}
 use lib.ListN.{set}
 use Rattle.buffer.specs.Choice.{pick}
@@ -14,6 +14,7 @@ use Rattle.group.specs.Widths.{slotBytes, checkBytes}
 use Rattle.group.specs.CheckRecord.{checkRecord}
 use Rattle.model.specs.Units.{splitPointer, touched}
 use Rattle.model.specs.Layout.{Store, view}
+use Rattle.model.specs.Reads.{outsIn, fillIn}
 use Rattle.model.specs.LayoutLaws.{Long}
 use Rattle.model.specs.StoreLaws.{withFront, withDstates, withCstates, withSlots, withChecks}
 use Rattle.lookup.specs.Sized.{Sized}
@@ -34,6 +35,14 @@ pub record Split (s : List ℕ) (n m : ℕ) : Type 0 where
   pub from : n ≡ splitPointer m
   pub apart : n < m
   pub unit : m < 16
+
+-- a unit is out in the group of unit m or in the group of the unit that m is split from
+unfoldable pub pairOut : Store → ℕ → Bool
+pairOut v m = ltb 0 (outsIn v (m / 4)) || ltb 0 (outsIn v (splitPointer m / 4))
+
+-- unit m and the unit that it was split from have more records than one unit holds
+unfoldable pub pairCrowded : Store → ℕ → Bool
+pairCrowded v m = ltb (v .size) (fillIn v (splitPointer m) + fillIn v m)
 
 -- check units that aren't in service are zero
 abbrev pub Blank : List ℕ → Type 0

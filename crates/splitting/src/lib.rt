@@ -15,7 +15,7 @@ ghost use Rattle.model.specs.Numbers.{Call, grow, shrink, raise, firstOf, refus
 ghost use Rattle.model.specs.Changes.{grown, shrunk};
 ghost use Rattle.model.specs.Perform.{outcome, plain, perform};
 ghost use Rattle.lookup.specs.Sized.{Sized};
-ghost use Rattle.splitting.specs.Steps.{Blank};
+ghost use Rattle.splitting.specs.Steps.{Blank, pairOut, pairCrowded};
 
 // Adds unit m: the records of the unit that is split are dealt out, and the check units of both groups are made anew.
 fn add_unit(s: &mut [u8], m: u8)
@@ -44,6 +44,25 @@ fn remove_unit(s: &mut [u8], m: u8)
     making::make_groups(s, n, m);
 }
 
+// Whether a unit is out in the group of unit m or in the group of the unit that m is split from.
+fn pair_out(s: &[u8], m: u8) -> bool
+    requires { ⌜ Sized (now s) × (1 ≤ m) × (m < 16) ⌝ }
+    ensures { λ r. ⌜ r ≡ pairOut (view (now (s .entry))) m ⌝ }
+{
+    let own = 0 < lookup::outs(s, m / 4);
+    let other = 0 < lookup::outs(s, lookup::split_pointer(m) / 4);
+    own || other
+}
+
+// Whether unit m and the unit that it was split from have more records than one unit holds.
+fn pair_crowded(s: &[u8], m: u8) -> bool
+    requires { ⌜ Sized (now s) × (1 ≤ m) × (m < 16) ⌝ }
+    ensures { λ r. ⌜ r ≡ pairCrowded (view (now (s .entry))) m ⌝ }
+{
+    let into = lookup::split_pointer(m);
+    buffer::byte_at(s, 5) < lookup::fill(s, into) + lookup::fill(s, m)
+}
+
 // The number of a grow, for a store that is sound or not.
 fn grow_number(s: &[u8], ok: bool) -> u8
     requires { ⌜ (ok ≡ true → Sized (now s)) ⌝ }
@@ -57,12 +76,8 @@ fn grow_number(s: &[u8], ok: bool) -> u8
     if full {
         return 9;
     }
-    let out = 0 < lookup::outs(s, m / 4);
+    let out = pair_out(s, m);
     if out {
-        return 4;
-    }
-    let other = 0 < lookup::outs(s, lookup::split_pointer(m) / 4);
-    if other {
         return 4;
     }
     0
@@ -82,17 +97,12 @@ fn shrink_number(s: &[u8], ok: bool) -> u8
         return 9;
     }
     let m = units - 1;
-    let out = 0 < lookup::outs(s, m / 4);
+    let out = pair_out(s, m);
     if out {
         return 4;
     }
-    let into = lookup::split_pointer(m);
-    let other = 0 < lookup::outs(s, into / 4);
-    if other {
-        return 4;
-    }
-    let narrow = buffer::byte_at(s, 5) < lookup::fill(s, into) + lookup::fill(s, m);
-    if narrow {
+    let crowded = pair_crowded(s, m);
+    if crowded {
         return 7;
     }
     0
