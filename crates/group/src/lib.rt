@@ -7,6 +7,7 @@ ghost use lib.ListN.{length};
 ghost use Rattle.buffer.specs.Bytes.{byte};
 ghost use Rattle.buffer.specs.Range.{count};
 ghost use Rattle.field.specs.Table.{products};
+ghost use Rattle.field.specs.Byte.{scale};
 ghost use Rattle.code.specs.Matrix.{within};
 ghost use lib.Dec.{eqb, ltb};
 ghost use Rattle.group.specs.Widths.{keyBytes, keysBytes};
@@ -37,6 +38,17 @@ pub fn add(into: &mut [u8], x: &[u8])
     }
 }
 
+// A byte times a symbol; times 1 it is the byte itself, and nothing is looked up.
+fn times(table: &[u8; 256], symbol: u8, b: u8) -> u8
+    requires { ⌜ (now table ≡ products) × (symbol < 16) ⌝ }
+    ensures { λ r. ⌜ r ≡ scale symbol b ⌝ }
+{
+    if symbol == 1 {
+        return b;
+    }
+    field::scale_in(table, symbol, b)
+}
+
 // Adds a body, times a symbol, to a parity.
 pub fn add_scaled(parity: &mut [u8], body: &[u8], symbol: u8, table: &[u8; 256])
     requires { ⌜ (length (now parity) ≡ length (now body)) × (symbol < 16) × (now table ≡ products) ⌝ }
@@ -44,7 +56,7 @@ pub fn add_scaled(parity: &mut [u8], body: &[u8], symbol: u8, table: &[u8; 256])
 {
     let mut i = 0;
     while i < parity.len() {
-        parity[i] = parity[i] ^ field::scale_in(table, symbol, body[i]);
+        parity[i] = parity[i] ^ times(table, symbol, body[i]);
         i += 1;
     }
 }

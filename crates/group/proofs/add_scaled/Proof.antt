@@ -21,7 +21,7 @@ abbrev μ-loop : tie.MeasureT-loop
 loop-again : tie.Need-loop-again Inv-loop μ-loop
 loop-again c =
     let inv = c .before .before .before .before .loop .inv in
-    filling-turn _ inv (search needs) (ap₂ bitXor (filling-read inv) (c .scale-in .ensures))
+    filling-turn _ inv (search needs) (ap₂ bitXor (filling-read inv) (c .times .ensures))
 
 returns : tie.Need-returns Inv-loop μ-loop
 returns c =
