@@ -12,19 +12,21 @@ use Rattle.model.specs.Units.{unitOf}
 use Rattle.model.specs.Layout.{view, keyOf}
 use Rattle.model.specs.Reads.{homeIn, outsIn, fillIn}
 use Rattle.model.specs.StoreLaws.{units-of}
-use Rattle.soundness.specs.Survey.{Surveyed, found-sound, fill-listed, fill-most}
+use Rattle.soundness.specs.Survey.{Surveyed, found-sound, fill-listed, fill-most, outs-counted}
 use Rattle.lookup.specs.Sized.{sound-sized}
 use Rattle.lookup.specs.Keys.{rank-in, own-fill}
 use Rattle.lookup.specs.Groups.{none-out}
 use Rattle.writing.specs.Homes.{Homed}
 
--- the code reads m, u, the number of units out, n at the index i, and r
-pub homed : {s : List ℕ} {ok : Bool} {fills : List ℕ} {u i r : ℕ} {out : Bool} (k : ℕ) → Surveyed s ok fills → ok ≡ true → (u ≡ unitOf (byte s 6) k) × (u < byte s 6)
-    → out ≡ ltb 0 (outsIn (view s) (u / 4)) → i ≡ u → (r ≡ first (getD fills i 0) (λ q. eqb (keyOf (view s .slot u q)) k)) × (r ≤ getD fills i 0)
-    → Homed s k u out (getD fills i 0) r
+-- the code reads m, u, the number of units out at the index j, n at the index i, and r
+pub homed : {s : List ℕ} {ok : Bool} {fills keepers outs : List ℕ} {u i j r : ℕ} {out : Bool} (k : ℕ) → Surveyed s ok fills keepers outs → ok ≡ true
+    → (u ≡ unitOf (byte s 6) k) × (u < byte s 6) → out ≡ ltb 0 (getD outs j 0) → j ≡ u / 4 → i ≡ u
+    → (r ≡ first (getD fills i 0) (λ q. eqb (keyOf (view s .slot u q)) k)) × (r ≤ getD fills i 0) → Homed s k u out (getD fills i 0) r
 unfolding homeIn
-homed {s} {ok} {fills} {u} {i} {r} {out} k g e eu eo ei er =
+homed {s} {ok} {fills} {outs = outs} {u} {i} {j} {r} {out} k g e eu read ej ei er =
     let low : u < 16 = omega (arith, sound-sized (found-sound g e) .units) in
+    let eo : out ≡ ltb 0 (outsIn (view s) (u / 4)) =
+    read ∙ ap (ltb 0) (ap (λ h. getD outs h 0) ej ∙ outs-counted g e (u / 4) (omega arith)) in
     let serves : out ≡ false → byte s (8 + u) ≡ 2 → ⊥ = λ o. none-out s u (sym eo ∙ o) in
     let own : out ≡ false → getD fills i 0 ≡ fillIn (view s) u =
     λ o. ap (λ j. getD fills j 0) ei ∙ fill-listed g e u low (λ w. absurd (serves o w)) ∙ sym (own-fill s u (serves o)) in

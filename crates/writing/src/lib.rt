@@ -135,7 +135,7 @@ struct Home {
 
 // The home of a key in a store that is sound, by the survey of the store; nothing is looked up in one that is not.
 fn home_of(s: &[u8], survey: soundness::Survey, key: u32) -> Home
-    requires { ⌜ Surveyed (now s) (survey .sound) (survey .fills) ⌝ }
+    requires { ⌜ Surveyed (now s) (survey .sound) (survey .fills) (survey .keepers) (survey .outs) ⌝ }
     ensures { λ h. ⌜ (survey .sound ≡ true → Homed (now (s .entry)) key (h .unit) (h .out) (h .fill) (h .rank)) ⌝ }
 {
     if !survey.sound {
@@ -147,7 +147,8 @@ fn home_of(s: &[u8], survey: soundness::Survey, key: u32) -> Home
         };
     }
     let unit = lookup::unit_of(s[6], key);
-    let out = 0 < lookup::outs(s, unit / 4);
+    let outs = survey.outs;
+    let out = 0 < outs[buffer::wide(unit / 4)];
     let fills = survey.fills;
     let fill = fills[buffer::wide(unit)];
     let rank = lookup::rank(s, unit, fill, key);

@@ -1,8 +1,7 @@
 -- `writing::home_of` meets its contract. Assumes nothing.
 use Prim.Native.Nat.{_<_}
-use mathlib.Core.Path.{ap}
+use mathlib.Core.Path.{refl}
 use native.Mathlib.Omega.{arith}
-use lib.Dec.{ltb}
 use borrow.Author.Tests.{not-true, not-false}
 use borrow.Author.Needs.{needs}
 use Rattle.buffer.specs.TestLaws.{not-both}
@@ -25,35 +24,35 @@ unit-of-requires c κs =
     let good = c .before in
     sound-sized (found-sound (good .before .before .before .pre) (not-false _ (good .if1 .left))) .unit
 
-outs-requires : tie.Need-outs-requires
-outs-requires c κs =
-    let good = c .before .before in
-    let store = sound-sized (found-sound (good .before .before .before .pre) (not-false _ (good .if1 .left))) in
-    (store, omega (arith, c .unit-of .ensures .1, store .units))
+array-read-out : tie.Need-array-read-out
+array-read-out c =
+    let unit = c .before .before in
+    let good = unit .before .before in
+    omega (arith, unit .unit-of .ensures .1, sound-sized (found-sound (good .before .before .before .pre) (not-false _ (good .if1 .left))) .units)
 
 array-read-fill : tie.Need-array-read-fill
 array-read-fill c =
-    let unit = c .before .before .before in
+    let unit = c .before .before .before .before in
     let good = unit .before .before in
     omega (arith, unit .unit-of .ensures .1, sound-sized (found-sound (good .before .before .before .pre) (not-false _ (good .if1 .left))) .units)
 
 rank-requires : tie.Need-rank-requires
 rank-requires c κs =
-    let unit = c .before .before .before in
+    let unit = c .before .before .before .before in
     let good = unit .before .before in
     let start = good .before .before .before in
     let store = sound-sized (found-sound (start .pre) (not-false _ (good .if1 .left))) in
     let low : unit .unit-of .result < 16 = omega (arith, unit .unit-of .ensures .1, store .units) in
-    (store, low, rw (c .wide .ensures .0) (fill-most (start .pre) (unit .unit-of .result) low))
+    (store, low, rw (c .wide2 .ensures .0) (fill-most (start .pre) (unit .unit-of .result) low))
 
 returns-2 : tie.Need-returns-2
 returns-2 c =
     let read = c .before in
     let outs = read .before .before in
-    let unit = outs .before in
+    let unit = outs .before .before in
     let good = unit .before .before in
     let start = good .before .before .before in
-    λ e. homed (start .args .key) (start .pre) e (unit .unit-of .ensures) (ap (ltb 0) (outs .outs .ensures .0)) (read .wide .ensures .0) (c .rank .ensures)
+    λ e. homed (start .args .key) (start .pre) e (unit .unit-of .ensures) refl (outs .wide .ensures .0) (read .wide2 .ensures .0) (c .rank .ensures)
 
 pub home-of-spec : {M : Type 1} → statement M
 home-of-spec =
@@ -62,7 +61,8 @@ home-of-spec =
     returns
     shared-slice-read-unit-of
     unit-of-requires
-    outs-requires
+    (λ c κs. search needs)
+    array-read-out
     (λ c κs. search needs)
     array-read-fill
     rank-requires
