@@ -162,13 +162,12 @@ pub struct Keys {
     pub step: usize,
 }
 
-// The keys of data unit u: its own, or for a unit that is out those that a check unit lists.
-pub fn keys_of(s: &[u8], u: u8) -> Keys
-    requires { ⌜ Known (now s) u ⌝ }
+// The keys of data unit u: its own, or for a unit that is out those that c lists, the first check unit in service of its group.
+pub fn keys_of(s: &[u8], u: u8, c: u8) -> Keys
+    requires { ⌜ Known (now s) u × (c ≡ keeper (view (now s)) (u / 4)) ⌝ }
     ensures { λ k. ⌜ Lists (now (s .entry)) u (k .base) (k .step) ⌝ }
 {
     if state(s, u) == 2 {
-        let c = keeper(s, u / 4);
         return Keys {
             base: check_at(s[5], c, 0) + 4 * buffer::wide(u % 4),
             step: 32,
@@ -180,12 +179,12 @@ pub fn keys_of(s: &[u8], u: u8) -> Keys
     }
 }
 
-// The rank of a key among the n that are listed for data unit u; n where it is not there.
-pub fn listed_rank(s: &[u8], u: u8, n: u8, key: u32) -> u8
-    requires { ⌜ Known (now s) u × (n ≡ listedFill (view (now s)) u) × (n ≤ byte (now s) 5) ⌝ }
+// The rank of a key among the n that are listed for data unit u, with the first check unit c in service of its group; n where it is not there.
+pub fn listed_rank(s: &[u8], u: u8, c: u8, n: u8, key: u32) -> u8
+    requires { ⌜ Known (now s) u × (c ≡ keeper (view (now s)) (u / 4)) × (n ≡ listedFill (view (now s)) u) × (n ≤ byte (now s) 5) ⌝ }
     ensures { λ r. ⌜ (r ≡ listedRank (view (now (s .entry))) u key) × (r ≤ n) ⌝ }
 {
-    let keys = keys_of(s, u);
+    let keys = keys_of(s, u, c);
     find(s, keys.base, keys.step, n, key)
 }
 
@@ -280,7 +279,7 @@ pub fn listed_key(s: &[u8], u: u8, r: u8) -> &[u8]
     requires { ⌜ Known (now s) u × (r < byte (now s) 5) ⌝ }
     ensures { λ x. ⌜ now x ≡ listedKey (view (now (s .entry))) u r ⌝ }
 {
-    let keys = keys_of(s, u);
+    let keys = keys_of(s, u, keeper(s, u / 4));
     let at = keys.base + keys.step * buffer::wide(r);
     &s[at..at + 4]
 }

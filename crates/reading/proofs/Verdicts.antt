@@ -17,9 +17,9 @@ use Rattle.buffer.specs.Bytes.{byte}
 use Rattle.group.specs.Widths.{bodyBytes, slotBytes}
 use Rattle.model.specs.Units.{unitOf}
 use Rattle.model.specs.Layout.{view, unitsIn}
-use Rattle.model.specs.Reads.{homeIn, beyondIn, listedFill, listedRank, lostIn, totalIn}
+use Rattle.model.specs.Reads.{homeIn, beyondIn, keeper, listedFill, listedRank, lostIn, totalIn}
 use Rattle.model.specs.Numbers.{firstOf}
-use Rattle.soundness.specs.Survey.{Surveyed, fill-listed}
+use Rattle.soundness.specs.Survey.{Surveyed, fill-listed, keeper-found}
 use Rattle.lookup.specs.Sized.{Sized}
 use Rattle.lookup.specs.Keys.{listed-fill-small}
 use Rattle.lookup.specs.Groups.{Recoverable, Whole, recoverable-known, whole-unit, none-lost}
@@ -78,10 +78,14 @@ safe-unit {s} {u} h l e =
     }
 
 -- and the survey has counted it; the code reads the count at the index i
-pub safe-fill : {s : List ℕ} {ok : Bool} {fills : List ℕ} {u i : ℕ} → Surveyed s ok fills → ok ≡ true → Recoverable s u → i ≡ u → (getD fills i 0 ≡ listedFill (view s) u) × (getD fills i 0 ≤ byte s 5)
-safe-fill {s} {ok} {fills} {u} {i} g e h k =
+pub safe-fill : {s : List ℕ} {ok : Bool} {fills keepers outs : List ℕ} {u i : ℕ} → Surveyed s ok fills keepers outs → ok ≡ true → Recoverable s u → i ≡ u → (getD fills i 0 ≡ listedFill (view s) u) × (getD fills i 0 ≤ byte s 5)
+safe-fill {s} {ok} {fills} {u = u} {i} g e h k =
     let n : getD fills i 0 ≡ listedFill (view s) u = ap (λ j. getD fills j 0) k ∙ fill-listed g e u (h .unit) (recoverable-known h .listed) in
     (n, rw n (listed-fill-small s u))
+
+-- and found the first check unit in service of its group, which the code reads at the index i
+pub safe-keeper : {s : List ℕ} {ok : Bool} {fills keepers outs : List ℕ} {u i : ℕ} → Surveyed s ok fills keepers outs → ok ≡ true → Recoverable s u → i ≡ u / 4 → getD keepers i 0 ≡ keeper (view s) (u / 4)
+safe-keeper {keepers = keepers} {u = u} g e h k = let l = h .unit in ap (λ j. getD keepers j 0) k ∙ keeper-found g e (u / 4) (omega arith)
 
 -- ---- list
 pub not-counted : {s : List ℕ} {ok : Bool} {n : ℕ} (m : ℕ) → suc m ≡ listNumber ok (view s) n → Counted s ok n (suc m) 0
@@ -92,7 +96,7 @@ pub safe-store : {s : List ℕ} → Sized s → lostIn (view s) ≡ false → Wh
 safe-store {s} h e = record { sized = h; units = λ u l. safe-unit h l (none-lost s e u l) .whole }
 
 -- then the survey has counted every unit
-pub whole-fills : {s : List ℕ} {ok : Bool} {fills : List ℕ} → Surveyed s ok fills → ok ≡ true → Whole s → Fills s fills
+pub whole-fills : {s : List ℕ} {ok : Bool} {fills keepers outs : List ℕ} → Surveyed s ok fills keepers outs → ok ≡ true → Whole s → Fills s fills
 whole-fills g e h = record { listed = λ u l. fill-listed g e u l (recoverable-known (whole-unit h u l) .listed) }
 
 pub fills-total : {s fills : List ℕ} → Fills s fills → sum 16 (λ u. getD fills u 0) ≡ totalIn (view s)

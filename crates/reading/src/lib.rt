@@ -36,7 +36,7 @@ fn refused(number: u8) -> Found
 
 // Looks a key up for a read into len bytes, by the survey of the store.
 fn look_up(s: &[u8], survey: soundness::Survey, key: u32, len: usize) -> Found
-    requires { ⌜ Surveyed (now s) (survey .sound) (survey .fills) ⌝ }
+    requires { ⌜ Surveyed (now s) (survey .sound) (survey .fills) (survey .keepers) (survey .outs) ⌝ }
     ensures { λ f. ⌜ Verdict (now (s .entry)) (survey .sound) key len (f .number) (f .unit) (f .rank) ⌝ }
 {
     if key == 0 {
@@ -54,7 +54,9 @@ fn look_up(s: &[u8], survey: soundness::Survey, key: u32, len: usize) -> Found
     }
     let fills = survey.fills;
     let n = fills[buffer::wide(unit)];
-    let rank = lookup::listed_rank(s, unit, n, key);
+    let keepers = survey.keepers;
+    let keeper = keepers[buffer::wide(unit / 4)];
+    let rank = lookup::listed_rank(s, unit, keeper, n, key);
     if n <= rank {
         return refused(6);
     }
@@ -130,7 +132,7 @@ fn total(fills: [u8; 16]) -> usize
 
 // The verdict on a list into len bytes, with its count, by the survey of the store.
 fn count_records(s: &[u8], survey: soundness::Survey, len: usize) -> Listing
-    requires { ⌜ Surveyed (now s) (survey .sound) (survey .fills) ⌝ }
+    requires { ⌜ Surveyed (now s) (survey .sound) (survey .fills) (survey .keepers) (survey .outs) ⌝ }
     ensures { λ l. ⌜ Counted (now (s .entry)) (survey .sound) len (l .number) (l .count) ⌝ }
 {
     if !survey.sound {

@@ -2,18 +2,21 @@
 use mathlib.Core.Path.{_≡_, sym, ap, ap₂, _∙_}
 use mathlib.Core.Bool.{Bool, true, false}
 use mathlib.Core.List.{List}
-use Prim.Native.Nat.{ℕ, _+_, _*_, _/_, _%_, _≤_}
+use Prim.Native.Nat.{ℕ, _+_, _*_, _/_, _%_, _≤_, _<_}
 use native.Mathlib.Omega.{arith}
 use lib.Dec.{eqb}
+use lib.ListN.{getD}
 use borrow.Author.Tests.{eq-eqb, ne-eqb}
 use Rattle.buffer.specs.ChoiceLaws.{by-pick}
-use Rattle.buffer.specs.Range.{first}
-use Rattle.buffer.specs.RangeLaws.{first-le, first-le-at}
+use Rattle.buffer.specs.Range.{first, count}
+use Rattle.buffer.specs.Loops.{entries}
+use Rattle.buffer.specs.RangeLaws.{getD-entries, first-le, first-le-at, count-ext}
 use Rattle.buffer.specs.Bytes.{byte}
+use Rattle.group.specs.Members.{outs}
 use Rattle.model.specs.Layout.{view, slotAt, checkAt}
-use Rattle.model.specs.Reads.{keeper}
+use Rattle.model.specs.Reads.{keeper, outsIn}
 use Rattle.soundness.specs.Keys.{keyFrom, fillOf, reached, sameKeys, noKeys, sameLists}
-use Rattle.soundness.specs.Pieces.{zeroBetween, dataKeys, columnKeys, columnAt, unkept, dataFill, columnFill}
+use Rattle.soundness.specs.Pieces.{Kept, zeroBetween, dataKeys, columnKeys, columnAt, unkept, dataFill, columnFill}
 use Rattle.soundness.proofs.Places.{data-list, column-list}
 
 -- where the keys are good they reach no further than the list
@@ -21,6 +24,23 @@ pub reached-le : (b m u : ℕ) (key : ℕ → ℕ) {n : ℕ} → n ≡ reached b
 unfolding reached fillOf
 reached-le b m u key e l =
     rw e (by-pick (λ x. x ≤ 64 → x ≤ b) _ (first b (λ r. eqb (key r) 0)) 65 (λ _ _. first-le b (λ r. eqb (key r) 0)) (λ _ k. absurd (omega arith)) (rw e at l))
+
+-- ---- the first check unit in service of a group, as the code reads it at an index i of all four
+pub kept-at : {s keepers : List ℕ} {i : ℕ} (g : ℕ) → keepers ≡ entries 4 (keeper (view s)) → i ≡ g → g < 4 → Kept s g (getD keepers i 0)
+kept-at {s} {keepers} {i} g h e l =
+    let found : getD keepers i 0 ≡ keeper (view s) g = ap₂ (λ x j. getD x j 0) h e ∙ getD-entries 4 (keeper (view s)) g 0 l in
+    let most : keeper (view s) g ≤ 3 * g + 3 = unfold keeper view in omega (arith, first-le 3 (λ j. eqb (byte s (24 + (3 * g + j))) 1)) in
+    record { found = found; most = omega arith }
+
+-- the units out of a group: four states from 8 + 4g on, three from 24 + 3g on
+pub group-outs : (s : List ℕ) (g : ℕ) {w a b : ℕ} → w ≡ g → a ≡ count 4 (λ i. eqb (byte s (8 + 4 * w + i)) 2) → b ≡ count 3 (λ i. eqb (byte s (24 + 3 * w + i)) 2)
+    → a + b ≡ outsIn (view s) g
+unfolding outsIn outs view
+group-outs s g e f h =
+    ap₂
+    (λ x y. x + y)
+    (f ∙ count-ext 4 _ _ (λ i _. ap (λ j. eqb (byte s j) 2) (omega arith)))
+    (h ∙ count-ext 3 _ _ (λ i _. ap (λ j. eqb (byte s j) 2) (omega arith)))
 
 -- ---- whether a check unit of the group is in service
 pub is-unkept : (s : List ℕ) (g : ℕ) {k : ℕ} → k ≡ keeper (view s) g → k ≡ 3 * g + 3 → unkept s g ≡ true

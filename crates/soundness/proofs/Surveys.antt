@@ -1,5 +1,5 @@
 -- What the test hands on, from the ends of its two steps: counting the keys of the units, and the whole. Assumes nothing.
-use mathlib.Core.Path.{_≡_, refl, sym, ap, _∙_}
+use mathlib.Core.Path.{_≡_, refl, sym, ap₂, _∙_}
 use mathlib.Core.Bool.{Bool, true, false}
 use mathlib.Core.List.{List}
 use Prim.Native.Nat.{ℕ, _+_, _≤_, _<_}
@@ -12,15 +12,19 @@ use Rattle.buffer.specs.Loops.{entries}
 use Rattle.buffer.specs.RangeLaws.{all-true, entries-ext}
 use Rattle.buffer.specs.Bytes.{byte}
 use Rattle.model.specs.Layout.{view}
+use Rattle.model.specs.Reads.{keeper, outsIn}
 use Rattle.model.specs.Sound.{ranges}
 use Rattle.soundness.specs.Pieces.{placed, groupPlaced, unitGood, unitFill, unitCount, checkGood, pieces}
-use Rattle.soundness.specs.Survey.{knownFill, Counted, Surveyed}
+use Rattle.soundness.specs.Survey.{knownFill, Counted, Nothing, Surveyed}
 use Rattle.soundness.proofs.Units.{fill-small, good-fill}
 use Rattle.soundness.proofs.Theorem.{ranged, pieces-sound}
 
--- nothing is counted
-none-filled : {ok : Bool} {fills : List ℕ} (f : ℕ → ℕ) → ok ≡ false → fills ≡ entries 16 (λ _. 0) → fills ≡ entries 16 (λ u. pick ok (f u) 0)
-none-filled {ok} f e h = h ∙ entries-ext 16 (λ _. 0) (λ u. pick ok (f u) 0) (λ u _. sym (pick-false e (f u) 0))
+-- what is handed on, and that nothing is
+all-known : {ok : Bool} {l : List ℕ} (n : ℕ) (f : ℕ → ℕ) → ok ≡ true → l ≡ entries n f → l ≡ entries n (λ i. pick ok (f i) 0)
+all-known {ok} n f e h = h ∙ entries-ext n f (λ i. pick ok (f i) 0) (λ i _. sym (pick-true e (f i) 0))
+
+none-known : {ok : Bool} {l : List ℕ} (n : ℕ) (f : ℕ → ℕ) → ok ≡ false → l ≡ entries n (λ _. 0) → l ≡ entries n (λ i. pick ok (f i) 0)
+none-known {ok} n f e h = h ∙ entries-ext n (λ _. 0) (λ i. pick ok (f i) 0) (λ i _. sym (pick-false e (f i) 0))
 
 -- ---- the count of one unit: more than 64 where the unit is not good
 module _ (s : List ℕ) (u : ℕ) {n : ℕ} (count : n ≡ unitCount s u) where
@@ -44,27 +48,36 @@ module _ (s : List ℕ) (u : ℕ) {n : ℕ} (count : n ≡ unitCount s u) where
 
 -- ---- the counts of all units
 pub counted : {s fills : List ℕ} → true ≡ all 16 (unitGood s) → fills ≡ entries 16 (unitFill s) → Counted s true fills
-counted {s} h f = record { tested = h; filled = f ∙ entries-ext 16 (unitFill s) (λ u. pick true (unitFill s u) 0) (λ u _. sym (pick-true refl (unitFill s u) 0)) }
+counted {s} h f = record { tested = h; filled = all-known 16 (unitFill s) refl f }
 
-module _ {s : List ℕ} {ok : Bool} {fills : List ℕ} where
-  pub not-counted : ok ≡ false → fills ≡ entries 16 (λ _. 0) → false ≡ all 16 (unitGood s) → Counted s ok fills
-  not-counted e f h = record { tested = e ∙ h; filled = none-filled (unitFill s) e f }
+pub not-counted : {s : List ℕ} {ok : Bool} {fills : List ℕ} → ok ≡ false → fills ≡ entries 16 (λ _. 0) → false ≡ all 16 (unitGood s) → Counted s ok fills
+not-counted {s} e f h = record { tested = e ∙ h; filled = none-known 16 (unitFill s) e f }
 
-  -- ---- the whole test
-  pub not-sound : ok ≡ false → fills ≡ entries 16 (λ _. 0) → false ≡ pieces s → Surveyed s ok fills
-  not-sound e f h = record { tested = e ∙ h ∙ pieces-sound s; filled = none-filled (knownFill (view s)) e f }
+-- ---- the whole test
+module _ {s fills keepers outs : List ℕ} where
+  pub not-sound : {ok : Bool} → Nothing ok fills keepers outs → false ≡ pieces s → Surveyed s ok fills keepers outs
+  not-sound n h =
+      record {
+        tested = n .unsound ∙ h ∙ pieces-sound s;
+        filled = none-known 16 (knownFill (view s)) (n .unsound) (n .uncounted);
+        kept = none-known 4 (keeper (view s)) (n .unsound) (n .unkept);
+        out = none-known 4 (outsIn (view s)) (n .unsound) (n .unknown);
+      }
 
-  pub surveyed : ranges s ≡ true → all 16 (λ u. placed (ltb u (byte s 6)) (byte s (8 + u))) ≡ true → all 4 (groupPlaced s) ≡ true → Counted s ok fills → ok ≡ true → all 12 (checkGood s) ≡ true
-      → Surveyed s ok fills
+  pub surveyed : {good : Bool} → ranges s ≡ true → all 16 (λ u. placed (ltb u (byte s 6)) (byte s (8 + u))) ≡ true → all 4 (groupPlaced s) ≡ true → Counted s good fills → good ≡ true → all 12 (checkGood s) ≡ true
+      → keepers ≡ entries 4 (keeper (view s)) → outs ≡ entries 4 (outsIn (view s)) → Surveyed s true fills keepers outs
   unfolding pieces
-  surveyed range states groups found e checks =
+  surveyed {good} range states groups found e checks kept out =
       let units : all 16 (unitGood s) ≡ true = sym (found .tested) ∙ e in
       let whole : true ≡ pieces s = rw (range, states, groups, units, checks) in
       record {
-        tested = e ∙ whole ∙ pieces-sound s;
+        tested = whole ∙ pieces-sound s;
         filled =
             found .filled
-            ∙ entries-ext 16 (λ u. pick ok (unitFill s u) 0) (λ u. pick ok (knownFill (view s) u) 0) (λ u l.
-            ap (λ n. pick ok n 0)
+            ∙ entries-ext 16 (λ u. pick good (unitFill s u) 0) (λ u. pick true (knownFill (view s) u) 0) (λ u l.
+            ap₂ (λ t n. pick t n 0)
+            e
             (good-fill s (ranged s range) u l (all-true 16 (λ u. placed (ltb u (byte s 6)) (byte s (8 + u))) states u l) (all-true 16 (unitGood s) units u l)));
+        kept = all-known 4 (keeper (view s)) refl kept;
+        out = all-known 4 (outsIn (view s)) refl out;
       }

@@ -1,6 +1,7 @@
 -- The pieces that the soundness test is made of: one test for each data unit and one for each check unit, over the bytes. That they say what
 -- document 01 asks is the theorem `pieces-sound`. Assumes nothing.
 use Prim.Native.Nat.{ℕ, _+_, _*_, _-_, _/_, _%_, _≤_}
+use mathlib.Core.Path.{_≡_}
 use mathlib.Core.List.{List}
 use mathlib.Core.Bool.{Bool, _&&_, _||_}
 use lib.Dec.{eqb, ltb, leb}
@@ -20,6 +21,11 @@ pub record Ranged (s : List ℕ) : Type 0 where
   pub some : 1 ≤ byte s 6
   pub most : byte s 6 ≤ 16
   pub long : storeBytes (byte s 5) ≤ length s
+
+-- k is the first check unit in service of group g, or 3g + 3
+pub record Kept (s : List ℕ) (g k : ℕ) : Type 0 where
+  pub found : k ≡ keeper (view s) g
+  pub most : k ≤ 3 * g + 3
 
 -- the bytes from a place up to an end are zero
 unfoldable pub zeroBetween : List ℕ → ℕ → ℕ → Bool

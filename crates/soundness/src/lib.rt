@@ -8,15 +8,15 @@ ghost use lib.Dec.{eqb, ltb};
 ghost use lib.ListN.{length};
 ghost use Rattle.buffer.specs.Bytes.{byte};
 ghost use Rattle.buffer.specs.Choice.{pick};
-ghost use Rattle.buffer.specs.Range.{all};
+ghost use Rattle.buffer.specs.Range.{all, count};
 ghost use Rattle.buffer.specs.Loops.{entries};
 ghost use Rattle.model.specs.Units.{unitOf, powerBelow};
 ghost use Rattle.model.specs.Layout.{view, slotAt, checkAt};
-ghost use Rattle.model.specs.Reads.{keeper};
+ghost use Rattle.model.specs.Reads.{keeper, outsIn};
 ghost use Rattle.model.specs.Sound.{ranges, checksIn, sound};
 ghost use Rattle.soundness.specs.Keys.{keyFrom, Within, placeOf, isNew, reached, sameKeys, noKeys, le32, samePair, sameLists};
-ghost use Rattle.soundness.specs.Pieces.{Ranged, placed, groupPlaced, zeroBetween, dataFill, lostFill, served, lost, absent, unitCount, checkGood};
-ghost use Rattle.soundness.specs.Survey.{Counted, Surveyed};
+ghost use Rattle.soundness.specs.Pieces.{Ranged, Kept, placed, groupPlaced, zeroBetween, dataFill, lostFill, served, lost, absent, unitCount, checkGood};
+ghost use Rattle.soundness.specs.Survey.{Counted, Nothing, Surveyed};
 
 fn wide32(x: u8) -> u32
     ensures { λ r. ⌜ (r ≡ x) × (r < 256) ⌝ }
@@ -236,11 +236,55 @@ fn keeper_of(s: &[u8], g: u8) -> u8
     3 * g + 3
 }
 
-// ---- one unit: how many keys are listed for it, or 65 where it is not as it should be
+fn keepers_of(s: &[u8]) -> [u8; 4]
+    requires { ⌜ 36 ≤ length (now s) ⌝ }
+    ensures { λ r. ⌜ r ≡ entries 4 (keeper (view (now (s .entry)))) ⌝ }
+{
+    [
+        keeper_of(s, 0),
+        keeper_of(s, 1),
+        keeper_of(s, 2),
+        keeper_of(s, 3),
+    ]
+}
+
+// How many of n units are out, whose states stand from a place on.
+fn out_from(s: &[u8], at: usize, n: u8) -> u8
+    requires { ⌜ at + n ≤ length (now s) ⌝ }
+    ensures { λ r. ⌜ (r ≡ count n (λ i. eqb (byte (now (s .entry)) (at + i)) 2)) × (r ≤ n) ⌝ }
+{
+    let mut out: u8 = 0;
+    let mut i: u8 = 0;
+    while i < n {
+        if s[at + buffer::wide(i)] == 2 {
+            out += 1;
+        }
+        i += 1;
+    }
+    out
+}
+
+// How many units of a group are out.
+fn outs_in(s: &[u8], g: u8) -> u8
+    requires { ⌜ (g < 4) × (36 ≤ length (now s)) ⌝ }
+    ensures { λ r. ⌜ r ≡ outsIn (view (now (s .entry))) g ⌝ }
+{
+    let group = buffer::wide(g);
+    out_from(s, 8 + 4 * group, 4) + out_from(s, 24 + 3 * group, 3)
+}
+
+fn outs_of(s: &[u8]) -> [u8; 4]
+    requires { ⌜ 36 ≤ length (now s) ⌝ }
+    ensures { λ r. ⌜ r ≡ entries 4 (outsIn (view (now (s .entry)))) ⌝ }
+{
+    [outs_in(s, 0), outs_in(s, 1), outs_in(s, 2), outs_in(s, 3)]
+}
+
+// ---- one unit, and the first check unit k in service of its group: how many keys are listed for it, or 65 where it is not as it should be
 
 // In service: its keys, zeros behind them, and the keys listed for it.
-fn served_count(t: &mut [u8; 2048], s: &[u8], u: u8) -> u8
-    requires { ⌜ Ranged (now s) × (u < byte (now s) 6) × (length (now t) ≡ 2048) ⌝ }
+fn served_count(t: &mut [u8; 2048], s: &[u8], k: u8, u: u8) -> u8
+    requires { ⌜ Ranged (now s) × Kept (now s) (u / 4) k × (u < byte (now s) 6) × (length (now t) ≡ 2048) ⌝ }
     ensures { λ r. ⌜ (r ≡ pick (served (now (s .entry)) u) (dataFill (now (s .entry)) u) 65) × (length (now (t .exit)) ≡ 2048) ⌝ }
 {
     let b = s[5];
@@ -255,7 +299,6 @@ fn served_count(t: &mut [u8; 2048], s: &[u8], u: u8) -> u8
         return 65;
     }
     let g = u / 4;
-    let k = keeper_of(s, g);
     if k != 3 * g + 3 {
         if !same_column(s, at, checks_at(b, k) + 4 * buffer::wide(u % 4), w) {
             return 65;
@@ -265,8 +308,8 @@ fn served_count(t: &mut [u8; 2048], s: &[u8], u: u8) -> u8
 }
 
 // Out: zeros, and the keys listed for it.
-fn lost_count(t: &mut [u8; 2048], s: &[u8], u: u8) -> u8
-    requires { ⌜ Ranged (now s) × (u < byte (now s) 6) × (length (now t) ≡ 2048) ⌝ }
+fn lost_count(t: &mut [u8; 2048], s: &[u8], k: u8, u: u8) -> u8
+    requires { ⌜ Ranged (now s) × Kept (now s) (u / 4) k × (u < byte (now s) 6) × (length (now t) ≡ 2048) ⌝ }
     ensures { λ r. ⌜ (r ≡ pick (lost (now (s .entry)) u) (lostFill (now (s .entry)) u) 65) × (length (now (t .exit)) ≡ 2048) ⌝ }
 {
     let b = s[5];
@@ -277,7 +320,6 @@ fn lost_count(t: &mut [u8; 2048], s: &[u8], u: u8) -> u8
         return 65;
     }
     let g = u / 4;
-    let k = keeper_of(s, g);
     if k == 3 * g + 3 {
         return 0;
     }
@@ -293,8 +335,8 @@ fn lost_count(t: &mut [u8; 2048], s: &[u8], u: u8) -> u8
 }
 
 // Not in place: zeros, and no keys listed for it.
-fn is_absent(s: &[u8], u: u8) -> bool
-    requires { ⌜ Ranged (now s) × (u < 16) ⌝ }
+fn is_absent(s: &[u8], k: u8, u: u8) -> bool
+    requires { ⌜ Ranged (now s) × Kept (now s) (u / 4) k × (u < 16) ⌝ }
     ensures { λ r. ⌜ r ≡ absent (now (s .entry)) u ⌝ }
 {
     let b = s[5];
@@ -304,63 +346,59 @@ fn is_absent(s: &[u8], u: u8) -> bool
         return false;
     }
     let g = u / 4;
-    let k = keeper_of(s, g);
     if k == 3 * g + 3 {
         return true;
     }
     no_keys(s, checks_at(b, k) + 4 * buffer::wide(u % 4), 0, w)
 }
 
-fn unit_count(t: &mut [u8; 2048], s: &[u8], u: u8) -> u8
-    requires { ⌜ Ranged (now s) × (u < 16) × (length (now t) ≡ 2048) ⌝ }
+fn unit_count(t: &mut [u8; 2048], s: &[u8], k: u8, u: u8) -> u8
+    requires { ⌜ Ranged (now s) × Kept (now s) (u / 4) k × (u < 16) × (length (now t) ≡ 2048) ⌝ }
     ensures { λ r. ⌜ (r ≡ unitCount (now (s .entry)) u) × (length (now (t .exit)) ≡ 2048) ⌝ }
 {
     if u < s[6] {
         if s[8 + buffer::wide(u)] == 1 {
-            return served_count(t, s, u);
+            return served_count(t, s, k, u);
         }
-        return lost_count(t, s, u);
+        return lost_count(t, s, k, u);
     }
-    if is_absent(s, u) { 0 } else { 65 }
+    if is_absent(s, k, u) { 0 } else { 65 }
 }
 
-// What the test learns of a store: whether it is sound, and where it is, how many keys are listed for each data unit.
-pub struct Survey {
-    pub sound: bool,
-    pub fills: [u8; 16],
+// The counts of the data units, as far as they are good.
+struct Counts {
+    good: bool,
+    fills: [u8; 16],
 }
 
-fn unsound() -> Survey
-    ensures { λ r. ⌜ (r .sound ≡ false) × (r .fills ≡ entries 16 (λ _. 0)) ⌝ }
+fn uncounted() -> Counts
+    ensures { λ r. ⌜ (r .good ≡ false) × (r .fills ≡ entries 16 (λ _. 0)) ⌝ }
 {
     let fills = [0u8; 16];
-    Survey {
-        sound: false,
-        fills,
-    }
+    Counts { good: false, fills }
 }
 
 // The keys of every data unit, counted as long as the units are good.
-fn count_units(s: &[u8]) -> Survey
-    requires { ⌜ Ranged (now s) ⌝ }
-    ensures { λ r. ⌜ Counted (now (s .entry)) (r .sound) (r .fills) ⌝ }
+fn count_units(s: &[u8], keepers: [u8; 4]) -> Counts
+    requires { ⌜ Ranged (now s) × (keepers ≡ entries 4 (keeper (view (now s)))) ⌝ }
+    ensures { λ r. ⌜ Counted (now (s .entry)) (r .good) (r .fills) ⌝ }
 {
     let mut t = [0u8; 2048];
     let mut fills = [0u8; 16];
     let mut u: u8 = 0;
     while u < 16 {
-        let n = unit_count(&mut t, s, u);
+        let n = unit_count(&mut t, s, keepers[buffer::wide(u / 4)], u);
         if 64 < n {
-            return unsound();
+            return uncounted();
         }
         fills[buffer::wide(u)] = n;
         u += 1;
     }
-    Survey { sound: true, fills }
+    Counts { good: true, fills }
 }
 
-fn check_good(s: &[u8], c: u8) -> bool
-    requires { ⌜ Ranged (now s) × (c < 12) ⌝ }
+fn check_good(s: &[u8], k: u8, c: u8) -> bool
+    requires { ⌜ Ranged (now s) × Kept (now s) (c / 3) k × (c < 12) ⌝ }
     ensures { λ r. ⌜ r ≡ checkGood (now (s .entry)) c ⌝ }
 {
     let b = s[5];
@@ -369,20 +407,19 @@ fn check_good(s: &[u8], c: u8) -> bool
     if s[24 + buffer::wide(c)] != 1 {
         return zero_between(s, at, at + 32 * w);
     }
-    let k = keeper_of(s, c / 3);
     if k == c {
         return true;
     }
     same_lists(s, checks_at(b, k), at, w)
 }
 
-fn checks_good(s: &[u8]) -> bool
-    requires { ⌜ Ranged (now s) ⌝ }
+fn checks_good(s: &[u8], keepers: [u8; 4]) -> bool
+    requires { ⌜ Ranged (now s) × (keepers ≡ entries 4 (keeper (view (now s)))) ⌝ }
     ensures { λ r. ⌜ r ≡ all 12 (checkGood (now (s .entry))) ⌝ }
 {
     let mut c: u8 = 0;
     while c < 12 {
-        if !check_good(s, c) {
+        if !check_good(s, keepers[buffer::wide(c / 3)], c) {
             return false;
         }
         c += 1;
@@ -525,9 +562,32 @@ fn groups_placed(s: &[u8]) -> bool
     true
 }
 
+// What the test learns of a store: whether it is sound, and where it is, how many keys are listed for each data unit, and for each group the
+// first check unit in service and how many units are out.
+pub struct Survey {
+    pub sound: bool,
+    pub fills: [u8; 16],
+    pub keepers: [u8; 4],
+    pub outs: [u8; 4],
+}
+
+fn unsound() -> Survey
+    ensures { λ r. ⌜ Nothing (r .sound) (r .fills) (r .keepers) (r .outs) ⌝ }
+{
+    let fills = [0u8; 16];
+    let keepers = [0u8; 4];
+    let outs = [0u8; 4];
+    Survey {
+        sound: false,
+        fills,
+        keepers,
+        outs,
+    }
+}
+
 // Tests bytes of any length for a sound store, and hands on what the test learned.
 pub fn survey_of(s: &[u8]) -> Survey
-    ensures { λ r. ⌜ Surveyed (now (s .entry)) (r .sound) (r .fills) ⌝ }
+    ensures { λ r. ⌜ Surveyed (now (s .entry)) (r .sound) (r .fills) (r .keepers) (r .outs) ⌝ }
 {
     if !ranges_hold(s) {
         return unsound();
@@ -538,14 +598,22 @@ pub fn survey_of(s: &[u8]) -> Survey
     if !groups_placed(s) {
         return unsound();
     }
-    let counted = count_units(s);
-    if !counted.sound {
+    let keepers = keepers_of(s);
+    let counted = count_units(s, keepers);
+    if !counted.good {
         return unsound();
     }
-    if !checks_good(s) {
+    if !checks_good(s, keepers) {
         return unsound();
     }
-    counted
+    let fills = counted.fills;
+    let outs = outs_of(s);
+    Survey {
+        sound: true,
+        fills,
+        keepers,
+        outs,
+    }
 }
 
 // Whether bytes of any length are a sound store.

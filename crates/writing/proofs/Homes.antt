@@ -13,7 +13,7 @@ use Rattle.model.specs.Layout.{view, keyOf}
 use Rattle.model.specs.Reads.{homeIn, outsIn, fillIn}
 use Rattle.model.specs.Numbers.{firstOf}
 use Rattle.model.specs.StoreLaws.{units-of}
-use Rattle.soundness.specs.Survey.{Surveyed, found-sound, fill-listed, fill-most}
+use Rattle.soundness.specs.Survey.{Surveyed, found-sound, fill-listed, fill-most, outs-counted}
 use Rattle.lookup.specs.Sized.{sound-sized}
 use Rattle.lookup.specs.Keys.{rank-in, own-fill}
 use Rattle.lookup.specs.Groups.{none-out}
@@ -27,11 +27,18 @@ pub home-unit : (s : List ℕ) (k : ℕ) {u : ℕ} → u ≡ unitOf (byte s 6) k
 unfolding homeIn
 home-unit s k e = ap (λ j. unitOf j k) (sym (units-of s)) ∙ sym e
 
+-- the number of units out of a unit's group, read at the index j
+pub outs-read : {s : List ℕ} {ok : Bool} {fills keepers outs : List ℕ} {u j : ℕ} → Surveyed s ok fills keepers outs → ok ≡ true → u < byte s 6 → j ≡ u / 4
+    → getD outs j 0 ≡ outsIn (view s) (u / 4)
+outs-read {outs = outs} {u = u} g e l ej =
+    let store = sound-sized (found-sound g e) in
+    ap (λ h. getD outs h 0) ej ∙ outs-counted g e (u / 4) (omega (arith, store .units))
+
 -- the code reads u, whether a unit of its group is out, n at the index i, and r
-pub lives : {s : List ℕ} {ok : Bool} {fills : List ℕ} {u i r : ℕ} (k : ℕ) → Surveyed s ok fills → ok ≡ true → (u ≡ unitOf (byte s 6) k) × (u < byte s 6)
+pub lives : {s : List ℕ} {ok : Bool} {fills keepers outs : List ℕ} {u i r : ℕ} (k : ℕ) → Surveyed s ok fills keepers outs → ok ≡ true → (u ≡ unitOf (byte s 6) k) × (u < byte s 6)
     → ltb 0 (outsIn (view s) (u / 4)) ≡ false → i ≡ u → (r ≡ first (getD fills i 0) (λ q. eqb (keyOf (view s .slot u q)) k)) × (r ≤ getD fills i 0)
     → Lives s k u (getD fills i 0) r
-lives {s} {ok} {fills} {u} {i} {r} k g e eu eo ei er =
+lives {s} {ok} {fills} {u = u} {i = i} {r = r} k g e eu eo ei er =
     let store = sound-sized (found-sound g e) in
     let low : u < 16 = omega (arith, store .units) in
     let serves : byte s (8 + u) ≡ 2 → ⊥ = none-out s u eo in

@@ -169,7 +169,8 @@ fn home_of(s: &[u8], key: u32, fits: bool) -> Home
         return refusal(1);
     }
     let unit = lookup::unit_of(s[6], key);
-    let out = 0 < lookup::outs(s, unit / 4);
+    let outs = survey.outs;
+    let out = 0 < outs[buffer::wide(unit / 4)];
     if out {
         return refusal(4);
     }

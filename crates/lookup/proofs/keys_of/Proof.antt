@@ -9,14 +9,13 @@ use Rattle.lookup.proofs.keys_of.Tie as tie
 
 returns : tie.Need-returns
 returns c =
-    let kept = c .before .before .before in
-    let test = kept .before .before in
-    let start = test .before .before in
+    let test = c .before .before .before in
+    let start = test .before .before .before in
     lists-out
-    (start .pre)
+    (start .pre .0)
     _
-    (state-byte (start .args .s .now) (start .args .u) ∙ sym (test .state .ensures) ∙ kept .before .if1 .taken)
-    (rw (← kept .keeper .ensures .0) (omega arith))
+    (state-byte (start .args .s .now) (start .args .u) ∙ sym (test .before .state .ensures) ∙ test .if1 .taken)
+    (rw (← start .pre .1) (omega arith))
     (omega arith)
 
 returns-2 : tie.Need-returns-2
@@ -24,7 +23,7 @@ returns-2 c =
     let test = c .before .before .before in
     let start = test .before .before in
     lists-own
-    (start .pre)
+    (start .pre .0)
     _
     (λ h. c .before .before .if1 .left (test .state .ensures ∙ sym (state-byte (start .args .s .now) (start .args .u)) ∙ h))
     (c .slot-at .ensures .0)
@@ -34,7 +33,6 @@ pub keys-of-spec : {M : Type 1} → statement M
 keys-of-spec =
     tie.close
     (tie.spec
-    (λ c κs. search needs)
     (λ c κs. search needs)
     (λ c. search needs)
     (λ c κs. search needs)

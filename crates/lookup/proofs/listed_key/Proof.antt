@@ -20,13 +20,13 @@ add-result c = let a = c .before .before in omega (arith, place-near (a .before 
 part-result-end : tie.Need-part-result-end
 part-result-end c =
     let a = c .before .before in
-    let start = a .before .before .before in
+    let start = a .before .before .before .before in
     omega (arith, a .before .keys-of .ensures .within .fits (a .wide .result) (omega (arith, start .pre .1)))
 
 returns : tie.Need-returns
 returns c =
     let a = c .before .before .before in
-    let start = a .before .before .before in
+    let start = a .before .before .before .before in
     let keys = a .before .keys-of .result in
     part-lent (start .args .s .now) (keys .base + keys .step * a .wide .result) 4 (keys .base + keys .step * start .args .r) (ap (λ (n : ℕ). keys .base + keys .step * n) (a .wide .ensures .0))
     ∙ a .before .keys-of .ensures .bytes (start .args .r)
@@ -36,6 +36,7 @@ listed-key-spec =
     tie.close
     (tie.spec
     (λ c κs. search needs)
+    (λ c κs. (c .before .before .pre .0, c .keeper .ensures .0))
     (λ c κs. search needs)
     mul-at
     add-at

@@ -6,7 +6,7 @@ use borrow.Author.Tests.{not-true, not-false}
 use Rattle.lookup.specs.Groups.{recoverable-known}
 use Rattle.soundness.specs.Survey.{found-sound}
 use Rattle.lookup.specs.Sized.{sound-sized}
-use Rattle.reading.proofs.Verdicts.{refusal, home-is, no-key, no-room, unsound, lost, absent, present, safe-unit, safe-fill}
+use Rattle.reading.proofs.Verdicts.{refusal, home-is, no-key, no-room, unsound, lost, absent, present, safe-unit, safe-fill, safe-keeper}
 use Rattle.reading.proofs.look_up.Statement.{statement}
 use Rattle.reading.proofs.look_up.Tie as tie
 
@@ -56,22 +56,30 @@ array-read-n c =
     let good = unit .before .before in
     omega (arith, unit .unit-of .ensures .1, sound-sized (found-sound (good .before .before .before .before .before .pre) (not-false _ (good .if3 .left))) .units)
 
+array-read-keeper : tie.Need-array-read-keeper
+array-read-keeper c =
+    let unit = c .before .before .before .before .before .before in
+    let good = unit .before .before in
+    omega (arith, unit .unit-of .ensures .1, sound-sized (found-sound (good .before .before .before .before .before .pre) (not-false _ (good .if3 .left))) .units)
+
 listed-rank-requires : tie.Need-listed-rank-requires
 listed-rank-requires c κs =
-    let safe = c .before .before in
+    let count = c .before .before in
+    let safe = count .before .before in
     let unit = safe .before .before in
     let good = unit .before .before in
     let start = good .before .before .before .before .before in
     let ok = not-false _ (good .if3 .left) in
     let store = sound-sized (found-sound (start .pre) ok) in
     let there = safe-unit store (omega (arith, unit .unit-of .ensures .1, store .units)) (sym (safe .before .gone .ensures) ∙ safe .if4 .left) in
-    let fill = safe-fill (start .pre) ok there (c .wide .ensures .0) in
-    (recoverable-known there, fill .0, fill .1)
+    let fill = safe-fill (start .pre) ok there (count .wide .ensures .0) in
+    (recoverable-known there, safe-keeper (start .pre) ok there (c .wide2 .ensures .0), fill .0, fill .1)
 
 returns-5 : tie.Need-returns-5
 returns-5 c =
     let found = c .before .before in
-    let safe = found .before .before .before in
+    let count = found .before .before .before in
+    let safe = count .before .before in
     let unit = safe .before .before in
     let good = unit .before .before in
     let room = good .before .before in
@@ -80,7 +88,7 @@ returns-5 c =
     let store = sound-sized (found-sound (start .pre) ok) in
     let safe-one = sym (safe .before .gone .ensures) ∙ safe .if4 .left in
     let there = safe-unit store (omega (arith, unit .unit-of .ensures .1, store .units)) safe-one in
-    let fill = safe-fill (start .pre) ok there (found .before .wide .ensures .0) in
+    let fill = safe-fill (start .pre) ok there (count .wide .ensures .0) in
     refusal 5 (c .refused5 .ensures)
     (absent (start .args .s .now) _ _ _ (room .before .if1 .left) (room .if2 .left) ok _ (home-is _ _ _ (unit .unit-of .ensures .0)) safe-one
     (rw (← fill .0, ← found .listed-rank .ensures .0) (c .before .if5 .taken)))
@@ -88,7 +96,8 @@ returns-5 c =
 returns-6 : tie.Need-returns-6
 returns-6 c =
     let found = c .before in
-    let safe = found .before .before .before in
+    let count = found .before .before .before in
+    let safe = count .before .before in
     let unit = safe .before .before in
     let good = unit .before .before in
     let room = good .before .before in
@@ -97,7 +106,7 @@ returns-6 c =
     let store = sound-sized (found-sound (start .pre) ok) in
     let safe-one = sym (safe .before .gone .ensures) ∙ safe .if4 .left in
     let there = safe-unit store (omega (arith, unit .unit-of .ensures .1, store .units)) safe-one in
-    let fill = safe-fill (start .pre) ok there (found .before .wide .ensures .0) in
+    let fill = safe-fill (start .pre) ok there (count .wide .ensures .0) in
     let home = home-is (start .args .s .now) (start .args .key) (unit .unit-of .result) (unit .unit-of .ensures .0) in
     let listed = rw (fill .0) at (c .if5 .left) in
     record {
@@ -129,6 +138,8 @@ look-up-spec =
     returns-4
     (λ c κs. search needs)
     array-read-n
+    (λ c κs. search needs)
+    array-read-keeper
     listed-rank-requires
     (λ c κs. search needs)
     returns-5

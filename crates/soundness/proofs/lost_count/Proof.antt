@@ -18,31 +18,30 @@ returns c =
     let place = c .before .before in
     let start = place .before .before .before .before .before in
     let zero = unit-zero (start .args .s .now) (start .args .u) (place .before .wide .ensures .0) (place .slots-at .ensures .0) (c .before .zero-between .ensures) in
-    (rw (is-no zero (c .if1 .taken)), start .pre .2)
+    (rw (is-no zero (c .if1 .taken)), start .pre .3)
 
 returns-2 : tie.Need-returns-2
 unfolding lost lostFill pick
 returns-2 c =
-    let kept = c .before in
-    let zeros = kept .before .before in
+    let zeros = c .before .before in
     let place = zeros .before in
     let start = place .before .before .before .before .before in
     let s = start .args .s .now in
     let u = start .args .u in
     let zero = unit-zero s u (place .before .wide .ensures .0) (place .slots-at .ensures .0) (zeros .zero-between .ensures) in
-    (rw (is-yes zero (kept .before .if1 .left), is-unkept s (u / 4) (kept .keeper-of .ensures .0) (c .if2 .taken)), start .pre .2)
+    (rw (is-yes zero (c .before .if1 .left), is-unkept s (u / 4) (start .pre .1 .found) (c .if2 .taken)), start .pre .3)
 
 reach-requires : tie.Need-reach-requires
 reach-requires c κs =
-    let asked = c .before .before .before .before .before .before .before .before .before .before .before .before .pre in
-    (within-column (c .before .before .checks-at .result) (c .before .wide2 .result) (search needs) (search needs) (search needs), asked .0 .some, asked .0 .most, asked .1, asked .2)
+    let asked = c .before .before .before .before .before .before .before .before .before .before .before .pre in
+    (within-column (c .before .before .checks-at .result) (c .before .wide2 .result) (search needs) (search needs) (search needs), asked .0 .some, asked .0 .most, asked .2, asked .3)
 
 returns-3 : tie.Need-returns-3
 unfolding lost pick
 returns-3 c =
     let found = c .before in
     let to = found .before .before .before in
-    let kept = to .before .before in
+    let kept = to .before in
     let zeros = kept .before .before in
     let place = zeros .before in
     let start = place .before .before .before .before .before in
@@ -50,16 +49,16 @@ returns-3 c =
     let u = start .args .u in
     let width = place .before .wide .ensures .0 in
     let zero = unit-zero s u width (place .slots-at .ensures .0) (zeros .zero-between .ensures) in
-    let keeper = kept .keeper-of .ensures .0 in
+    let keeper = start .pre .1 .found in
     let column = column-place s u keeper (to .checks-at .ensures .0) (found .before .before .wide2 .ensures .0) in
     let fill = column-fill s u width column (found .reach .ensures .0) in
-    (rw (is-yes zero (kept .before .if1 .left), is-kept s (u / 4) keeper (to .before .if2 .left), not-le fill refl (c .if3 .taken)), found .reach .ensures .1)
+    (rw (is-yes zero (kept .before .if1 .left), is-kept s (u / 4) keeper (kept .if2 .left), not-le fill refl (c .if3 .taken)), found .reach .ensures .1)
 
 no-keys-requires : tie.Need-no-keys-requires
 no-keys-requires c κs =
     let found = c .before in
     let to = found .before .before .before in
-    let place = to .before .before .before .before .before in
+    let place = to .before .before .before .before in
     let start = place .before .before .before .before .before in
     let s = start .args .s .now in
     let at = to .checks-at .result in
@@ -73,7 +72,7 @@ returns-4 c =
     let some = c .before .before in
     let found = some .before in
     let to = found .before .before .before in
-    let kept = to .before .before in
+    let kept = to .before in
     let zeros = kept .before .before in
     let place = zeros .before in
     let start = place .before .before .before .before .before in
@@ -81,11 +80,11 @@ returns-4 c =
     let u = start .args .u in
     let width = place .before .wide .ensures .0 in
     let zero = unit-zero s u width (place .slots-at .ensures .0) (zeros .zero-between .ensures) in
-    let keeper = kept .keeper-of .ensures .0 in
+    let keeper = start .pre .1 .found in
     let column = column-place s u keeper (to .checks-at .ensures .0) (found .before .before .wide2 .ensures .0) in
     let fill = column-fill s u width column (found .reach .ensures .0) in
     let none = column-none s u width column fill (c .before .no-keys .ensures) in
-    (rw (is-yes zero (kept .before .if1 .left), is-kept s (u / 4) keeper (to .before .if2 .left), is-le fill refl (some .if3 .left), is-no none (c .if4 .taken)), found .reach .ensures .1)
+    (rw (is-yes zero (kept .before .if1 .left), is-kept s (u / 4) keeper (kept .if2 .left), is-le fill refl (some .if3 .left), is-no none (c .if4 .taken)), found .reach .ensures .1)
 
 returns-5 : tie.Need-returns-5
 unfolding lost lostFill pick
@@ -93,7 +92,7 @@ returns-5 c =
     let some = c .before .before in
     let found = some .before in
     let to = found .before .before .before in
-    let kept = to .before .before in
+    let kept = to .before in
     let zeros = kept .before .before in
     let place = zeros .before in
     let start = place .before .before .before .before .before in
@@ -101,11 +100,11 @@ returns-5 c =
     let u = start .args .u in
     let width = place .before .wide .ensures .0 in
     let zero = unit-zero s u width (place .slots-at .ensures .0) (zeros .zero-between .ensures) in
-    let keeper = kept .keeper-of .ensures .0 in
+    let keeper = start .pre .1 .found in
     let column = column-place s u keeper (to .checks-at .ensures .0) (found .before .before .wide2 .ensures .0) in
     let fill = column-fill s u width column (found .reach .ensures .0) in
     let none = column-none s u width column fill (c .before .no-keys .ensures) in
-    (rw (is-yes zero (kept .before .if1 .left), is-kept s (u / 4) keeper (to .before .if2 .left), is-le fill refl (some .if3 .left), is-yes none (c .if4 .left)) fill, found .reach .ensures .1)
+    (rw (is-yes zero (kept .before .if1 .left), is-kept s (u / 4) keeper (kept .if2 .left), is-le fill refl (some .if3 .left), is-yes none (c .if4 .left)) fill, found .reach .ensures .1)
 
 pub lost-count-spec : {M : Type 1} → statement M
 lost-count-spec =
@@ -119,7 +118,6 @@ lost-count-spec =
     (λ c. search needs)
     (λ c κs. search needs)
     returns
-    (λ c κs. search needs)
     (λ c. search needs)
     (λ c. search needs)
     returns-2

@@ -18,7 +18,7 @@ use Rattle.soundness.proofs.served_count.Tie as tie
 reach-requires : tie.Need-reach-requires
 reach-requires c κs =
     let asked = c .before .before .before .before .before .before .pre in
-    (within-slots (search needs) (search needs), asked .0 .some, asked .0 .most, asked .1, asked .2)
+    (within-slots (search needs) (search needs), asked .0 .some, asked .0 .most, asked .2, asked .3)
 
 returns : tie.Need-returns
 unfolding served pick
@@ -60,7 +60,7 @@ returns-3 : tie.Need-returns-3
 unfolding served pick
 returns-3 c =
     let to = c .before .before .before in
-    let kept = to .before .before in
+    let kept = to .before in
     let zeros = kept .before .before in
     let some = zeros .before in
     let found = some .before in
@@ -72,16 +72,15 @@ returns-3 c =
     let at = place .slots-at .ensures .0 in
     let fill = data-fill s u width at (found .reach .ensures .0) in
     let zero = rest-zero s u width at fill (zeros .zero-between .ensures) in
-    let keeper = kept .keeper-of .ensures .0 in
+    let keeper = start .pre .1 .found in
     let column = column-place s u keeper (to .checks-at .ensures .0) (c .before .before .wide2 .ensures .0) in
     let other = is-no (column-same s u width at column (c .before .same-column .ensures)) (c .if4 .taken) in
-    (rw (is-le fill refl (some .if1 .left), is-yes zero (kept .before .if2 .left), is-kept s (u / 4) keeper (to .before .if3 .taken), other), found .reach .ensures .1)
+    (rw (is-le fill refl (some .if1 .left), is-yes zero (kept .before .if2 .left), is-kept s (u / 4) keeper (kept .if3 .taken), other), found .reach .ensures .1)
 
 returns-4 : tie.Need-returns-4
 unfolding served pick
 returns-4 c =
-    let kept = c .before in
-    let zeros = kept .before .before in
+    let zeros = c .before .before in
     let some = zeros .before in
     let found = some .before in
     let place = found .before .before in
@@ -92,7 +91,7 @@ returns-4 c =
     let at = place .slots-at .ensures .0 in
     let fill = data-fill s u width at (found .reach .ensures .0) in
     let zero = rest-zero s u width at fill (zeros .zero-between .ensures) in
-    let keeper = kept .keeper-of .ensures .0 in
+    let keeper = start .pre .1 .found in
     let listed : (unkept s (u / 4) || sameKeys (byte s 5) (dataKeys s u) (columnKeys s u)) ≡ true =
     ⊎-elim
     (λ w.
@@ -100,7 +99,7 @@ returns-4 c =
     rw (is-kept s (u / 4) keeper (w .0 .taken), is-yes (column-same s u width at column (w .3 .ensures)) (w .4 .left)))
     (λ w. rw (is-unkept s (u / 4) keeper (w .left)))
     (c .if3 .came) in
-    (rw (is-le fill refl (some .if1 .left), is-yes zero (kept .before .if2 .left), listed) fill, found .reach .ensures .1)
+    (rw (is-le fill refl (some .if1 .left), is-yes zero (c .before .if2 .left), listed) fill, found .reach .ensures .1)
 
 pub served-count-spec : {M : Type 1} → statement M
 served-count-spec =
@@ -118,7 +117,6 @@ served-count-spec =
     (λ c. search needs)
     zero-between-requires
     returns-2
-    (λ c κs. search needs)
     (λ c. search needs)
     (λ c. search needs)
     (λ c κs. search needs)

@@ -15,7 +15,7 @@ returns : tie.Need-returns
 unfolding pieces
 returns c =
     let test = c .before in
-    not-sound (c .unsound .ensures .0) (c .unsound .ensures .1) (rw (is-no (test .before .ranges-hold .ensures) (test .if1 .taken)))
+    not-sound (c .unsound .ensures) (rw (is-no (test .before .ranges-hold .ensures) (test .if1 .taken)))
 
 units-placed-requires : tie.Need-units-placed-requires
 units-placed-requires c κs = ranged _ (is-yes (c .before .ranges-hold .ensures) (c .if1 .left))
@@ -25,7 +25,7 @@ unfolding pieces
 returns-2 c =
     let states = c .before .before in
     let range = is-yes (states .before .before .ranges-hold .ensures) (states .before .if1 .left) in
-    not-sound (c .unsound2 .ensures .0) (c .unsound2 .ensures .1) (rw (range, is-no (states .units-placed .ensures) (c .before .if2 .taken)))
+    not-sound (c .unsound2 .ensures) (rw (range, is-no (states .units-placed .ensures) (c .before .if2 .taken)))
 
 groups-placed-requires : tie.Need-groups-placed-requires
 groups-placed-requires c κs =
@@ -39,53 +39,70 @@ returns-3 c =
     let groups = c .before .before in
     let states = groups .before .before in
     let range = is-yes (states .before .before .ranges-hold .ensures) (states .before .if1 .left) in
-    not-sound (c .unsound3 .ensures .0) (c .unsound3 .ensures .1)
+    not-sound (c .unsound3 .ensures)
     (rw (range, is-yes (states .units-placed .ensures) (groups .before .if2 .left), is-no (groups .groups-placed .ensures) (c .before .if3 .taken)))
+
+keepers-of-requires : tie.Need-keepers-of-requires
+keepers-of-requires c κs =
+    let range = c .before .before .before .before in
+    let h = ranged _ (is-yes (range .before .ranges-hold .ensures) (range .if1 .left)) in
+    omega arith
 
 count-units-requires : tie.Need-count-units-requires
 count-units-requires c κs =
-    let range = c .before .before .before .before in
-    ranged _ (is-yes (range .before .ranges-hold .ensures) (range .if1 .left))
+    let range = c .before .before .before .before .before in
+    (ranged _ (is-yes (range .before .ranges-hold .ensures) (range .if1 .left)), c .keepers-of .ensures)
 
 returns-4 : tie.Need-returns-4
 unfolding pieces
 returns-4 c =
     let units = c .before .before .before in
-    let groups = units .before .before in
+    let groups = units .before .before .before in
     let states = groups .before .before in
     let range = is-yes (states .before .before .ranges-hold .ensures) (states .before .if1 .left) in
-    not-sound (c .unsound4 .ensures .0) (c .unsound4 .ensures .1)
-    (rw (range, is-yes (states .units-placed .ensures) (groups .before .if2 .left), is-yes (groups .groups-placed .ensures) (units .before .if3 .left), is-no (units .count-units .ensures .tested) (c .before .if4 .taken)))
+    not-sound (c .unsound4 .ensures)
+    (rw (range, is-yes (states .units-placed .ensures) (groups .before .if2 .left), is-yes (groups .groups-placed .ensures) (units .before .before .if3 .left), is-no (units .count-units .ensures .tested) (c .before .if4 .taken)))
 
 checks-good-requires : tie.Need-checks-good-requires
 checks-good-requires c κs =
-    let range = c .before .before .before .before .before .before .before in
-    ranged _ (is-yes (range .before .ranges-hold .ensures) (range .if1 .left))
+    let kept = c .before .before .before in
+    let range = kept .before .before .before .before .before in
+    (ranged _ (is-yes (range .before .ranges-hold .ensures) (range .if1 .left)), kept .keepers-of .ensures)
 
 returns-5 : tie.Need-returns-5
 unfolding pieces
 returns-5 c =
     let checks = c .before .before in
     let units = checks .before .before .before in
-    let groups = units .before .before in
+    let groups = units .before .before .before in
     let states = groups .before .before in
     let range = is-yes (states .before .before .ranges-hold .ensures) (states .before .if1 .left) in
-    not-sound (c .unsound5 .ensures .0) (c .unsound5 .ensures .1)
-    (rw (range, is-yes (states .units-placed .ensures) (groups .before .if2 .left), is-yes (groups .groups-placed .ensures) (units .before .if3 .left), is-yes (units .count-units .ensures .tested) (checks .before .if4 .left), is-no (checks .checks-good .ensures) (c .before .if5 .taken)))
+    not-sound (c .unsound5 .ensures)
+    (rw (range, is-yes (states .units-placed .ensures) (groups .before .if2 .left), is-yes (groups .groups-placed .ensures) (units .before .before .if3 .left), is-yes (units .count-units .ensures .tested) (checks .before .if4 .left), is-no (checks .checks-good .ensures) (c .before .if5 .taken)))
+
+outs-of-requires : tie.Need-outs-of-requires
+outs-of-requires c κs =
+    let kept = c .before .before .before .before .before .before in
+    let range = kept .before .before .before .before .before in
+    let h = ranged _ (is-yes (range .before .ranges-hold .ensures) (range .if1 .left)) in
+    omega arith
 
 returns-6 : tie.Need-returns-6
 returns-6 c =
-    let checks = c .before in
+    let test = c .before .before in
+    let checks = test .before in
     let units = checks .before .before .before in
-    let groups = units .before .before in
+    let groups = units .before .before .before in
     let states = groups .before .before in
     surveyed
     (is-yes (states .before .before .ranges-hold .ensures) (states .before .if1 .left))
     (is-yes (states .units-placed .ensures) (groups .before .if2 .left))
-    (is-yes (groups .groups-placed .ensures) (units .before .if3 .left))
+    (is-yes (groups .groups-placed .ensures) (units .before .before .if3 .left))
     (units .count-units .ensures)
     (not-false _ (checks .before .if4 .left))
-    (is-yes (checks .checks-good .ensures) (c .if5 .left))
+    (is-yes (checks .checks-good .ensures) (test .if5 .left))
+    (units .before .keepers-of .ensures)
+    (c .outs-of .ensures)
 
 pub survey-of-spec : {M : Type 1} → statement M
 survey-of-spec =
@@ -100,10 +117,12 @@ survey-of-spec =
     groups-placed-requires
     (λ c κs. search needs)
     returns-3
+    keepers-of-requires
     count-units-requires
     (λ c κs. search needs)
     returns-4
     checks-good-requires
     (λ c κs. search needs)
     returns-5
+    outs-of-requires
     returns-6)

@@ -32,13 +32,13 @@ returns-3 : tie.Need-returns-3
 unfolding unitCount unitGood unitFill pick
 returns-3 c =
     let outside = c .before .before in
-    (rw (le-ltb _ _ (outside .if1 .left), sym (c .before .is-absent .ensures) ∙ c .if3 .taken), outside .before .before .before .pre .2)
+    (rw (le-ltb _ _ (outside .if1 .left), sym (c .before .is-absent .ensures) ∙ c .if3 .taken), outside .before .before .before .pre .3)
 
 returns-4 : tie.Need-returns-4
 unfolding unitCount unitGood unitFill pick
 returns-4 c =
     let outside = c .before .before in
-    (rw (le-ltb _ _ (outside .if1 .left), sym (c .before .is-absent .ensures) ∙ c .if3 .left), outside .before .before .before .pre .2)
+    (rw (le-ltb _ _ (outside .if1 .left), sym (c .before .is-absent .ensures) ∙ c .if3 .left), outside .before .before .before .pre .3)
 
 pub unit-count-spec : {M : Type 1} → statement M
 unit-count-spec =

@@ -6,7 +6,7 @@ use Rattle.soundness.proofs.unsound.Tie as tie
 
 returns : tie.Need-returns
 unfolding entries
-returns c = (refl, refl)
+returns c = record { unsound = refl; uncounted = refl; unkept = refl; unknown = refl }
 
 pub unsound-spec : {M : Type 1} → statement M
 unsound-spec = tie.close (tie.spec returns)

@@ -10,7 +10,7 @@ use Rattle.model.specs.Numbers.{firstOf}
 use Rattle.soundness.specs.Survey.{found-sound, fill-most}
 use Rattle.lookup.specs.Sized.{sound-sized}
 use Rattle.writing.specs.Homes.{openingRows}
-use Rattle.writing.proofs.Homes.{home-unit, homeless, lives}
+use Rattle.writing.proofs.Homes.{home-unit, homeless, outs-read, lives}
 use Rattle.writing.proofs.home_of.Statement.{statement}
 use Rattle.writing.proofs.home_of.Tie as tie
 
@@ -39,56 +39,58 @@ unit-of-requires c κs =
     let good = c .before in
     sound-sized (found-sound (good .before .before .survey-of .ensures) (not-false _ (good .if3 .left))) .unit
 
-outs-requires : tie.Need-outs-requires
-outs-requires c κs =
-    let good = c .before .before in
-    let store = sound-sized (found-sound (good .before .before .survey-of .ensures) (not-false _ (good .if3 .left))) in
-    (store, omega (arith, c .unit-of .ensures .1, store .units))
+array-read-out : tie.Need-array-read-out
+array-read-out c =
+    let unit = c .before .before in
+    let good = unit .before .before in
+    omega (arith, unit .unit-of .ensures .1, sound-sized (found-sound (good .before .before .survey-of .ensures) (not-false _ (good .if3 .left))) .units)
 
 returns-4 : tie.Need-returns-4
 unfolding firstOf openingRows pick
 returns-4 c =
-    let outs = c .before .before in
-    let unit = outs .before in
+    let wide = c .before .before in
+    let unit = wide .before .before in
     let good = unit .before .before in
     let survey = good .before .before in
     let fits = survey .before in
     let a = fits .before .before .before .args in
+    let outs = outs-read (survey .survey-of .ensures) (not-false _ (good .if3 .left)) (unit .unit-of .ensures .1) (wide .wide .ensures .0) in
     homeless (c .refusal4 .ensures)
-    (simp (fits .before .if1 .left, fits .if2 .left, ← survey .survey-of .ensures .tested, good .if3 .left, home-unit (a .s .now) (a .key) (unit .unit-of .ensures .0), ← outs .outs .ensures .0, c .before .if4 .taken))
+    (simp (fits .before .if1 .left, fits .if2 .left, ← survey .survey-of .ensures .tested, good .if3 .left, home-unit (a .s .now) (a .key) (unit .unit-of .ensures .0), ← outs, c .before .if4 .taken))
 
 array-read-fill : tie.Need-array-read-fill
 array-read-fill c =
-    let unit = c .before .before .before .before in
+    let unit = c .before .before .before .before .before in
     let good = unit .before .before in
     omega (arith, unit .unit-of .ensures .1, sound-sized (found-sound (good .before .before .survey-of .ensures) (not-false _ (good .if3 .left))) .units)
 
 rank-requires : tie.Need-rank-requires
 rank-requires c κs =
-    let unit = c .before .before .before .before in
+    let unit = c .before .before .before .before .before in
     let good = unit .before .before in
     let survey = good .before .before in
     let store = sound-sized (found-sound (survey .survey-of .ensures) (not-false _ (good .if3 .left))) in
     let low : unit .unit-of .result < 16 = omega (arith, unit .unit-of .ensures .1, store .units) in
-    (store, low, rw (c .wide .ensures .0) (fill-most (survey .survey-of .ensures) (unit .unit-of .result) low))
+    (store, low, rw (c .wide2 .ensures .0) (fill-most (survey .survey-of .ensures) (unit .unit-of .result) low))
 
 returns-5 : tie.Need-returns-5
 unfolding firstOf openingRows pick
 returns-5 c =
     let read = c .before in
     let free = read .before .before in
-    let outs = free .before in
-    let unit = outs .before in
+    let wide = free .before in
+    let unit = wide .before .before in
     let good = unit .before .before in
     let survey = good .before .before in
     let fits = survey .before in
     let a = fits .before .before .before .args in
+    let outs = outs-read (survey .survey-of .ensures) (not-false _ (good .if3 .left)) (unit .unit-of .ensures .1) (wide .wide .ensures .0) in
     record {
-      found = simp (fits .before .if1 .left, fits .if2 .left, ← survey .survey-of .ensures .tested, good .if3 .left, home-unit (a .s .now) (a .key) (unit .unit-of .ensures .0), ← outs .outs .ensures .0, free .if4 .left);
+      found = simp (fits .before .if1 .left, fits .if2 .left, ← survey .survey-of .ensures .tested, good .if3 .left, home-unit (a .s .now) (a .key) (unit .unit-of .ensures .0), ← outs, free .if4 .left);
       fitting = λ _. not-false _ (fits .if2 .left);
       lives = λ _.
-          lives (a .key) (survey .survey-of .ensures) (not-false _ (good .if3 .left)) (unit .unit-of .ensures)
-          (ap (ltb 0) (sym (outs .outs .ensures .0)) ∙ free .if4 .left) (read .wide .ensures .0) (c .rank .ensures);
+          lives (a .key) (survey .survey-of .ensures) (not-false _ (good .if3 .left)) (unit .unit-of .ensures) (ap (ltb 0) (sym outs) ∙ free .if4 .left)
+          (read .wide2 .ensures .0) (c .rank .ensures);
     }
 
 pub home-of-spec : {M : Type 1} → statement M
@@ -104,7 +106,8 @@ home-of-spec =
     returns-3
     shared-slice-read-unit-of
     unit-of-requires
-    outs-requires
+    (λ c κs. search needs)
+    array-read-out
     (λ c κs. search needs)
     returns-4
     (λ c κs. search needs)
