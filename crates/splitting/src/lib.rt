@@ -7,6 +7,7 @@ pub mod states;
 ghost use mathlib.Core.Path.{_≡_};
 ghost use mathlib.Core.Bool.{true};
 ghost use Prim.Native.Nat.{_+_, _≤_, _<_};
+ghost use Rattle.buffer.specs.Choice.{pick};
 ghost use Rattle.buffer.specs.Bytes.{byte};
 ghost use Rattle.model.specs.Units.{splitPointer};
 ghost use Rattle.model.specs.Layout.{bytes, view};
@@ -63,6 +64,16 @@ fn pair_crowded(s: &[u8], m: u8) -> bool
     buffer::byte_at(s, 5) < lookup::fill(s, into) + lookup::fill(s, m)
 }
 
+// The number of a row of the table where its test holds, and otherwise that of the rows behind it.
+fn row(holds: bool, number: u8, rest: u8) -> u8
+    ensures { λ r. ⌜ r ≡ pick holds number rest ⌝ }
+{
+    if holds {
+        return number;
+    }
+    rest
+}
+
 // The number of a grow, for a store that is sound or not.
 fn grow_number(s: &[u8], ok: bool) -> u8
     requires { ⌜ (ok ≡ true → Sized (now s)) ⌝ }
@@ -76,11 +87,7 @@ fn grow_number(s: &[u8], ok: bool) -> u8
     if full {
         return 9;
     }
-    let out = pair_out(s, m);
-    if out {
-        return 4;
-    }
-    0
+    row(pair_out(s, m), 4, 0)
 }
 
 // The number of a shrink.
@@ -97,15 +104,7 @@ fn shrink_number(s: &[u8], ok: bool) -> u8
         return 9;
     }
     let m = units - 1;
-    let out = pair_out(s, m);
-    if out {
-        return 4;
-    }
-    let crowded = pair_crowded(s, m);
-    if crowded {
-        return 7;
-    }
-    0
+    row(pair_out(s, m), 4, row(pair_crowded(s, m), 7, 0))
 }
 
 // The number of a raise.
@@ -118,18 +117,9 @@ fn raise_number(s: &[u8], ok: bool) -> u8
     }
     let m = buffer::byte_at(s, 6);
     let between = 0 < lookup::split_pointer(m);
-    if between {
-        return 9;
-    }
     let whole = 16 <= m;
-    if whole {
-        return 9;
-    }
     let top = 3 <= buffer::byte_at(s, 7);
-    if top {
-        return 9;
-    }
-    0
+    row(between, 9, row(whole, 9, row(top, 9, 0)))
 }
 
 // Grows the store by a unit.

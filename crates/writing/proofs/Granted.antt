@@ -1,6 +1,6 @@
 -- What a granted call may rely on, and that what its code leaves is what the call is to leave. Assumes nothing.
 use Prim.Native.Nat.{ℕ, suc, pred, _-_, _≤_, _<_}
-use mathlib.Core.Path.{_≡_, refl, sym, ap, _∙_}
+use mathlib.Core.Path.{_≡_, refl, sym, _∙_}
 use mathlib.Core.Bool.{Bool, true, false}
 use mathlib.Core.List.{List, [], _∷_, _++_}
 use native.Mathlib.Omega.{arith}

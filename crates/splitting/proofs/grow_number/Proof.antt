@@ -35,17 +35,7 @@ returns-3 c =
     let m = few .before in
     let ok = m .before in
     let a = ok .before .before .args in
-    simp (grow-rows (a .s .now) (a .ok) (m .byte-at .ensures), ok .if1 .left, few .if2 .left, ← out .pair-out .ensures, c .if3 .taken)
-
-returns-4 : tie.Need-returns-4
-unfolding firstOf pick
-returns-4 c =
-    let out = c .before in
-    let few = out .before in
-    let m = few .before in
-    let ok = m .before in
-    let a = ok .before .before .args in
-    simp (grow-rows (a .s .now) (a .ok) (m .byte-at .ensures), ok .if1 .left, few .if2 .left, ← out .pair-out .ensures, c .if3 .left)
+    simp (grow-rows (a .s .now) (a .ok) (m .byte-at .ensures), ok .if1 .left, few .if2 .left, ← out .pair-out .ensures, c .row .ensures)
 
 pub grow-number-spec : {M : Type 1} → statement M
 grow-number-spec =
@@ -55,5 +45,5 @@ grow-number-spec =
     (λ c κs. search needs)
     returns-2
     pair-out-requires
-    returns-3
-    returns-4)
+    (λ c κs. search needs)
+    returns-3)

@@ -20,45 +20,12 @@ split-pointer-requires c κs =
 returns-2 : tie.Need-returns-2
 unfolding firstOf pick
 returns-2 c =
-    let next = c .before in
+    let level = c .before .before .before in
+    let next = level .before in
     let m = next .before in
     let ok = m .before in
     let a = ok .before .before .args in
-    simp (raise-rows (a .s .now) (a .ok) (m .byte-at .ensures), ok .if1 .left, ← next .split-pointer .ensures .0, c .if2 .taken)
-
-returns-3 : tie.Need-returns-3
-unfolding firstOf pick
-returns-3 c =
-    let even = c .before in
-    let next = even .before in
-    let m = next .before in
-    let ok = m .before in
-    let a = ok .before .before .args in
-    simp (raise-rows (a .s .now) (a .ok) (m .byte-at .ensures), ok .if1 .left, ← next .split-pointer .ensures .0, even .if2 .left, c .if3 .taken)
-
-returns-4 : tie.Need-returns-4
-unfolding firstOf pick
-returns-4 c =
-    let level = c .before in
-    let few = level .before in
-    let even = few .before in
-    let next = even .before in
-    let m = next .before in
-    let ok = m .before in
-    let a = ok .before .before .args in
-    simp (raise-rows (a .s .now) (a .ok) (m .byte-at .ensures), ok .if1 .left, ← next .split-pointer .ensures .0, even .if2 .left, few .if3 .left, ← level .byte-at2 .ensures, c .if4 .taken)
-
-returns-5 : tie.Need-returns-5
-unfolding firstOf pick
-returns-5 c =
-    let level = c .before in
-    let few = level .before in
-    let even = few .before in
-    let next = even .before in
-    let m = next .before in
-    let ok = m .before in
-    let a = ok .before .before .args in
-    simp (raise-rows (a .s .now) (a .ok) (m .byte-at .ensures), ok .if1 .left, ← next .split-pointer .ensures .0, even .if2 .left, few .if3 .left, ← level .byte-at2 .ensures, c .if4 .left)
+    simp (raise-rows (a .s .now) (a .ok) (m .byte-at .ensures), ok .if1 .left, ← next .split-pointer .ensures .0, ← level .byte-at2 .ensures, c .row3 .ensures, c .before .row2 .ensures, c .before .before .row .ensures)
 
 pub raise-number-spec : {M : Type 1} → statement M
 raise-number-spec =
@@ -67,8 +34,8 @@ raise-number-spec =
     returns
     (λ c κs. search needs)
     split-pointer-requires
-    returns-2
-    returns-3
     (λ c κs. search needs)
-    returns-4
-    returns-5)
+    (λ c κs. search needs)
+    (λ c κs. search needs)
+    (λ c κs. search needs)
+    returns-2)

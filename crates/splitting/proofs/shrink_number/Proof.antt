@@ -29,46 +29,23 @@ pair-out-requires c κs =
     let ok = units .before in
     last-unit (ok .before .before .pre (not-false _ (ok .if1 .left))) (units .byte-at .ensures) (c .if2 .left)
 
-returns-3 : tie.Need-returns-3
-unfolding firstOf pick
-returns-3 c =
-    let out = c .before in
-    let some = out .before in
-    let units = some .before in
-    let ok = units .before in
-    let a = ok .before .before .args in
-    simp (shrink-rows (a .s .now) (a .ok) (units .byte-at .ensures), ok .if1 .left, some .if2 .left, ← out .pair-out .ensures, c .if3 .taken)
-
 pair-crowded-requires : tie.Need-pair-crowded-requires
 pair-crowded-requires c κs =
-    let some = c .before .before in
+    let some = c .before in
     let units = some .before in
     let ok = units .before in
     last-unit (ok .before .before .pre (not-false _ (ok .if1 .left))) (units .byte-at .ensures) (some .if2 .left)
 
-returns-4 : tie.Need-returns-4
+returns-3 : tie.Need-returns-3
 unfolding firstOf pick
-returns-4 c =
-    let crowded = c .before in
-    let serving = crowded .before in
-    let out = serving .before in
+returns-3 c =
+    let crowded = c .before .before in
+    let out = crowded .before in
     let some = out .before in
     let units = some .before in
     let ok = units .before in
     let a = ok .before .before .args in
-    simp (shrink-rows (a .s .now) (a .ok) (units .byte-at .ensures), ok .if1 .left, some .if2 .left, ← out .pair-out .ensures, serving .if3 .left, ← crowded .pair-crowded .ensures, c .if4 .taken)
-
-returns-5 : tie.Need-returns-5
-unfolding firstOf pick
-returns-5 c =
-    let crowded = c .before in
-    let serving = crowded .before in
-    let out = serving .before in
-    let some = out .before in
-    let units = some .before in
-    let ok = units .before in
-    let a = ok .before .before .args in
-    simp (shrink-rows (a .s .now) (a .ok) (units .byte-at .ensures), ok .if1 .left, some .if2 .left, ← out .pair-out .ensures, serving .if3 .left, ← crowded .pair-crowded .ensures, c .if4 .left)
+    simp (shrink-rows (a .s .now) (a .ok) (units .byte-at .ensures), ok .if1 .left, some .if2 .left, ← out .pair-out .ensures, ← crowded .pair-crowded .ensures, c .row2 .ensures, c .before .row .ensures)
 
 pub shrink-number-spec : {M : Type 1} → statement M
 shrink-number-spec =
@@ -79,7 +56,7 @@ shrink-number-spec =
     returns-2
     sub-m
     pair-out-requires
-    returns-3
     pair-crowded-requires
-    returns-4
-    returns-5)
+    (λ c κs. search needs)
+    (λ c κs. search needs)
+    returns-3)

@@ -1,0 +1,14 @@
+-- `splitting::row` meets its contract. Assumes nothing.
+use mathlib.Core.Path.{sym}
+use Rattle.buffer.specs.ChoiceLaws.{pick-true, pick-false}
+use Rattle.splitting.proofs.row.Statement.{statement}
+use Rattle.splitting.proofs.row.Tie as tie
+
+returns : tie.Need-returns
+returns c = sym (pick-true (c .if1 .taken) _ _)
+
+returns-2 : tie.Need-returns-2
+returns-2 c = sym (pick-false (c .if1 .left) _ _)
+
+pub row-spec : {M : Type 1} → statement M
+row-spec = tie.close (tie.spec returns returns-2)
