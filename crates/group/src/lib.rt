@@ -10,7 +10,7 @@ ghost use Rattle.field.specs.Table.{products};
 ghost use Rattle.field.specs.Byte.{scale};
 ghost use Rattle.code.specs.Matrix.{within};
 ghost use lib.Dec.{eqb, ltb};
-ghost use Rattle.group.specs.Widths.{keyBytes, keysBytes};
+ghost use Rattle.group.specs.Widths.{checkBytes};
 ghost use Rattle.group.specs.Body.{addBody, scaleBody};
 ghost use Rattle.group.specs.Parity.{coefficient};
 ghost use Rattle.group.specs.CheckRecord.{patched};
@@ -61,15 +61,22 @@ pub fn add_scaled(parity: &mut [u8], body: &[u8], symbol: u8, table: &[u8; 256])
     }
 }
 
-// A check record follows: the record at a place got this key, and its body this change.
-pub fn follow(into: &mut [u8], check: u8, place: u8, key: &[u8], change: &[u8], table: &[u8; 256])
-    requires { ⌜ (length (now into) ≡ keysBytes + length (now change)) × (length (now key) ≡ keyBytes) × (check < 3) × (place < 4) × (now table ≡ products) ⌝ }
-    ensures { λ _. ⌜ now (into .exit) ≡ patched check place (now (key .entry)) (now (change .entry)) (now (into .entry)) ⌝ }
+// A check record follows: the record at a place got this key, and its body this change. Both come by value: the compiler knows that they stand apart
+// from the record.
+pub fn follow(
+    into: &mut [u8],
+    check: u8,
+    place: u8,
+    key: [u8; 4],
+    change: [u8; 16],
+    table: &[u8; 256],
+)
+    requires { ⌜ (length (now into) ≡ checkBytes) × (check < 3) × (place < 4) × (now table ≡ products) ⌝ }
+    ensures { λ _. ⌜ now (into .exit) ≡ patched check place key change (now (into .entry)) ⌝ }
 {
-    let n = into.len();
     let at = 4 * buffer::wide(place);
-    buffer::copy(&mut into[at..at + 4], key);
-    add_scaled(&mut into[16..n], change, coefficient(place, check), table);
+    buffer::copy(&mut into[at..at + 4], &key);
+    add_scaled(&mut into[16..32], &change, coefficient(place, check), table);
 }
 
 // How many of the first states are 2, out.

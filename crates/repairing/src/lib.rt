@@ -57,7 +57,11 @@ fn check_record(s: &[u8], g: u8, j: u8, r: u8, table: &[u8; 256]) -> [u8; 32]
     let mut p: u8 = 0;
     while p < 4 {
         let at = lookup::slot_at(b, 4 * g + p, r);
-        group::follow(&mut made, j, p, &s[at..at + 4], &s[at + 4..at + 20], table);
+        let mut key = [0u8; 4];
+        buffer::copy(&mut key, &s[at..at + 4]);
+        let mut body = [0u8; 16];
+        buffer::copy(&mut body, &s[at + 4..at + 20]);
+        group::follow(&mut made, j, p, key, body, table);
         p += 1;
     }
     made

@@ -1,8 +1,9 @@
 // Teach, correct, erase and unit out: a slot is written and its group's check units follow; a unit's bytes are cleared.
 ghost use mathlib.Core.Path.{_≡_};
 ghost use Prim.Native.Nat.{_+_, _*_, _-_, _<_};
-ghost use lib.ListN.{length};
+ghost use lib.ListN.{length, take};
 ghost use Rattle.field.specs.Table.{products};
+ghost use Rattle.group.specs.Widths.{keyBytes};
 ghost use Rattle.group.specs.Body.{addBody};
 ghost use Rattle.model.specs.Layout.{bytes, view, slotOf};
 ghost use Rattle.model.specs.StoreLaws.{SlotIn, withChecks};
@@ -14,9 +15,9 @@ ghost use Rattle.writing.specs.Following.{followed};
 ghost use Rattle.writing.specs.Homes.{Homed};
 
 // Each check unit in service of u's group follows, at rank r, the new key and the change of body of the record there.
-fn follow_checks(s: &mut [u8], u: u8, r: u8, key: &[u8], change: &[u8], table: &[u8; 256])
-    requires { ⌜ SlotIn (now s) u r × (length (now key) ≡ 4) × (length (now change) ≡ 16) × (now table ≡ products) ⌝ }
-    ensures { λ _. ⌜ now (s .exit) ≡ bytes (withChecks (view (now (s .entry))) (followed 3 (view (now (s .entry))) u r (now (key .entry)) (now (change .entry)))) ⌝ }
+fn follow_checks(s: &mut [u8], u: u8, r: u8, key: [u8; 4], change: [u8; 16], table: &[u8; 256])
+    requires { ⌜ SlotIn (now s) u r × (now table ≡ products) ⌝ }
+    ensures { λ _. ⌜ now (s .exit) ≡ bytes (withChecks (view (now (s .entry))) (followed 3 (view (now (s .entry))) u r key change)) ⌝ }
 {
     let b = s[5];
     let place = u % 4;
@@ -43,15 +44,28 @@ fn change_of(old: &[u8], new: &[u8]) -> [u8; 16]
     change
 }
 
-// Slot r of unit u becomes these bytes, and each check unit in service of its group follows.
+// The key of a slot.
+fn key_of(slot: &[u8]) -> [u8; 4]
+    requires { ⌜ length (now slot) ≡ 20 ⌝ }
+    ensures { λ r. ⌜ r ≡ take keyBytes (now (slot .entry)) ⌝ }
+{
+    let mut key = [0u8; 4];
+    buffer::copy(&mut key, &slot[0..4]);
+    key
+}
+
+// Slot r of unit u becomes these bytes, and each check unit in service of its group follows. They are copied first, so that the compiler knows them
+// apart from the store.
 pub fn write_slot(s: &mut [u8], u: u8, r: u8, slot: &[u8], table: &[u8; 256])
     requires { ⌜ SlotIn (now s) u r × (length (now slot) ≡ 20) × (now table ≡ products) ⌝ }
     ensures { λ _. ⌜ now (s .exit) ≡ bytes (written (view (now (s .entry))) u r (now (slot .entry))) ⌝ }
 {
+    let mut new = [0u8; 20];
+    buffer::copy(&mut new, slot);
     let at = lookup::slot_at(s[5], u, r);
-    let change = change_of(&s[at + 4..at + 20], &slot[4..20]);
-    follow_checks(s, u, r, &slot[0..4], &change, table);
-    buffer::copy(&mut s[at..at + 20], slot);
+    let change = change_of(&s[at + 4..at + 20], &new[4..20]);
+    follow_checks(s, u, r, key_of(&new), change, table);
+    buffer::copy(&mut s[at..at + 20], &new);
 }
 
 // The record of rank last moves into rank r of unit u, and its own slot becomes empty.

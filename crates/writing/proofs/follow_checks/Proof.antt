@@ -20,35 +20,37 @@ abbrev μ-loop : tie.MeasureT-loop
 
 loop-holds : tie.Need-loop-holds Inv-loop μ-loop
 loop-holds c =
-    let e = c .before .before .before .before in
-    following-start _ _ _ _ _ (e .pre .0) (e .pre .1) (e .pre .2)
+    let e = c .before .before in
+    following-start _ _ _ _ _ (e .pre .0) (search (needs, e .good .1 .1 .1 .0)) (search (needs, e .good .1 .1 .1 .1 .0))
 
 part-follow-end : tie.Need-part-follow-end Inv-loop μ-loop
 part-follow-end c =
     let l = c .before .before .before .before .before in
-    let e = l .before .before .before .before .before in
+    let e = l .before .before .before in
     let a = e .args in
     omega (arith, check-within (getD (a .s .now) 5 0) (3 * (a .u / 4) + l .loop .j) (a .r) (length (a .s .now)) (omega arith) (e .pre .0 .rank) (e .pre .0 .long))
 
 follow-requires : tie.Need-follow-requires Inv-loop μ-loop
-follow-requires c κs = (search needs, search needs, search needs, search needs, search needs)
+follow-requires c κs = (search needs, search needs, search needs, search needs)
 
 loop-again : tie.Need-loop-again Inv-loop μ-loop
 unfolding part splice
 loop-again c =
     let l = c .before .before .before .before in
-    let e = l .before .before .before .before .before in
+    let e = l .before .before .before in
+    let key = e .good .1 .1 .1 .0 in
+    let change = e .good .1 .1 .1 .1 .0 in
     ⊎-elim
     (λ w.
-    following-on _ _ _ _ _ (e .pre .0) (e .pre .1) (e .pre .2) _ _ (l .loop .inv) (search needs) _ _ _
+    following-on _ _ _ _ _ (e .pre .0) (search (needs, key)) (search (needs, change)) _ _ (l .loop .inv) (search needs) _ _ _
     (rw (c .before .before .wide .ensures .0) at (w .0 .taken)) refl (w .1 .ensures .0) (w .6 ∙ rw (w .3 .ensures) (simp add-sub-cancel-left)))
-    (λ w. rw (w .1) (following-off _ _ _ _ _ (e .pre .0) (e .pre .1) (e .pre .2) _ _ (l .loop .inv) (search needs) (rw (c .before .before .wide .ensures .0) at (w .0 .left))))
+    (λ w. rw (w .1) (following-off _ _ _ _ _ (e .pre .0) (search (needs, key)) (search (needs, change)) _ _ (l .loop .inv) (search needs) (rw (c .before .before .wide .ensures .0) at (w .0 .left))))
     (c .if1 .came)
 
 returns : tie.Need-returns Inv-loop μ-loop
 returns c =
-    let e = c .before .before .before .before .before .before in
-    following-end _ _ _ _ _ (e .pre .0) (e .pre .1) (e .pre .2) _ _ (c .before .loop .inv) (search needs)
+    let e = c .before .before .before .before in
+    following-end _ _ _ _ _ (e .pre .0) (search (needs, e .good .1 .1 .1 .0)) (search (needs, e .good .1 .1 .1 .1 .0)) _ _ (c .before .loop .inv) (search needs)
 
 pub follow-checks-spec : {M : Type 1} → statement M
 follow-checks-spec =

@@ -1,8 +1,10 @@
 -- `writing::write_slot` meets its contract. Assumes nothing.
 use native.Mathlib.Omega.{arith}
 use native.Mathlib.Nat.{add-sub-cancel-left}
-use mathlib.Core.Path.{refl, _∙_}
+use mathlib.Core.Path.{refl, ap, _∙_}
+use lib.ListN.{take}
 use Rattle.buffer.specs.Bytes.{part, splice}
+use Rattle.group.specs.Widths.{keyBytes}
 use Rattle.model.specs.StoreLaws.{slot-end}
 use Rattle.writing.proofs.Following.{followed-written}
 use Rattle.writing.proofs.Written.{slot-change}
@@ -12,32 +14,38 @@ use Rattle.writing.proofs.write_slot.Tie as tie
 
 part-change-of-end : tie.Need-part-change-of-end
 part-change-of-end c =
-    let e = c .before .before .before .before .before in
+    let e = c .before .before .before .before .before .before .before .before in
     omega (arith, slot-end (e .pre .0))
 
 part-copy-end : tie.Need-part-copy-end
 part-copy-end c =
-    let e = c .before .before .before .before .before .before .before .before .before .before .before .before .before .before in
+    let e = c .before .before .before .before .before .before .before .before .before .before .before .before .before .before .before .before .before .before in
     omega (arith, slot-end (e .pre .0))
 
 returns : tie.Need-returns
 unfolding part splice
 returns c =
     let k = c .before .before in
-    let f = k .before .before .before .before in
-    let g = f .before .before .before .before in
-    let at = g .before .before .before .before in
-    let e = at .before .before .before .before in
+    let f = k .before .before .before .before .before in
+    let o = f .before in
+    let g = o .before .before .before in
+    let at = g .before .before .before .before .before in
+    let n = at .before .before .before in
+    let e = n .before .before .before .before in
     let a = e .args in
-    followed-written (a .s .now) _ _ (a .slot .now) _ _ _ _ _ _ (e .pre .0) (e .pre .1) refl (at .slot-at .ensures .0) refl
-    (g .change-of .ensures ∙ slot-change (a .s .now) (a .slot .now) _ _ _ _ (e .pre .0) (e .pre .1) refl (at .slot-at .ensures .0))
+    let same = n .copy .ensures in
+    followed-written (a .s .now) _ _ (a .slot .now) _ _ _ _ _ _ (e .pre .0) (e .pre .1) refl (at .slot-at .ensures .0)
+    (o .key-of .ensures ∙ ap (take keyBytes) same)
+    (g .change-of .ensures ∙ rw same (slot-change (a .s .now) (a .slot .now) _ _ _ _ (e .pre .0) (e .pre .1) refl (at .slot-at .ensures .0)))
     (f .follow-checks .ensures)
-    (rw (k .copy .ensures) (simp add-sub-cancel-left))
+    (rw (k .copy2 .ensures, same) (simp add-sub-cancel-left))
 
 pub write-slot-spec : {M : Type 1} → statement M
 write-slot-spec =
     tie.close
     (tie.spec
+    (λ c. search needs)
+    (λ c κs. search needs)
     (λ c. search needs)
     (λ c κs. search needs)
     (λ c. search needs)
@@ -50,14 +58,13 @@ write-slot-spec =
     (λ c. search needs)
     (λ c κs. search needs)
     (λ c. search needs)
-    (λ c. search needs)
-    (λ c. search needs)
-    (λ c. search needs)
+    (λ c κs. search needs)
     (λ c κs. search needs)
     (λ c. search needs)
     (λ c. search needs)
     (λ c. search needs)
     part-copy-end
+    (λ c. search needs)
     (λ c κs. search needs)
     (λ c. search needs)
     returns)
