@@ -6,9 +6,10 @@ use Prim.Native.Nat.{ℕ, _+_, _≤_, _<_}
 use native.Mathlib.Nat.{not-suc-le-zero}
 use native.Mathlib.Omega.{arith}
 use lib.Bits.{bitOr}
-use lib.Dec.{eqb}
+use lib.Dec.{eqb, ltb}
 use borrow.Author.Count.{below-more}
-use Rattle.buffer.specs.ChoiceLaws.{pick-true, pick-false}
+use borrow.Author.Tests.{eqb-true, eqb-false, ltb-true, ltb-false}
+use Rattle.buffer.specs.ChoiceLaws.{pick-true, pick-false, by-test}
 use Rattle.buffer.specs.TestLaws.{and-true, or-zero}
 use Rattle.buffer.specs.Range.{all, count, first, sum}
 use Rattle.buffer.specs.RangeLaws.{all-none, all-more, all-fails, count-none, count-more, first-at, first-none, sum-none, sum-more}
@@ -65,6 +66,38 @@ missing-found {p} {n} {i} g h e = sym (first-at n p i h (g .missed) e)
 
 pub missing-end : {p : ℕ → Bool} {n i : ℕ} → Missing p n i → n ≤ i → n ≡ first n p
 missing-end {p} {n} {i} g h = sym (first-none n p (λ k q. g .missed k (omega arith)))
+
+-- ---- a loop that looks for it from n - 1 down to 0, and never stops on the way
+pub record Seeking (p : ℕ → Bool) (n i found : ℕ) : Type 0 where
+  pub least : i ≤ found
+  pub most : found ≤ n
+  pub missed : (k : ℕ) → i ≤ k → k < found → p k ≡ false
+  pub held : found < n → p found ≡ true
+
+pub seeking-start : {p : ℕ → Bool} {n : ℕ} → Seeking p n n n
+seeking-start = record { least = omega arith; most = omega arith; missed = λ k h l. absurd (omega arith); held = λ l. absurd (omega arith) }
+
+pub seeking-hit : {p : ℕ → Bool} {n i j found : ℕ} → Seeking p n i found → i ≡ j + 1 → p j ≡ true → Seeking p n j j
+seeking-hit g h e = record { least = omega arith; most = omega (arith, g .least, g .most); missed = λ k l m. absurd (omega arith); held = λ _. e }
+
+pub seeking-miss : {p : ℕ → Bool} {n i j found : ℕ} → Seeking p n i found → i ≡ j + 1 → p j ≡ false → Seeking p n j found
+seeking-miss {p} {n} {i} {j} {found} g h e =
+    record {
+      least = omega (arith, g .least);
+      most = g .most;
+      missed = λ k l m. by-test (λ _. p k ≡ false) (eqb k j) (λ q. ap p (eqb-true k j q) ∙ e) (λ q. let other : k ≡ j → ⊥ = eqb-false k j q in g .missed k (omega arith) m);
+      held = g .held;
+    }
+
+pub seeking-end : {p : ℕ → Bool} {n i found : ℕ} → Seeking p n i found → i ≤ 0 → found ≡ first n p
+seeking-end {p} {n} {i} {found} g h =
+    by-test
+    (λ _. found ≡ first n p)
+    (ltb found n)
+    (λ l. let inside : found < n = ltb-true found n l in sym (first-at n p found inside (λ k q. g .missed k (omega arith) q) (g .held inside)))
+    (λ l. let past : n ≤ found = ltb-false found n l in
+    let same : found ≡ n = omega (arith, g .most) in
+    same ∙ sym (first-none n p (λ k q. g .missed k (omega arith) (omega arith))))
 
 -- ---- a loop that counts at how many of 0 to n - 1 the test holds
 pub record Counting (p : ℕ → Bool) (n i c : ℕ) : Type 0 where

@@ -99,21 +99,21 @@ pub fn state(s: &[u8], w: u8) -> u8
     buffer::byte_at(s, 8 + buffer::wide(w))
 }
 
-// The first of n keys, one every step bytes from base on, that is the given one; n where there is none.
+// The first of n keys, one every step bytes from base on, that is the given one; n where there is none. All are looked at, from the last one down: no
+// branch depends on where the key is.
 fn find(s: &[u8], base: usize, step: usize, n: u8, key: u32) -> u8
     requires { ⌜ Within (now s) base step n ⌝ }
     ensures { λ r. ⌜ (r ≡ first n (λ i. eqb (keyIn (now (s .entry)) base step i) key)) × (r ≤ n) ⌝ }
 {
-    let mut at = base;
-    let mut i: u8 = 0;
-    while i < n {
-        if buffer::load32(s, at) == key {
-            return i;
+    let mut found = n;
+    let mut i = n;
+    while 0 < i {
+        i -= 1;
+        if buffer::load32(s, base + step * buffer::wide(i)) == key {
+            found = i;
         }
-        at += step;
-        i += 1;
     }
-    n
+    found
 }
 
 // The key of the slot of rank r in data unit u.

@@ -5,43 +5,54 @@ use native.Mathlib.Omega.{arith}
 use lib.Dec.{eqb}
 use borrow.Author.Needs.{needs}
 use Rattle.buffer.specs.Bytes.{be32}
-use Rattle.buffer.specs.LoopTests.{Missing, missing-start, missing-turn, missing-found, missing-end}
+use Rattle.buffer.specs.LoopTests.{Seeking, seeking-start, seeking-hit, seeking-miss, seeking-end}
 use Rattle.buffer.specs.TestLaws.{is-eq, is-ne}
 use Rattle.lookup.specs.Keys.{keyIn, place-near}
 use Rattle.lookup.proofs.find.Statement.{statement}
 use Rattle.lookup.proofs.find.Tie as tie
 
--- the place is that of key i, and no key before is the one
+-- from key i on, the first that is the one is found
 abbrev Inv-loop : tie.InvT-loop
-Inv-loop s base step n key at₀ i₀ at i = (at ≡ base + step * i) × Missing (λ (k : ℕ). eqb (keyIn s base step k) key) n i
+Inv-loop s base step n key found₀ i₀ found i = Seeking (λ (k : ℕ). eqb (keyIn s base step k) key) n i found
 
 abbrev μ-loop : tie.MeasureT-loop
-μ-loop s base step n key at₀ i₀ at i = n - i
+μ-loop s base step n key found₀ i₀ found i = i
 
 loop-holds : tie.Need-loop-holds Inv-loop μ-loop
-loop-holds c = (omega arith, missing-start)
+loop-holds c = seeking-start
+
+sub-i : tie.Need-sub-i Inv-loop μ-loop
+sub-i c = c .loop-test .taken
+
+mul-load32 : tie.Need-mul-load32 Inv-loop μ-loop
+mul-load32 c = omega (arith, place-near (c .before .before .before .before .pre) (c .wide .result) (omega (arith, c .wide .ensures)))
+
+add-load32 : tie.Need-add-load32 Inv-loop μ-loop
+add-load32 c = omega (arith, place-near (c .before .before .before .before .pre) (c .wide .result) (omega (arith, c .wide .ensures)))
 
 load32-requires : tie.Need-load32-requires Inv-loop μ-loop
-load32-requires c κs = omega (arith, c .before .before .before .pre .fits (c .before .loop .i) (c .loop-test .taken))
-
-returns : tie.Need-returns Inv-loop μ-loop
-unfolding keyIn
-returns c =
-    let l = c .before .before .before .loop in
-    let found = missing-found (l .inv .1) (c .before .before .loop-test .taken) (is-eq (c .before .load32 .ensures ∙ ap (be32 _) (l .inv .0)) refl (c .if1 .taken)) in
-    (found, omega arith)
-
-add-at : tie.Need-add-at Inv-loop μ-loop
-add-at c = omega (arith, place-near (c .before .before .before .before .before .pre) (c .before .before .before .loop .i) (omega arith))
+load32-requires c κs =
+    let l = c .before .before .loop in
+    omega (arith, c .before .before .before .before .pre .fits (c .wide .result) (omega (arith, c .wide .ensures, l .inv .least, l .inv .most, c .before .loop-test .taken)))
 
 loop-again : tie.Need-loop-again Inv-loop μ-loop
 unfolding keyIn
 loop-again c =
-    let l = c .before .before .before .loop in
-    (omega arith, missing-turn (l .inv .1) (c .before .before .loop-test .taken) (is-ne (c .before .load32 .ensures ∙ ap (be32 _) (l .inv .0)) refl (c .if1 .left)))
+    let l = c .before .before .before .before .loop in
+    let a = c .before .before .before .before .before .before .args in
+    seeking-hit (l .inv) (omega (arith, c .before .before .before .loop-test .taken)) (is-eq (c .before .load32 .ensures ∙ ap (λ (i : ℕ). be32 (a .s .now) (a .base + a .step * i)) (c .before .before .wide .ensures .0)) refl (c .if1 .taken))
 
-returns-2 : tie.Need-returns-2 Inv-loop μ-loop
-returns-2 c = (missing-end (c .before .loop .inv .1) (c .loop-test .left), omega arith)
+loop-again-2 : tie.Need-loop-again-2 Inv-loop μ-loop
+unfolding keyIn
+loop-again-2 c =
+    let l = c .before .before .before .before .loop in
+    let a = c .before .before .before .before .before .before .args in
+    seeking-miss (l .inv) (omega (arith, c .before .before .before .loop-test .taken)) (is-ne (c .before .load32 .ensures ∙ ap (λ (i : ℕ). be32 (a .s .now) (a .base + a .step * i)) (c .before .before .wide .ensures .0)) refl (c .if1 .left))
+
+returns : tie.Need-returns Inv-loop μ-loop
+returns c =
+    let l = c .before .loop in
+    (seeking-end (l .inv) (c .loop-test .left), l .inv .most)
 
 pub find-spec : {M : Type 1} → statement M
 find-spec =
@@ -50,10 +61,13 @@ find-spec =
     Inv-loop
     μ-loop
     loop-holds
+    sub-i
+    (λ c κs. search needs)
+    mul-load32
+    add-load32
     load32-requires
-    returns
-    add-at
-    (λ c. search needs)
     (λ c. search needs)
     loop-again
-    returns-2)
+    (λ c. search needs)
+    loop-again-2
+    returns)
