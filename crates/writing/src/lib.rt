@@ -54,18 +54,16 @@ fn key_of(slot: &[u8]) -> [u8; 4]
     key
 }
 
-// Slot r of unit u becomes these bytes, and each check unit in service of its group follows. They are copied first, so that the compiler knows them
+// Slot r of unit u becomes these bytes, and each check unit in service of its group follows. They come by value: the compiler knows that they stand
 // apart from the store.
-pub fn write_slot(s: &mut [u8], u: u8, r: u8, slot: &[u8], table: &[u8; 256])
-    requires { ⌜ SlotIn (now s) u r × (length (now slot) ≡ 20) × (now table ≡ products) ⌝ }
-    ensures { λ _. ⌜ now (s .exit) ≡ bytes (written (view (now (s .entry))) u r (now (slot .entry))) ⌝ }
+pub fn write_slot(s: &mut [u8], u: u8, r: u8, slot: [u8; 20], table: &[u8; 256])
+    requires { ⌜ SlotIn (now s) u r × (now table ≡ products) ⌝ }
+    ensures { λ _. ⌜ now (s .exit) ≡ bytes (written (view (now (s .entry))) u r slot) ⌝ }
 {
-    let mut new = [0u8; 20];
-    buffer::copy(&mut new, slot);
     let at = lookup::slot_at(s[5], u, r);
-    let change = change_of(&s[at + 4..at + 20], &new[4..20]);
-    follow_checks(s, u, r, key_of(&new), change, table);
-    buffer::copy(&mut s[at..at + 20], &new);
+    let change = change_of(&s[at + 4..at + 20], &slot[4..20]);
+    follow_checks(s, u, r, key_of(&slot), change, table);
+    buffer::copy(&mut s[at..at + 20], &slot);
 }
 
 // The record of rank last moves into rank r of unit u, and its own slot becomes empty.
@@ -76,9 +74,9 @@ pub fn erase_at(s: &mut [u8], u: u8, r: u8, last: u8, table: &[u8; 256])
     let from = lookup::slot_at(s[5], u, last);
     let mut held = [0u8; 20];
     buffer::copy(&mut held, &s[from..from + 20]);
-    write_slot(s, u, r, &held, table);
+    write_slot(s, u, r, held, table);
     let empty = [0u8; 20];
-    write_slot(s, u, last, &empty, table);
+    write_slot(s, u, last, empty, table);
 }
 
 // A slot becomes a key and a body.
@@ -105,9 +103,8 @@ fn write_record(s: &mut [u8], u: u8, r: u8, key: u32, body: &[u8])
     requires { ⌜ SlotIn (now s) u r × (length (now body) ≡ 16) ⌝ }
     ensures { λ _. ⌜ now (s .exit) ≡ bytes (written (view (now (s .entry))) u r (slotOf key (now (body .entry)))) ⌝ }
 {
-    let slot = slot_of(key, body);
     let table = field::table();
-    write_slot(s, u, r, &slot, &table);
+    write_slot(s, u, r, slot_of(key, body), &table);
 }
 
 // The bytes of data unit u become zero, and its state 2.

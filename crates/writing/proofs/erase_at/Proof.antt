@@ -16,16 +16,16 @@ part-copy-end c =
 
 write-slot-requires-2 : tie.Need-write-slot-requires-2
 write-slot-requires-2 c κs =
-    let w = c .before .before .before .before in
-    let e = w .before .before .before .before .before .before .before .before .before .before .before in
-    (written-in _ _ _ _ _ (e .pre .0) (search needs) (w .write-slot .ensures) _ (search needs), search needs, e .pre .2)
+    let w = c .before .before .before in
+    let e = w .before .before .before .before .before .before .before .before .before .before in
+    (written-in _ _ _ _ _ (e .pre .0) (search needs) (w .write-slot .ensures) _ (search needs), e .pre .2)
 
 returns : tie.Need-returns
 unfolding zeros part
 returns c =
     let w2 = c .before .before in
-    let w = w2 .before .before .before .before .before in
-    let k = w .before .before .before .before in
+    let w = w2 .before .before .before .before in
+    let k = w .before .before .before in
     let at = k .before .before .before .before in
     let e = at .before .before .before in
     erased-bytes _ _ _ _ _ _ _ (e .pre .0) (e .pre .1) (search needs) (k .copy .ensures ∙ simp add-sub-cancel-left (slot-lent _ _ _ _ _ refl (at .slot-at .ensures .0)))
@@ -43,9 +43,7 @@ erase-at-spec =
     (λ c. search needs)
     part-copy-end
     (λ c κs. search needs)
-    (λ c. search needs)
     (λ c κs. search needs)
-    (λ c. search needs)
     write-slot-requires-2
     (λ c. search needs)
     returns)

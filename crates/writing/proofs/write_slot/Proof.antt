@@ -1,10 +1,10 @@
 -- `writing::write_slot` meets its contract. Assumes nothing.
 use native.Mathlib.Omega.{arith}
 use native.Mathlib.Nat.{add-sub-cancel-left}
-use mathlib.Core.Path.{refl, ap, _∙_}
-use lib.ListN.{take}
+use mathlib.Core.Path.{_≡_, refl, _∙_}
+use lib.ListN.{length}
 use Rattle.buffer.specs.Bytes.{part, splice}
-use Rattle.group.specs.Widths.{keyBytes}
+use Rattle.group.specs.Widths.{slotBytes}
 use Rattle.model.specs.StoreLaws.{slot-end}
 use Rattle.writing.proofs.Following.{followed-written}
 use Rattle.writing.proofs.Written.{slot-change}
@@ -14,12 +14,12 @@ use Rattle.writing.proofs.write_slot.Tie as tie
 
 part-change-of-end : tie.Need-part-change-of-end
 part-change-of-end c =
-    let e = c .before .before .before .before .before .before .before .before in
+    let e = c .before .before .before .before in
     omega (arith, slot-end (e .pre .0))
 
 part-copy-end : tie.Need-part-copy-end
 part-copy-end c =
-    let e = c .before .before .before .before .before .before .before .before .before .before .before .before .before .before .before .before .before .before in
+    let e = c .before .before .before .before .before .before .before .before .before .before .before .before .before .before in
     omega (arith, slot-end (e .pre .0))
 
 returns : tie.Need-returns
@@ -30,22 +30,20 @@ returns c =
     let o = f .before in
     let g = o .before .before .before in
     let at = g .before .before .before .before .before in
-    let n = at .before .before .before in
-    let e = n .before .before .before .before in
+    let e = at .before .before .before in
     let a = e .args in
-    let same = n .copy .ensures in
-    followed-written (a .s .now) _ _ (a .slot .now) _ _ _ _ _ _ (e .pre .0) (e .pre .1) refl (at .slot-at .ensures .0)
-    (o .key-of .ensures ∙ ap (take keyBytes) same)
-    (g .change-of .ensures ∙ rw same (slot-change (a .s .now) (a .slot .now) _ _ _ _ (e .pre .0) (e .pre .1) refl (at .slot-at .ensures .0)))
+    let slot = a .t4 in
+    let long : length slot ≡ slotBytes = search (needs, e .good .1 .1 .1 .0) in
+    followed-written (a .s .now) _ _ slot _ _ _ _ _ _ (e .pre .0) long refl (at .slot-at .ensures .0)
+    (o .key-of .ensures)
+    (g .change-of .ensures ∙ slot-change (a .s .now) slot _ _ _ _ (e .pre .0) long refl (at .slot-at .ensures .0))
     (f .follow-checks .ensures)
-    (rw (k .copy2 .ensures, same) (simp add-sub-cancel-left))
+    (rw (k .copy .ensures) (simp add-sub-cancel-left))
 
 pub write-slot-spec : {M : Type 1} → statement M
 write-slot-spec =
     tie.close
     (tie.spec
-    (λ c. search needs)
-    (λ c κs. search needs)
     (λ c. search needs)
     (λ c κs. search needs)
     (λ c. search needs)
