@@ -1,2 +1,3 @@
 pub mod Following
 pub mod Homes
+pub mod Places

@@ -13,6 +13,7 @@ ghost use Rattle.model.specs.Perform.{plain, outcome, perform};
 ghost use Rattle.model.specs.Changes.{written, erased, unitLost};
 ghost use Rattle.writing.specs.Following.{followed};
 ghost use Rattle.writing.specs.Homes.{Homed};
+ghost use Rattle.writing.specs.Places.{unitAt};
 
 // Each check unit in service of u's group follows, at rank r, the new key and the change of body of the record there.
 fn follow_checks(s: &mut [u8], u: u8, r: u8, key: [u8; 4], change: [u8; 16], table: &[u8; 256])
@@ -107,40 +108,26 @@ fn write_record(s: &mut [u8], u: u8, r: u8, key: u32, body: &[u8])
     write_slot(s, u, r, slot_of(key, body), &table);
 }
 
-// The bytes of data unit u become zero, and its state 2.
-fn clear_data(s: &mut [u8], u: u8)
-    requires { ⌜ Long (now s) × (u < 16) ⌝ }
-    ensures { λ _. ⌜ now (s .exit) ≡ bytes (unitLost (view (now (s .entry))) u) ⌝ }
+// Where the bytes of unit w start: 0 to 15 data, 16 + 3g + j check. They end where those of the next one start.
+fn unit_at(b: u8, w: u8) -> usize
+    ensures { λ at. ⌜ at ≡ unitAt b w ⌝ }
 {
-    let b = s[5];
-    let from = lookup::slot_at(b, u, 0);
-    let to = lookup::slot_at(b, u + 1, 0);
-    buffer::clear(&mut s[from..to]);
-    s[8 + buffer::wide(u)] = 2;
+    if w < 16 {
+        return lookup::slot_at(b, w, 0);
+    }
+    lookup::check_at(b, w - 16, 0)
 }
 
-// The bytes of check unit c become zero, and its state 2.
-fn clear_check(s: &mut [u8], c: u8)
-    requires { ⌜ Long (now s) × (c < 12) ⌝ }
-    ensures { λ _. ⌜ now (s .exit) ≡ bytes (unitLost (view (now (s .entry))) (16 + c)) ⌝ }
-{
-    let b = s[5];
-    let from = lookup::check_at(b, c, 0);
-    let to = lookup::check_at(b, c + 1, 0);
-    buffer::clear(&mut s[from..to]);
-    s[24 + buffer::wide(c)] = 2;
-}
-
-// The bytes of unit w become zero, and its state 2: 0 to 15 data, 16 + 3g + j check.
+// The bytes of unit w become zero, and its state 2.
 pub fn clear_unit(s: &mut [u8], w: u8)
     requires { ⌜ Long (now s) × (w < 28) ⌝ }
     ensures { λ _. ⌜ now (s .exit) ≡ bytes (unitLost (view (now (s .entry))) w) ⌝ }
 {
-    if w < 16 {
-        clear_data(s, w);
-    } else {
-        clear_check(s, w - 16);
-    }
+    let b = s[5];
+    let from = unit_at(b, w);
+    let to = unit_at(b, w + 1);
+    buffer::clear(&mut s[from..to]);
+    s[8 + buffer::wide(w)] = 2;
 }
 
 // Where a key belongs, or why it is refused: the number, and where that is 0 the key's unit, how many records the unit has and the key's rank among
