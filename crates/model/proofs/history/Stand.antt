@@ -17,7 +17,7 @@ use Rattle.model.specs.Units.{splitPointer, unitOf}
 use Rattle.model.specs.UnitLaws.{split-below, unit-below}
 use Rattle.model.specs.Numbers.{Call, teach, correct, erase, read, readInPlace, list, unitOut, repair, grow, shrink, raise}
 use Rattle.model.specs.Changes.{keep}
-use Rattle.model.specs.history.Ledger.{Rec, empty, Ledger, home, recordAt, rankOf, withRecords, withOut, withIn, grownLedger, shrunkLedger, raisedLedger, granted}
+use Rattle.model.specs.history.Ledger.{Rec, empty, Ledger, home, recordAt, rankOf, withRecords, grownLedger, shrunkLedger, granted}
 use Rattle.model.specs.history.Table.{refusals, number}
 use Rattle.model.specs.history.Answers.{after}
 use Rattle.model.specs.history.Runs.{Taught, absent, present, taughtBy}
@@ -215,7 +215,7 @@ module _ (l : Ledger) (h : Ordered l) (k : ℕ) where
   -- ---- any call
 
   stand-granted : (c : Call) → Free (refusals l c) → stand (granted l c) k ≡ taughtBy k c 0 (stand l k)
-  unfolding granted taughtBy stand home withOut withIn raisedLedger
+  unfolding granted taughtBy stand home
   stand-granted (teach j x) f = stand-teach j x f
   stand-granted (correct j x) f = stand-correct j x f
   stand-granted (erase j) f = stand-erase j f
