@@ -1,6 +1,7 @@
 -- Runs of the store: a list of calls, each getting the store as the one before left it; and what a list of calls says of a key. Assumes nothing.
 use Prim.Native.Nat.{ℕ, _-_}
 use mathlib.Core.List.{List, [], _∷_}
+use mathlib.Core.Option.{Option, none, some}
 use mathlib.Core.Bool.{Bool, true, false, _&&_}
 use lib.Dec.{eqb, ltb}
 use Rattle.buffer.specs.Choice.{pick}
@@ -36,22 +37,19 @@ allGranted s (c ∷ cs) = eqb (numberIn s c) 0 && allGranted (perform s c .store
 unfoldable pub unitIn : Store → ℕ → List ℕ
 unitIn v w = pick (ltb w 16) (tab (v .size) (v .slot w)) (tab (v .size) (v .check (w - 16)))
 
--- ---- what is known of a key: its body, or none
-pub data Taught : Type 0 where
-  absent : Taught
-  present : List ℕ → Taught
+-- ---- what was taught of a key: its body, or none
 
 -- after a call that returned the number n
-unfoldable pub taughtBy : ℕ → Call → ℕ → Taught → Taught
+unfoldable pub taughtBy : ℕ → Call → ℕ → Option (List ℕ) → Option (List ℕ)
 taughtBy k c n t =
-    byKind c (λ j x. pick (eqb n 0 && eqb j k) (present x) t) (λ j. pick (eqb n 0 && eqb j k) absent t) (λ j out. t) (λ j. t) (λ out. t) t t
+    byKind c (λ j x. pick (eqb n 0 && eqb j k) (some x) t) (λ j. pick (eqb n 0 && eqb j k) none t) (λ j out. t) (λ j. t) (λ out. t) t t
 
--- by the key's last granted teach or correct; absent where there is none or a granted erase follows
-unfoldable pub lastTaught : ℕ → List ℕ → List Call → Taught → Taught
+-- by the key's last granted teach or correct; none where there is none or a granted erase follows
+unfoldable pub lastTaught : ℕ → List ℕ → List Call → Option (List ℕ) → Option (List ℕ)
 lastTaught k s [] t = t
 lastTaught k s (c ∷ cs) t = lastTaught k (perform s c .store) cs (taughtBy k c (numberIn s c) t)
 
 -- what read, given a buffer that fits, owes of a key: its body, or 6 and the buffer as it was
-unfoldable pub told : List ℕ → Taught → Answer
-told out absent = copied 6 out
-told out (present x) = copied 0 x
+unfoldable pub told : List ℕ → Option (List ℕ) → Answer
+told out none = copied 6 out
+told out (some x) = copied 0 x
