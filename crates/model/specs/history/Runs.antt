@@ -44,7 +44,7 @@ unfoldable pub taughtBy : ℕ → Call → ℕ → Option (List ℕ) → Option 
 taughtBy k c n t =
     byKind c (λ j x. pick (eqb n 0 && eqb j k) (some x) t) (λ j. pick (eqb n 0 && eqb j k) none t) (λ j out. t) (λ j. t) (λ out. t) t t
 
--- by the key's last granted teach or correct; none where there is none or a granted erase follows
+-- by the key's last granted teach or correct; none where there was no such call, or a granted erase follows
 unfoldable pub lastTaught : ℕ → List ℕ → List Call → Option (List ℕ) → Option (List ℕ)
 lastTaught k s [] t = t
 lastTaught k s (c ∷ cs) t = lastTaught k (perform s c .store) cs (taughtBy k c (numberIn s c) t)
