@@ -9,8 +9,7 @@ use Rattle.algebra.specs.Xor.{xor-assoc}
 use Rattle.field.specs.Gf16.{product}
 use Rattle.field.specs.Byte.{scale}
 use Rattle.code.specs.Lists.{four}
-use Rattle.code.specs.Weights.{combination}
-use Rattle.code.specs.Bytes.{mixed}
+use Rattle.code.specs.Weights.{combination, mixed}
 
 pub four-path : {a b c d p q r s : ℕ} → a ≡ p → b ≡ q → c ≡ r → d ≡ s → _≡_ {A = List ℕ} (a ∷ b ∷ c ∷ d ∷ []) (p ∷ q ∷ r ∷ s ∷ [])
 four-path e f g h = λ i. e i ∷ f i ∷ g i ∷ h i ∷ []

@@ -12,14 +12,14 @@ use lib.Dec.{lit<}
 use lib.ListN.{length, getD, length-map}
 use Rattle.algebra.specs.Polynomial.{All}
 use Rattle.field.specs.ByteLaws.{scale-one, scale-zero}
-use Rattle.code.specs.Matrix.{matrix, entry, column, encode, within, different}
-use Rattle.code.specs.MatrixLaws.{column-within}
+use Rattle.code.specs.Matrix.{matrix, entry, encode, within, different}
+use Rattle.code.specs.MatrixLaws.{column, column-within}
 use Rattle.code.specs.Lists.{four, all-four, each-four, within-head, within-tail, within-at, within-four, within-map, getD-map}
 use Rattle.code.specs.Fixing.{fixes}
-use Rattle.code.specs.Weights.{weightsOf, data-of}
+use Rattle.code.specs.Weights.{weightsOf, mixed, data-of}
 use Rattle.code.specs.WeightsLaws.{weights-within, rebuilt-has}
-use Rattle.code.specs.Bytes.{mixed, encode-bytes}
-use Rattle.code.specs.Halves.{lows-within, highs-within, mixed-high, mixed-low, mixed-bound, encode-high, encode-low, encode-halves, highs, lows}
+use Rattle.code.specs.Bytes.{encode-bytes}
+use Rattle.code.specs.Halves.{lows-within, highs-within, mixed-high, mixed-low, mixed-bound, encode-mixed, encode-high, encode-low, highs, lows}
 
 -- the data bytes rebuilt from the bytes ys at the columns cs
 abbrev pub bytes-of : List ℕ → List ℕ → List ℕ
@@ -40,10 +40,8 @@ lows-are cs ys =
 pub rebuilt-bytes-have : (cs : List ℕ) → length cs ≡ 4 → within 16 cs ≡ true → different cs ≡ true → (ys : List ℕ) → length ys ≡ 4 → within 255 ys ≡ true
     → (j : ℕ) → j < 4 → encode-bytes (bytes-of cs ys) (getD cs j 0) ≡ getD ys j 0
 rebuilt-bytes-have cs lc w d ys ly v j h =
-    let k : j < length cs = omega arith in
     let k′ : j < length ys = omega arith in
-    encode-halves (bytes-of cs ys) refl (getD cs j 0) (omega (arith, within-at 16 cs w j k))
-    ∙ ap₂ (λ (x y : ℕ). x * 16 + y)
+    ap₂ (λ (x y : ℕ). x * 16 + y)
     (ap (λ (l : List ℕ). encode l (getD cs j 0)) (highs-are cs ys)
     ∙ rebuilt-has cs lc w d (highs ys) (length-map ys (λ (b : ℕ). b / 16) ∙ ly) (highs-within ys v) j h ∙ getD-map (λ (b : ℕ). b / 16) ys j k′)
     (ap (λ (l : List ℕ). encode l (getD cs j 0)) (lows-are cs ys)
@@ -84,8 +82,8 @@ bytes-fixed cs lc w d ds es ld le vd ve a = sym (joined-halves ds) ∙ ap₂ joi
         (λ c h e. sym (encode-low ds ld c h) ∙ ap (λ (x : ℕ). x % 16) e ∙ encode-low es le c h) cs w a)
 
 -- ---- rebuilding what was encoded gives the data
-pub encode-bytes-bound : (ds : List ℕ) → within 255 ds ≡ true → (c : ℕ) → c < 17 → encode-bytes ds c < 256
-encode-bytes-bound ds v c h = mixed-bound (column c) ds (column-within c h) v
+pub encode-bytes-bound : (ds : List ℕ) → length ds ≡ 4 → within 255 ds ≡ true → (c : ℕ) → c < 17 → encode-bytes ds c < 256
+encode-bytes-bound ds l v c h = omega (arith, encode-mixed ds l c h, mixed-bound (column c) ds (column-within c h) v)
 
 pub bytes-of-within : (cs ys : List ℕ) → within 255 ys ≡ true → within 255 (bytes-of cs ys) ≡ true
 bytes-of-within cs ys v = within-four 255 _ _ _ _ (low 0) (low 1) (low 2) (low 3)
@@ -104,7 +102,7 @@ bytes-back cs lc w d ds ld v =
     ys = map (encode-bytes ds) cs
 
     within-ys : within 255 ys ≡ true
-    within-ys = within-map 16 255 (encode-bytes ds) (λ c h. le-of-suc-le-suc (encode-bytes-bound ds v c (omega arith))) cs w
+    within-ys = within-map 16 255 (encode-bytes ds) (λ c h. le-of-suc-le-suc (encode-bytes-bound ds ld v c (omega arith))) cs w
 
 pub byte-back : (cs : List ℕ) → length cs ≡ 4 → within 16 cs ≡ true → different cs ≡ true → (ds : List ℕ) → length ds ≡ 4 → within 255 ds ≡ true
     → (q : ℕ) → q < 4 → mixed (weightsOf cs q) (map (encode-bytes ds) cs) ≡ getD ds q 0
@@ -116,12 +114,15 @@ byte-back cs lc w d ds ld v q h =
 at : (ds : List ℕ) → length ds ≡ 4 → within 255 ds ≡ true → (q : ℕ) → q < 4 → getD ds q 0 < 256
 at ds l v q h = omega (arith, within-at 255 ds v q (omega arith))
 
-pub encode-data : (ds : List ℕ) → length ds ≡ 4 → within 255 ds ≡ true → (q : ℕ) → q < 4 → encode-bytes ds q ≡ getD ds q 0
+data-bytes : (ds : List ℕ) → length ds ≡ 4 → within 255 ds ≡ true → (q : ℕ) → q < 4 → mixed (column q) ds ≡ getD ds q 0
 unfolding entry matrix
-encode-data =
-    four (λ ds. within 255 ds ≡ true → (q : ℕ) → q < 4 → encode-bytes ds q ≡ getD ds q 0)
-    (λ a b c d v. each-four (λ q. encode-bytes (a ∷ b ∷ c ∷ d ∷ []) q ≡ getD (a ∷ b ∷ c ∷ d ∷ []) q 0)
+data-bytes =
+    four (λ ds. within 255 ds ≡ true → (q : ℕ) → q < 4 → mixed (column q) ds ≡ getD ds q 0)
+    (λ a b c d v. each-four (λ q. mixed (column q) (a ∷ b ∷ c ∷ d ∷ []) ≡ getD (a ∷ b ∷ c ∷ d ∷ []) q 0)
     (simp (scale-one a (at (a ∷ b ∷ c ∷ d ∷ []) refl v 0 (lit< tt)), scale-zero, xor-zero-l, xor-zero-r))
     (simp (scale-one b (at (a ∷ b ∷ c ∷ d ∷ []) refl v 1 (lit< tt)), scale-zero, xor-zero-l, xor-zero-r))
     (simp (scale-one c (at (a ∷ b ∷ c ∷ d ∷ []) refl v 2 (lit< tt)), scale-zero, xor-zero-l, xor-zero-r))
     (simp (scale-one d (at (a ∷ b ∷ c ∷ d ∷ []) refl v 3 (lit< tt)), scale-zero, xor-zero-l, xor-zero-r)))
+
+pub encode-data : (ds : List ℕ) → length ds ≡ 4 → within 255 ds ≡ true → (q : ℕ) → q < 4 → encode-bytes ds q ≡ getD ds q 0
+encode-data ds l v q h = sym (encode-mixed ds l q (omega arith)) ∙ data-bytes ds l v q h

@@ -1,6 +1,6 @@
--- Sums of weighted bytes, half by half. A reader wants `encode-halves`: the byte of four data bytes at a column has as halves the symbols of their
--- halves there; `mixed-high` and `mixed-low` say the same of any weights, `mixed-bound` that the sum is a byte.
-use mathlib.Core.Path.{_≡_, refl, ap, ap₂, _∙_}
+-- Sums of weighted bytes, half by half. A reader wants `encode-mixed`: the byte of four data bytes at a column is the sum of these bytes, each
+-- times its coefficient; `mixed-high` and `mixed-low` give the halves of such a sum for any weights, `mixed-bound` says that it is a byte.
+use mathlib.Core.Path.{_≡_, refl, ap, ap₂, _∙_, sym}
 use mathlib.Core.Bool.{true}
 use mathlib.Core.List.{List, [], _∷_, map}
 use Prim.Native.Nat.{ℕ, _+_, _*_, _/_, _%_, _<_}
@@ -15,12 +15,12 @@ use Rattle.field.specs.Gf16.{product}
 use Rattle.field.specs.Gf16Laws.{tested}
 use Rattle.field.specs.Byte.{scale}
 use Rattle.field.specs.ByteLaws.{scale-bound, xor-bytes, low-lt}
-use Rattle.code.specs.Matrix.{column, encode, within}
-use Rattle.code.specs.MatrixLaws.{column-within}
+use Rattle.code.specs.Matrix.{encode, within}
+use Rattle.code.specs.MatrixLaws.{column, column-within}
 use Rattle.code.specs.Lists.{four, within-head, within-tail, within-cons, within-map}
-use Rattle.code.specs.Weights.{combination}
+use Rattle.code.specs.Weights.{combination, mixed}
 use Rattle.code.specs.WeightsLaws.{combination-bound}
-use Rattle.code.specs.Bytes.{mixed, encode-bytes}
+use Rattle.code.specs.Bytes.{encode-bytes}
 
 -- the high and the low halves of bytes
 abbrev pub highs : List ℕ → List ℕ
@@ -66,14 +66,18 @@ mixed-bound (w ∷ ws) (y ∷ ys) h k =
 pub encode-column : (ds : List ℕ) → length ds ≡ 4 → (c : ℕ) → combination (column c) ds ≡ encode ds c
 encode-column = four (λ ds. (c : ℕ) → combination (column c) ds ≡ encode ds c) (λ a b d e c. refl)
 
-pub encode-high : (ds : List ℕ) → length ds ≡ 4 → (c : ℕ) → c < 17 → encode-bytes ds c / 16 ≡ encode (highs ds) c
-encode-high ds l c h = mixed-high (column c) ds (column-within c h) ∙ encode-column (highs ds) (length-map ds (λ (b : ℕ). b / 16) ∙ l) c
-
-pub encode-low : (ds : List ℕ) → length ds ≡ 4 → (c : ℕ) → c < 17 → encode-bytes ds c % 16 ≡ encode (lows ds) c
-encode-low ds l c h = mixed-low (column c) ds (column-within c h) ∙ encode-column (lows ds) (length-map ds (λ (b : ℕ). b % 16) ∙ l) c
-
-pub encode-halves : (ds : List ℕ) → length ds ≡ 4 → (c : ℕ) → c < 17 → encode-bytes ds c ≡ encode (highs ds) c * 16 + encode (lows ds) c
-encode-halves ds l c h =
+pub encode-mixed : (ds : List ℕ) → length ds ≡ 4 → (c : ℕ) → c < 17 → mixed (column c) ds ≡ encode-bytes ds c
+encode-mixed ds l c h =
     mixed-halves (column c) ds (column-within c h)
     ∙ ap₂ (λ (x y : ℕ). x * 16 + y) (encode-column (highs ds) (length-map ds (λ (b : ℕ). b / 16) ∙ l) c)
     (encode-column (lows ds) (length-map ds (λ (b : ℕ). b % 16) ∙ l) c)
+
+pub encode-high : (ds : List ℕ) → length ds ≡ 4 → (c : ℕ) → c < 17 → encode-bytes ds c / 16 ≡ encode (highs ds) c
+encode-high ds l c h =
+    ap (λ (x : ℕ). x / 16) (sym (encode-mixed ds l c h)) ∙ mixed-high (column c) ds (column-within c h)
+    ∙ encode-column (highs ds) (length-map ds (λ (b : ℕ). b / 16) ∙ l) c
+
+pub encode-low : (ds : List ℕ) → length ds ≡ 4 → (c : ℕ) → c < 17 → encode-bytes ds c % 16 ≡ encode (lows ds) c
+encode-low ds l c h =
+    ap (λ (x : ℕ). x % 16) (sym (encode-mixed ds l c h)) ∙ mixed-low (column c) ds (column-within c h)
+    ∙ encode-column (lows ds) (length-map ds (λ (b : ℕ). b % 16) ∙ l) c

@@ -21,10 +21,6 @@ matrix =
 unfoldable pub entry : ℕ → ℕ → ℕ
 entry place column = getD matrix (place * 17 + column) 0
 
--- the four entries of a column
-abbrev pub column : ℕ → List ℕ
-column c = entry 0 c ∷ entry 1 c ∷ entry 2 c ∷ entry 3 c ∷ []
-
 -- the product of the symbols ds with column c, from the given place on
 abbrev pub dot : List ℕ → ℕ → ℕ → ℕ
 dot [] place c = 0

@@ -1,6 +1,7 @@
 -- Lagrange's weights of four columns, on numbers, as the code computes them: taken once for a place, then applied to many symbols.
--- A reader wants `weightsOf cs q`, the weights of the columns cs at column q, `combination ws ys`, the sum of symbols times weights, and `data-of cs ys`,
--- the four data symbols from the symbols ys at cs. Nothing here need be believed: WeightsLaws shows that these data have the symbols ys.
+-- A reader wants `weightsOf cs q`, the weights of the columns cs at column q, `combination ws ys`, the sum of symbols times weights, `mixed ws ys`, the
+-- same of bytes, and `data-of cs ys`, the four data symbols from the symbols ys at cs. Nothing here need be believed: WeightsLaws shows that these data
+-- have the symbols ys, Halves that a sum of bytes has the sums of their halves.
 use mathlib.Core.List.{List, [], _∷_}
 use Prim.Native.Nat.{ℕ}
 use lib.Bits.{bitXor}
@@ -8,6 +9,7 @@ use lib.ListN.{getD}
 use Rattle.algebra.specs.Lagrange.{gap, gaps, weight}
 use Rattle.field.specs.Gf16.{product}
 use Rattle.field.specs.Gf16Laws.{gf16}
+use Rattle.field.specs.Byte.{scale}
 use Rattle.code.specs.Point.{point}
 
 -- the difference of two columns as points
@@ -33,6 +35,11 @@ abbrev pub combination : List ℕ → List ℕ → ℕ
 combination [] ys = 0
 combination (w ∷ ws) [] = 0
 combination (w ∷ ws) (y ∷ ys) = bitXor (product y w) (combination ws ys)
+
+abbrev pub mixed : List ℕ → List ℕ → ℕ
+mixed [] ys = 0
+mixed (w ∷ ws) [] = 0
+mixed (w ∷ ws) (y ∷ ys) = bitXor (scale w y) (mixed ws ys)
 
 abbrev pub data-of : List ℕ → List ℕ → List ℕ
 data-of cs ys =

@@ -16,8 +16,8 @@ use Rattle.buffer.specs.Range.{count}
 use Rattle.buffer.specs.RangeLaws.{below-four}
 use Rattle.code.specs.Matrix.{within, different}
 use Rattle.code.specs.Lists.{four, within-four}
-use Rattle.code.specs.Weights.{weightsOf}
-use Rattle.code.specs.Bytes.{mixed, encode-bytes}
+use Rattle.code.specs.Weights.{weightsOf, mixed}
+use Rattle.code.specs.Bytes.{encode-bytes}
 use Rattle.code.specs.BytesLaws.{byte-back, encode-data}
 use Rattle.group.specs.BodyLaws.{IsBody}
 use Rattle.group.specs.Parity.{parity}
@@ -89,7 +89,7 @@ module _ (n : ℕ) (on : ℕ → Bool) (hold f : ℕ → List ℕ) (is : (p : �
   check-member j l s =
       record {
         size = ap length (check-holds j l s) ∙ length-parity n j f sizes;
-        coded = λ k q. ap (λ x. byte x k) (check-holds j l s) ∙ byte-parity n j f sizes k q;
+        coded = λ k q. ap (λ x. byte x k) (check-holds j l s) ∙ byte-parity n j l f sizes k q;
       }
 
   member : (m : ℕ) → m < 7 → on m ≡ true → Holds m

@@ -11,9 +11,12 @@ use Rattle.buffer.specs.Bytes.{byte}
 use Rattle.buffer.specs.Loops.{entries}
 use Rattle.buffer.specs.RangeLaws.{below-four, entries-of}
 use Rattle.field.specs.Byte.{scale}
-use Rattle.code.specs.Matrix.{entry, column}
+use Rattle.code.specs.Matrix.{entry}
+use Rattle.code.specs.MatrixLaws.{column}
 use Rattle.code.specs.Lists.{four}
-use Rattle.code.specs.Bytes.{mixed, encode-bytes}
+use Rattle.code.specs.Weights.{mixed}
+use Rattle.code.specs.Bytes.{encode-bytes}
+use Rattle.code.specs.Halves.{encode-mixed}
 use Rattle.group.specs.Body.{scaleBody}
 use Rattle.group.specs.BodyLaws.{length-scale, byte-scale}
 use Rattle.group.specs.Parity.{coefficient, parity}
@@ -65,6 +68,7 @@ parity-weighed j f =
     sum4-ext (λ p. scaleBody (entry p (4 + j)) (f p)) (λ p. scaleBody (getD (column (4 + j)) p 0) (f p))
     (below-four (λ p. scaleBody (entry p (4 + j)) (f p) ≡ scaleBody (getD (column (4 + j)) p 0) (f p)) refl refl refl refl)
 
-pub byte-parity : (n j : ℕ) (f : ℕ → List ℕ) → ((p : ℕ) → p < 4 → length (f p) ≡ n) → (k : ℕ) → k < n
+pub byte-parity : (n j : ℕ) → j < 3 → (f : ℕ → List ℕ) → ((p : ℕ) → p < 4 → length (f p) ≡ n) → (k : ℕ) → k < n
     → byte (parity j f) k ≡ encode-bytes (across f k) (4 + j)
-byte-parity n j f h k l = ap (λ x. byte x k) (parity-weighed j f) ∙ byte-weighed n (column (4 + j)) refl f h k l
+byte-parity n j i f h k l =
+    ap (λ x. byte x k) (parity-weighed j f) ∙ byte-weighed n (column (4 + j)) refl f h k l ∙ encode-mixed (across f k) refl (4 + j) (omega arith)

@@ -44,16 +44,12 @@ slotAt b u r = headerBytes + (u * b + r) * slotBytes
 abbrev pub checkAt : ℕ → ℕ → ℕ → ℕ
 checkAt b c r = headerBytes + 16 * slotBytes * b + (c * b + r) * checkBytes
 
+-- the parts of given bytes, in which byte 5 is b
 unfoldable pub view : List ℕ → Store
-view x = record {
-  front = take 8 x;
-  dstate = λ u. byte x (8 + u);
-  cstate = λ c. byte x (24 + c);
-  size = byte x 5;
-  slot = λ u r. part (slotAt (byte x 5) u r) slotBytes x;
-  check = λ c r. part (checkAt (byte x 5) c r) checkBytes x;
-  rest = drop (storeBytes (byte x 5)) x;
-}
+view x =
+    let b : ℕ = byte x 5 in
+    store (take 8 x) (λ u. byte x (8 + u)) (λ c. byte x (24 + c)) b
+    (λ u r. part (slotAt b u r) slotBytes x) (λ c r. part (checkAt b c r) checkBytes x) (drop (storeBytes b) x)
 
 -- M and K, the store's level
 unfoldable pub unitsIn : Store → ℕ

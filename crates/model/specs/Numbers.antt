@@ -26,19 +26,20 @@ pub data Call : Type 0 where
   shrink : Call
   raise : Call
 
--- a choice by what a call hands back: a number alone, a copy (read), a part of the store (read in place), or all records (list)
-abbrev pub byAnswer : {A : Type 0} → Call → A → (ℕ → List ℕ → A) → (ℕ → A) → (List ℕ → A) → A
-byAnswer (teach k x) plain copied lent listed = plain
-byAnswer (correct k x) plain copied lent listed = plain
-byAnswer (erase k) plain copied lent listed = plain
-byAnswer (read k out) plain copied lent listed = copied k out
-byAnswer (readInPlace k) plain copied lent listed = lent k
-byAnswer (list out) plain copied lent listed = listed out
-byAnswer (unitOut w) plain copied lent listed = plain
-byAnswer (repair g) plain copied lent listed = plain
-byAnswer grow plain copied lent listed = plain
-byAnswer shrink plain copied lent listed = plain
-byAnswer raise plain copied lent listed = plain
+-- a choice by the kind of a call: a key's body is written (teach, correct), a key erased, a body copied (read) or lent (read in place), all records
+-- listed, units marked (unit out, repair), or none of these (grow, shrink, raise)
+abbrev pub byKind {ℓ} : {A : Type ℓ} → Call → (ℕ → List ℕ → A) → (ℕ → A) → (ℕ → List ℕ → A) → (ℕ → A) → (List ℕ → A) → A → A → A
+byKind (teach k x) written erased copied lent listed marked other = written k x
+byKind (correct k x) written erased copied lent listed marked other = written k x
+byKind (erase k) written erased copied lent listed marked other = erased k
+byKind (read k out) written erased copied lent listed marked other = copied k out
+byKind (readInPlace k) written erased copied lent listed marked other = lent k
+byKind (list out) written erased copied lent listed marked other = listed out
+byKind (unitOut w) written erased copied lent listed marked other = marked
+byKind (repair g) written erased copied lent listed marked other = marked
+byKind grow written erased copied lent listed marked other = other
+byKind shrink written erased copied lent listed marked other = other
+byKind raise written erased copied lent listed marked other = other
 
 -- the number of the first test that holds, and 0 where none does
 unfoldable pub firstOf : List (Bool × ℕ) → ℕ

@@ -9,7 +9,7 @@ use Rattle.buffer.specs.Bytes.{zeros, part}
 use Rattle.group.specs.Widths.{keyBytes, bodyBytes, slotBytes, checkBytes}
 use Rattle.model.specs.Layout.{Store, bytes, view, storeBytes, frontOf, slotAt, slotOf, unitsIn}
 use Rattle.model.specs.Reads.{homeIn, fillIn, rankIn, bodyIn, totalIn, listingIn}
-use Rattle.model.specs.Numbers.{Call, teach, correct, erase, read, readInPlace, list, unitOut, repair, grow, shrink, raise, byAnswer, firstOf, numberIn}
+use Rattle.model.specs.Numbers.{Call, teach, correct, erase, read, readInPlace, list, unitOut, repair, grow, shrink, raise, byKind, firstOf, numberIn}
 use Rattle.model.specs.Changes.{written, erased, unitLost, repaired, grown, shrunk, raised}
 
 -- ---- answers
@@ -28,11 +28,12 @@ output n y out = pick (eqb n 0) (y ++ drop (length y) out) out
 -- a call's answer, of its number, the bytes that it hands back and the count
 unfoldable pub reply : Call → ℕ → List ℕ → ℕ → Answer
 reply c n y m =
-    byAnswer c (plain n) (λ k out. copied n (output n y out)) (λ k. lent y) (λ out. listed n (pick (eqb n 0) m 0) (output n y out))
+    byKind c (λ k x. plain n) (λ k. plain n) (λ k out. copied n (output n y out)) (λ k. lent y)
+    (λ out. listed n (pick (eqb n 0) m 0) (output n y out)) (plain n) (plain n)
 
 -- the answer of a call that is refused with the number n: nothing is handed back, and an output buffer is as it was
 unfoldable pub refusal : Call → ℕ → Answer
-refusal c n = byAnswer c (plain n) (λ k out. copied n out) (λ k. lent []) (λ out. listed n 0 out)
+refusal c n = byKind c (λ k x. plain n) (λ k. plain n) (λ k out. copied n out) (λ k. lent []) (λ out. listed n 0 out) (plain n) (plain n)
 
 -- ---- read in place
 
@@ -51,7 +52,8 @@ placeIn s k =
 -- ---- what a granted call hands back, and the store that it leaves
 
 unfoldable pub givenIn : List ℕ → Call → List ℕ
-givenIn s c = byAnswer c [] (λ k out. bodyIn (view s) k) (λ k. part (placeIn s k .at) (placeIn s k .size) s) (λ out. listingIn (view s))
+givenIn s c =
+    byKind c (λ k x. []) (λ k. []) (λ k out. bodyIn (view s) k) (λ k. part (placeIn s k .at) (placeIn s k .size) s) (λ out. listingIn (view s)) [] []
 
 unfoldable pub grantedIn : List ℕ → Call → List ℕ
 grantedIn s (teach k x) = bytes (written (view s) (homeIn (view s) k) (fillIn (view s) (homeIn (view s) k)) (slotOf k x))

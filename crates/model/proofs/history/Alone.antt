@@ -11,7 +11,7 @@ use Rattle.buffer.specs.RangeLaws.{count-fails}
 use Rattle.buffer.specs.TestLaws.{not-both, and-false-first}
 use Rattle.model.specs.Units.{splitPointer}
 use Rattle.model.specs.Numbers.{Call, teach, correct, erase, read, readInPlace, list, unitOut, repair, grow, shrink, raise, firstOf}
-use Rattle.model.specs.history.Ledger.{Ledger, opened, home, placed, isOut, state, outsOf, beyondOf, lost, total, withRecords, withOut, withIn, grownLedger, shrunkLedger, raisedLedger, granted}
+use Rattle.model.specs.history.Ledger.{Ledger, opened, home, placed, isOut, state, outsOf, beyondOf, lost, total, withRecords, grownLedger, shrunkLedger, granted}
 use Rattle.model.specs.history.Table.{refusals, number}
 use Rattle.model.specs.history.Answers.{after, final}
 use Rattle.model.specs.history.Runs.{lasting}
@@ -72,7 +72,7 @@ module _ (l : Ledger) where
   number-bare c a e = eq-eqb (firstOf (refusals (bare l) c)) 0 (free-first (refusals (bare l) c) (free-bare c a (granted-free l c e)))
 
   granted-bare : (c : Call) → lasting c ≡ true → bare (granted l c) ≡ granted (bare l) c
-  unfolding granted lasting bare withRecords home grownLedger shrunkLedger raisedLedger
+  unfolding granted lasting bare withRecords home grownLedger shrunkLedger
   granted-bare (teach k x) a = refl
   granted-bare (correct k x) a = refl
   granted-bare (erase k) a = refl
@@ -87,7 +87,7 @@ module _ (l : Ledger) where
 
   -- losses and repairs touch no list and no check unit
   passing-bare : (c : Call) → lasting c ≡ false → bare (granted l c) ≡ bare l
-  unfolding granted lasting bare withOut withIn
+  unfolding granted lasting bare
   passing-bare (teach k x) a = not-both refl a
   passing-bare (correct k x) a = not-both refl a
   passing-bare (erase k) a = not-both refl a

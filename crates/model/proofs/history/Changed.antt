@@ -4,6 +4,7 @@ use Prim.Native.Nat.{ℕ, suc, _<_}
 use mathlib.Core.Path.{_≡_, sym, ap, _∙_, subst}
 use mathlib.Core.Logic.{_≢_}
 use mathlib.Core.List.{List}
+use mathlib.Core.Option.{none, some}
 use native.Mathlib.Omega.{arith}
 use lib.Dec.{eqb, ltb}
 use lib.ListN.{length, take, getD, set, length-set, length-take}
@@ -11,19 +12,18 @@ use lib.Seq.{getD-set-same, getD-set-other, getD-take}
 use borrow.Author.Tests.{eqb-true, eqb-false, ltb-true, ltb-false}
 use Rattle.buffer.specs.ChoiceLaws.{by-test}
 use Rattle.model.specs.history.Ledger.{Rec, empty}
-use Rattle.model.specs.history.Runs.{absent, present}
 use Rattle.model.proofs.history.Seek.{seek, Different, Without, seek-miss, seek-hit, by-seek}
 
 -- a key that two lists both have with one body, or both have not
 same-seek : (xs ys : List Rec) (k : ℕ) → Different xs → Different ys
     → ((r : ℕ) → r < length xs → getD xs r empty .key ≡ k → (q : ℕ) × (q < length ys) × (getD ys q empty ≡ getD xs r empty))
     → (Without xs k → Without ys k) → seek ys k ≡ seek xs k
-same-seek xs ys k d e there none =
+same-seek xs ys k d e there gone =
     by-seek xs k (seek ys k ≡ seek xs k)
     (λ r a f.
     let w = there r a f in
-    seek-hit ys k (w .0) e (w .1) (ap (λ (z : Rec). z .key) (w .2) ∙ f) ∙ ap (λ (z : Rec). present (z .body)) (w .2) ∙ sym (seek-hit xs k r d a f))
-    (λ a. seek-miss ys k (none a) ∙ sym (seek-miss xs k a))
+    seek-hit ys k (w .0) e (w .1) (ap (λ (z : Rec). z .key) (w .2) ∙ f) ∙ ap (λ (z : Rec). some (z .body)) (w .2) ∙ sym (seek-hit xs k r d a f))
+    (λ a. seek-miss ys k (gone a) ∙ sym (seek-miss xs k a))
 
 -- ---- one record replaced by one with the same key
 
@@ -46,9 +46,9 @@ module _ (rs : List Rec) (d : Different rs) (n : ℕ) (y : Rec) (inside : n < le
   set-differ : Different (set rs n y)
   set-differ r q a b = rw (same-key r, same-key q) (d r q a (omega (arith, length-set rs n y)))
 
-  pub set-seek : seek (set rs n y) (y .key) ≡ present (y .body)
+  pub set-seek : seek (set rs n y) (y .key) ≡ some (y .body)
   set-seek =
-      seek-hit (set rs n y) (y .key) n set-differ (omega (arith, length-set rs n y)) (ap (λ (z : Rec). z .key) here) ∙ ap (λ (z : Rec). present (z .body)) here
+      seek-hit (set rs n y) (y .key) n set-differ (omega (arith, length-set rs n y)) (ap (λ (z : Rec). z .key) here) ∙ ap (λ (z : Rec). some (z .body)) here
 
   pub set-other : (k : ℕ) → y .key ≢ k → seek (set rs n y) k ≡ seek rs k
   set-other k miss =
@@ -99,7 +99,7 @@ module _ (rs : List Rec) (d : Different rs) (n e : ℕ) (inside : n < length rs)
       (λ f. d r q (ltb-true r q f) b)
       (λ f g. d q r (omega (arith, ltb-false r q f)) a (sym g))
 
-  pub cut-seek : seek (cut rs n e) (getD rs n empty .key) ≡ absent
+  pub cut-seek : seek (cut rs n e) (getD rs n empty .key) ≡ none
   cut-seek = seek-miss (cut rs n e) (getD rs n empty .key) (λ r a.
       let b : r < e = omega (arith, cut-length) in
       cut-from (λ (x : Rec). x .key ≢ getD rs n empty .key) r b

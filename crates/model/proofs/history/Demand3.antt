@@ -2,6 +2,7 @@
 use Prim.Native.Nat.{ℕ, _*_, _/_, _≤_}
 use mathlib.Core.Path.{_≡_, refl, sym, ap, _∙_}
 use mathlib.Core.List.{List}
+use mathlib.Core.Option.{none}
 use mathlib.Core.Bool.{Bool, _&&_}
 use native.Mathlib.Omega.{arith}
 use lib.Dec.{eqb, ltb, leb}
@@ -18,7 +19,7 @@ use Rattle.model.specs.history.Ledger.{Ledger, opened, home}
 use Rattle.model.specs.history.Picture.{picture}
 use Rattle.model.specs.history.Table.{refusals, number}
 use Rattle.model.specs.history.Answers.{final}
-use Rattle.model.specs.history.Runs.{answersIn, finalIn, aloneIn, allGranted, absent, lastTaught, told}
+use Rattle.model.specs.history.Runs.{answersIn, finalIn, aloneIn, allGranted, lastTaught, told}
 use Rattle.model.specs.history.Typed.{AllTyped}
 use Rattle.model.specs.history.Claims.{Histories, Unlost, ReadsAsTaught, BeyondRecovery, Outlives}
 use Rattle.model.proofs.history.Alone.{bare, alone, allGrantedBy, final-bare, alone-again, bare-opened, bare-state, alone-typed}
@@ -105,11 +106,11 @@ module _ (s : List ℕ) (b : ℕ) (zero : layOutNumber s b ≡ 0) (cs : List Cal
   }
 
   -- the ledger holds for a key what was last taught
-  stands : (k : ℕ) → stand end k ≡ lastTaught k (layOut s b .store) cs absent
+  stands : (k : ℕ) → stand end k ≡ lastTaught k (layOut s b .store) cs none
   stands k =
       stand-final k cs (opened b) (whole .ordered)
       ∙ ap (lastTaughtBy k (opened b) cs) (stand-opened b k)
-      ∙ sym (ap (λ (x : List ℕ). lastTaught k x cs absent) start ∙ whole .taught k absent)
+      ∙ sym (ap (λ (x : List ℕ). lastTaught k x cs none) start ∙ whole .taught k none)
 
   reads-as-taught : ReadsAsTaught s b cs
   reads-as-taught k a out fits = rw (left-is, ← (stands k)) (tells end rest (whole .valid) k a out fits)

@@ -2,11 +2,12 @@
 use Prim.Native.Nat.{ℕ}
 use mathlib.Core.Path.{_≡_, refl}
 use mathlib.Core.List.{List, [], _∷_}
+use mathlib.Core.Option.{Option}
 use Rattle.model.specs.Numbers.{Call, teach, correct, erase, read, readInPlace, list, unitOut, repair, grow, shrink, raise}
 use Rattle.model.specs.history.Ledger.{Ledger}
 use Rattle.model.specs.history.Picture.{picture}
 use Rattle.model.specs.history.Answers.{after, answers, final}
-use Rattle.model.specs.history.Runs.{answersIn, finalIn, aloneIn, allGranted, Taught, lastTaught}
+use Rattle.model.specs.history.Runs.{answersIn, finalIn, aloneIn, allGranted, lastTaught}
 use Rattle.model.specs.history.Typed.{Typed, AllTyped}
 use Rattle.model.proofs.history.Alone.{alone, allGrantedBy}
 use Rattle.model.proofs.history.Stand.{Ordered}
@@ -33,7 +34,7 @@ pub record Run (l : Ledger) (rest : List ℕ) (cs : List Call) : Type 0 where
   pub ordered : Throughout l cs
   pub alone : aloneIn (picture l rest) cs ≡ alone l cs
   pub granted : allGranted (picture l rest) cs ≡ allGrantedBy l cs
-  pub taught : (k : ℕ) (t : Taught) → lastTaught k (picture l rest) cs t ≡ lastTaughtBy k l cs t
+  pub taught : (k : ℕ) (t : Option (List ℕ)) → lastTaught k (picture l rest) cs t ≡ lastTaughtBy k l cs t
 
 pub ordered-of : (l : Ledger) → Valid l → Ordered l
 ordered-of l h = record { some = h .some; few = h .few; own = h .own; differ = h .differ }

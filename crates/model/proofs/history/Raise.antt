@@ -11,7 +11,7 @@ use Rattle.model.specs.LayoutLaws.{Same, bytes-ext}
 use Rattle.model.specs.Changes.{raised}
 use Rattle.model.specs.Numbers.{raise, refusalsIn}
 use Rattle.model.specs.Perform.{reply, givenIn, grantedIn}
-use Rattle.model.specs.history.Ledger.{Ledger, recordAt, placed, state, raisedLedger, granted}
+use Rattle.model.specs.history.Ledger.{Ledger, recordAt, placed, state, granted}
 use Rattle.model.specs.history.Picture.{pictureSlot, pictureCheck, image, picture}
 use Rattle.model.specs.history.Table.{refusals}
 use Rattle.model.specs.history.Answers.{given}
@@ -21,11 +21,11 @@ use Rattle.model.proofs.history.OneList.{sound-row}
 use Rattle.model.proofs.history.Simulation.{Simulated}
 
 module _ (l : Ledger) (rest : List ℕ) (h : Valid l) where
-  raise-picture : bytes (raised (view (picture l rest))) ≡ picture (raisedLedger l) rest
-  unfolding raised raisedLedger levelIn image frontOf bytes32 pictureSlot pictureCheck recordAt state placed
+  raise-picture : bytes (raised (view (picture l rest))) ≡ picture (granted l raise) rest
+  unfolding raised granted levelIn image frontOf bytes32 pictureSlot pictureCheck recordAt state placed
   raise-picture =
       let s : Same (view (picture l rest)) (image l rest) = seen l rest (h .good) in
-      bytes-ext (raised (view (picture l rest))) (image (raisedLedger l) rest) (record {
+      bytes-ext (raised (view (picture l rest))) (image (granted l raise) rest) (record {
         front = ap (λ (x : List ℕ). set x 7 (suc (byte x 7))) (s .front);
         size = s .size;
         dstate = s .dstate;
@@ -35,8 +35,8 @@ module _ (l : Ledger) (rest : List ℕ) (h : Valid l) where
         rest = s .rest;
       })
 
-  raise-valid : l .level < 3 → Valid (raisedLedger l)
-  unfolding raisedLedger recordAt placed
+  raise-valid : l .level < 3 → Valid (granted l raise)
+  unfolding granted recordAt placed
   raise-valid a = record {
     some = h .some;
     few = h .few;

@@ -18,7 +18,7 @@ use Rattle.model.specs.Reads.{wholeSlot}
 use Rattle.model.specs.Changes.{repaired}
 use Rattle.model.specs.Numbers.{repair, refusalsIn}
 use Rattle.model.specs.Perform.{reply, givenIn, grantedIn}
-use Rattle.model.specs.history.Ledger.{Ledger, recordAt, placed, isOut, state, beyondOf, groupOf, withIn, granted}
+use Rattle.model.specs.history.Ledger.{Ledger, recordAt, placed, isOut, state, beyondOf, groupOf, granted}
 use Rattle.model.specs.history.Picture.{recordBytes, pictureSlot, checkOver, pictureCheck, image, picture}
 use Rattle.model.specs.history.Table.{refusals}
 use Rattle.model.specs.history.Answers.{given}
@@ -43,8 +43,8 @@ group-check c =
 -- ---- the ledger with the units of group g back in service
 
 module _ (l : Ledger) (g : ℕ) where
-  in-valid : Valid l → Valid (withIn l g)
-  unfolding withIn recordAt placed
+  in-valid : Valid l → Valid (granted l (repair g))
+  unfolding granted recordAt placed
   in-valid h = record {
     some = h .some;
     few = h .few;
@@ -63,8 +63,8 @@ module _ (l : Ledger) (g : ℕ) where
     calm = λ w e. and-false-second (not (eqb (groupOf w) g)) (h .calm w e);
   }
 
-  in-state : (w q : ℕ) → groupOf w ≡ q → pick (eqb q g && eqb (state l w) 2) 1 (state l w) ≡ state (withIn l g) w
-  unfolding state placed withIn pick
+  in-state : (w q : ℕ) → groupOf w ≡ q → pick (eqb q g && eqb (state l w) 2) 1 (state l w) ≡ state (granted l (repair g)) w
+  unfolding state placed granted pick
   in-state w q e = rw e (go (eqb q g) (placed l w) (l .out w))
     where
       go : (a p o : Bool) → _≡_ {A = ℕ} (pick (a && eqb (pick p (pick o 2 1) 0) 2) 1 (pick p (pick o 2 1) 0)) (pick p (pick (not a && o) 2 1) 0)
@@ -74,12 +74,12 @@ module _ (l : Ledger) (g : ℕ) where
       go false p o = refl
 
   -- none of them is out
-  in-none : (w : ℕ) → groupOf w ≡ g → isOut (withIn l g) w ≡ false
-  unfolding isOut withIn
-  in-none w e = rw (eq-eqb (groupOf w) g e) (and-false (placed (withIn l g) w))
+  in-none : (w : ℕ) → groupOf w ≡ g → isOut (granted l (repair g)) w ≡ false
+  unfolding isOut granted
+  in-none w e = rw (eq-eqb (groupOf w) g e) (and-false (placed (granted l (repair g)) w))
 
-  in-at : (u r : ℕ) → recordAt (withIn l g) u r ≡ recordAt l u r
-  unfolding recordAt withIn
+  in-at : (u r : ℕ) → recordAt (granted l (repair g)) u r ≡ recordAt l u r
+  unfolding recordAt granted
   in-at u r = refl
 
   module _ (rest : List ℕ) (h : Valid l) (hg : g < 4) (nb : beyondOf l g ≡ false) where
@@ -92,40 +92,40 @@ module _ (l : Ledger) (g : ℕ) where
     whole : (u r : ℕ) → u < 16 → u / 4 ≡ g → r < l .size → wholeSlot v u r ≡ recordBytes (recordAt l u r)
     whole u r a d b = whole-slot l rest h u a (and-false-second (isOut l u) (ap (beyondOf l) d ∙ nb)) r b
 
-    in-slot : (u r : ℕ) → u < 16 → r < l .size → pick (eqb (u / 4) g) (wholeSlot v u r) (v .slot u r) ≡ pictureSlot (withIn l g) u r
+    in-slot : (u r : ℕ) → u < 16 → r < l .size → pick (eqb (u / 4) g) (wholeSlot v u r) (v .slot u r) ≡ pictureSlot (granted l (repair g)) u r
     unfolding image
-    in-slot u r a b = by-pick (λ (x : List ℕ). x ≡ pictureSlot (withIn l g) u r) (eqb (u / 4) g) (wholeSlot v u r) (v .slot u r)
+    in-slot u r a b = by-pick (λ (x : List ℕ). x ≡ pictureSlot (granted l (repair g)) u r) (eqb (u / 4) g) (wholeSlot v u r) (v .slot u r)
         (λ e.
         let d : u / 4 ≡ g = eqb-true (u / 4) g e in
-        whole u r a d b ∙ sym (slot-kept (withIn l g) (in-valid h) u r a (in-none u (group-data u a ∙ d)) ∙ ap recordBytes (in-at u r)))
+        whole u r a d b ∙ sym (slot-kept (granted l (repair g)) (in-valid h) u r a (in-none u (group-data u a ∙ d)) ∙ ap recordBytes (in-at u r)))
         (λ e. s .slot u r a b ∙ same-slot u r (sym (ap (λ (t : Bool). pick (t && eqb (state l u) 2) 1 (state l u)) e ∙ pick-false refl 1 (state l u)) ∙ in-state u (u / 4) (group-data u a)))
       where
-        same-slot : (u r : ℕ) → state l u ≡ state (withIn l g) u → pictureSlot l u r ≡ pictureSlot (withIn l g) u r
-        same-slot u r e = unfold pictureSlot recordAt withIn in rw e
+        same-slot : (u r : ℕ) → state l u ≡ state (granted l (repair g)) u → pictureSlot l u r ≡ pictureSlot (granted l (repair g)) u r
+        same-slot u r e = unfold pictureSlot recordAt granted in rw e
 
     in-check : (c r : ℕ) → c < 12 → r < l .size
-        → pick (eqb (c / 3) g && eqb (state l (16 + c)) 2) (checkRecord (c % 3) (λ p. wholeSlot v (4 * g + p) r)) (v .check c r) ≡ pictureCheck (withIn l g) c r
+        → pick (eqb (c / 3) g && eqb (state l (16 + c)) 2) (checkRecord (c % 3) (λ p. wholeSlot v (4 * g + p) r)) (v .check c r) ≡ pictureCheck (granted l (repair g)) c r
     unfolding image
     in-check c r a b =
-        by-test (λ (t : Bool). pick t 1 (state l (16 + c)) ≡ state (withIn l g) (16 + c)
-        → pick t (checkRecord (c % 3) (λ p. wholeSlot v (4 * g + p) r)) (v .check c r) ≡ pictureCheck (withIn l g) c r)
+        by-test (λ (t : Bool). pick t 1 (state l (16 + c)) ≡ state (granted l (repair g)) (16 + c)
+        → pick t (checkRecord (c % 3) (λ p. wholeSlot v (4 * g + p) r)) (v .check c r) ≡ pictureCheck (granted l (repair g)) c r)
         (eqb (c / 3) g && eqb (state l (16 + c)) 2)
         (λ e q. pick-true refl _ _ ∙ made (eqb-true (c / 3) g (and-first (eqb (c / 3) g) (eqb (state l (16 + c)) 2) e)) (sym (pick-true refl 1 (state l (16 + c))) ∙ q))
         (λ e q. pick-false refl _ _ ∙ s .check c r a b ∙ kept (sym (pick-false refl 1 (state l (16 + c))) ∙ q))
         (in-state (16 + c) (c / 3) (group-check c))
       where
         -- made anew from the rebuilt slots, and as it was
-        made : c / 3 ≡ g → 1 ≡ state (withIn l g) (16 + c) → checkRecord (c % 3) (λ p. wholeSlot v (4 * g + p) r) ≡ pictureCheck (withIn l g) c r
+        made : c / 3 ≡ g → 1 ≡ state (granted l (repair g)) (16 + c) → checkRecord (c % 3) (λ p. wholeSlot v (4 * g + p) r) ≡ pictureCheck (granted l (repair g)) c r
         made d e =
             anew-over (c % 3) (λ p. wholeSlot v (4 * g + p) r) (λ p. recordAt l (4 * g + p) r) (λ p i. whole (4 * g + p) r (omega arith) (omega arith) b)
-            ∙ unfold pictureCheck recordAt withIn in rw (← e, d) (sym (pick-true refl (checkOver (c % 3) (λ p. recordAt l (4 * g + p) r)) (zeros checkBytes)))
+            ∙ unfold pictureCheck recordAt granted in rw (← e, d) (sym (pick-true refl (checkOver (c % 3) (λ p. recordAt l (4 * g + p) r)) (zeros checkBytes)))
 
-        kept : state l (16 + c) ≡ state (withIn l g) (16 + c) → pictureCheck l c r ≡ pictureCheck (withIn l g) c r
-        kept e = unfold pictureCheck recordAt withIn in rw e
+        kept : state l (16 + c) ≡ state (granted l (repair g)) (16 + c) → pictureCheck l c r ≡ pictureCheck (granted l (repair g)) c r
+        kept e = unfold pictureCheck recordAt granted in rw e
 
-    repair-picture : bytes (repaired v g) ≡ picture (withIn l g) rest
-    unfolding repaired image withIn
-    repair-picture = bytes-ext (repaired v g) (image (withIn l g) rest) (record {
+    repair-picture : bytes (repaired v g) ≡ picture (granted l (repair g)) rest
+    unfolding repaired image granted
+    repair-picture = bytes-ext (repaired v g) (image (granted l (repair g)) rest) (record {
       front = s .front;
       size = s .size;
       dstate = λ u a. rw (s .dstate u a) (in-state u (u / 4) (group-data u a));

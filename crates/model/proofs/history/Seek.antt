@@ -3,6 +3,7 @@ use Prim.Native.Nat.{ℕ, zero, suc, _≤_, _<_}
 use mathlib.Core.Path.{_≡_, refl, sym, ap, _∙_}
 use mathlib.Core.Logic.{_≢_}
 use mathlib.Core.List.{List, [], _∷_, _++_}
+use mathlib.Core.Option.{Option, none, some}
 use mathlib.Core.Bool.{Bool, true, false}
 use native.Mathlib.Omega.{arith}
 use native.Mathlib.Nat.{not-suc-le-zero, zero-lt-suc}
@@ -14,12 +15,11 @@ use Rattle.buffer.specs.ChoiceLaws.{by-test, by-pick, pick-true, pick-false, pi
 use Rattle.buffer.specs.RangeLaws.{first-holds, first-misses}
 use Rattle.model.specs.Changes.{keep}
 use Rattle.model.specs.history.Ledger.{Rec, empty, rankOf}
-use Rattle.model.specs.history.Runs.{Taught, absent, present}
 use Rattle.model.proofs.history.Dealt.{Differ}
 
-unfoldable pub seek : List Rec → ℕ → Taught
-seek [] k = absent
-seek (x ∷ xs) k = pick (eqb (x .key) k) (present (x .body)) (seek xs k)
+unfoldable pub seek : List Rec → ℕ → Option (List ℕ)
+seek [] k = none
+seek (x ∷ xs) k = pick (eqb (x .key) k) (some (x .body)) (seek xs k)
 
 -- no two records have one key
 abbrev pub Different : List Rec → Type 0
@@ -31,38 +31,38 @@ Without xs k = (r : ℕ) → r < length xs → getD xs r empty .key ≢ k
 
 -- ---- two lists one behind the other
 
-unfoldable pub orElse : Taught → Taught → Taught
-orElse absent t = t
-orElse (present x) t = present x
+unfoldable pub orElse : Option (List ℕ) → Option (List ℕ) → Option (List ℕ)
+orElse none t = t
+orElse (some x) t = some x
 
-pub or-absent : (t : Taught) → orElse t absent ≡ t
+pub or-none : (t : Option (List ℕ)) → orElse t none ≡ t
 unfolding orElse
-or-absent absent = refl
-or-absent (present x) = refl
+or-none none = refl
+or-none (some x) = refl
 
-pub absent-or : (t : Taught) → orElse absent t ≡ t
+pub none-or : (t : Option (List ℕ)) → orElse none t ≡ t
 unfolding orElse
-absent-or t = refl
+none-or t = refl
 
 pub seek-append : (xs ys : List Rec) (k : ℕ) → seek (xs ++ ys) k ≡ orElse (seek xs k) (seek ys k)
 unfolding seek orElse
 seek-append [] ys k = refl
 seek-append (x ∷ xs) ys k =
-    ap (pick (eqb (x .key) k) (present (x .body))) (seek-append xs ys k)
-    ∙ sym (pick-map (λ (t : Taught). orElse t (seek ys k)) (eqb (x .key) k) (present (x .body)) (seek xs k))
+    ap (pick (eqb (x .key) k) (some (x .body))) (seek-append xs ys k)
+    ∙ sym (pick-map (λ (t : Option (List ℕ)). orElse t (seek ys k)) (eqb (x .key) k) (some (x .body)) (seek xs k))
 
 -- ---- the records for whose key a test holds
 
-pub seek-keep : (p : ℕ → Bool) (xs : List Rec) (k : ℕ) → seek (keep (λ (x : Rec). p (x .key)) xs) k ≡ pick (p k) (seek xs k) absent
+pub seek-keep : (p : ℕ → Bool) (xs : List Rec) (k : ℕ) → seek (keep (λ (x : Rec). p (x .key)) xs) k ≡ pick (p k) (seek xs k) none
 unfolding seek keep pick
-seek-keep p [] k = sym (pick-same (p k) absent)
+seek-keep p [] k = sym (pick-same (p k) none)
 seek-keep p (x ∷ xs) k = go (p (x .key)) (eqb (x .key) k) refl refl (seek-keep p xs k)
   where
     ks : List Rec
     ks = keep (λ (x : Rec). p (x .key)) xs
 
-    go : (a b : Bool) → p (x .key) ≡ a → eqb (x .key) k ≡ b → seek ks k ≡ pick (p k) (seek xs k) absent
-        → seek (pick a (x ∷ ks) ks) k ≡ pick (p k) (pick b (present (x .body)) (seek xs k)) absent
+    go : (a b : Bool) → p (x .key) ≡ a → eqb (x .key) k ≡ b → seek ks k ≡ pick (p k) (seek xs k) none
+        → seek (pick a (x ∷ ks) ks) k ≡ pick (p k) (pick b (some (x .body)) (seek xs k)) none
     go true true e f ih = rw (sym (ap p (eqb-true (x .key) k f)) ∙ e, f)
     go true false e f ih = rw f ih
     go false true e f ih =
@@ -72,18 +72,18 @@ seek-keep p (x ∷ xs) k = go (p (x .key)) (eqb (x .key) k) refl refl (seek-keep
 
 -- ---- a key that no record has, and one that a record has
 
-pub seek-miss : (xs : List Rec) (k : ℕ) → Without xs k → seek xs k ≡ absent
+pub seek-miss : (xs : List Rec) (k : ℕ) → Without xs k → seek xs k ≡ none
 unfolding seek
 seek-miss [] k h = refl
 seek-miss (x ∷ xs) k h =
-    pick-false (ne-eqb (x .key) k (h zero (zero-lt-suc (length xs)))) (present (x .body)) (seek xs k) ∙ seek-miss xs k (λ r a. h (suc r) (omega arith))
+    pick-false (ne-eqb (x .key) k (h zero (zero-lt-suc (length xs)))) (some (x .body)) (seek xs k) ∙ seek-miss xs k (λ r a. h (suc r) (omega arith))
 
-pub seek-hit : (xs : List Rec) (k r : ℕ) → Different xs → r < length xs → getD xs r empty .key ≡ k → seek xs k ≡ present (getD xs r empty .body)
+pub seek-hit : (xs : List Rec) (k r : ℕ) → Different xs → r < length xs → getD xs r empty .key ≡ k → seek xs k ≡ some (getD xs r empty .body)
 unfolding seek
 seek-hit [] k r d a e = absurd (not-suc-le-zero a)
-seek-hit (x ∷ xs) k zero d a e = pick-true (eq-eqb (x .key) k e) (present (x .body)) (seek xs k)
+seek-hit (x ∷ xs) k zero d a e = pick-true (eq-eqb (x .key) k e) (some (x .body)) (seek xs k)
 seek-hit (x ∷ xs) k (suc r) d a e =
-    pick-false (ne-eqb (x .key) k (λ q. d zero (suc r) (zero-lt-suc r) a (q ∙ sym e))) (present (x .body)) (seek xs k)
+    pick-false (ne-eqb (x .key) k (λ q. d zero (suc r) (zero-lt-suc r) a (q ∙ sym e))) (some (x .body)) (seek xs k)
     ∙ seek-hit xs k r (λ i j b c. d (suc i) (suc j) (omega arith) (omega arith)) (omega arith) e
 
 -- ---- the rank of a key says whether it stands in a list
@@ -107,12 +107,12 @@ module _ (xs : List Rec) (k : ℕ) where
       (λ e. miss (rank-without (ltb-false (rankOf xs k) (length xs) e)))
 
   -- what the table's row "not present" asks
-  pub seek-rank : Different xs → seek xs k ≡ pick (leb (length xs) (rankOf xs k)) absent (present (getD xs (rankOf xs k) empty .body))
+  pub seek-rank : Different xs → seek xs k ≡ pick (leb (length xs) (rankOf xs k)) none (some (getD xs (rankOf xs k) empty .body))
   seek-rank d =
       by-pick
       (λ t. seek xs k ≡ t)
       (leb (length xs) (rankOf xs k))
-      absent
-      (present (getD xs (rankOf xs k) empty .body))
+      none
+      (some (getD xs (rankOf xs k) empty .body))
       (λ e. seek-miss xs k (rank-without (leb-true (length xs) (rankOf xs k) e)))
       (λ e. let a : rankOf xs k < length xs = leb-false (length xs) (rankOf xs k) e in seek-hit xs k (rankOf xs k) d a (rank-key a))

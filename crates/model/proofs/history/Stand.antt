@@ -4,6 +4,7 @@ use Prim.Native.Nat.{ℕ, zero, suc, pred, _≤_, _<_}
 use mathlib.Core.Path.{_≡_, refl, sym, ap, _∙_}
 use mathlib.Core.Logic.{_≢_, _⊎_, inl, inr}
 use mathlib.Core.List.{List, [], _∷_, _++_}
+use mathlib.Core.Option.{Option, none, some}
 use mathlib.Core.Bool.{Bool, true, false, _||_}
 use native.Mathlib.Omega.{arith}
 use lib.Dec.{eqb}
@@ -17,14 +18,14 @@ use Rattle.model.specs.Units.{splitPointer, unitOf}
 use Rattle.model.specs.UnitLaws.{split-below, unit-below}
 use Rattle.model.specs.Numbers.{Call, teach, correct, erase, read, readInPlace, list, unitOut, repair, grow, shrink, raise}
 use Rattle.model.specs.Changes.{keep}
-use Rattle.model.specs.history.Ledger.{Rec, empty, Ledger, home, recordAt, rankOf, withRecords, withOut, withIn, grownLedger, shrunkLedger, raisedLedger, granted}
+use Rattle.model.specs.history.Ledger.{Rec, empty, Ledger, home, recordAt, rankOf, withRecords, grownLedger, shrunkLedger, granted}
 use Rattle.model.specs.history.Table.{refusals, number}
 use Rattle.model.specs.history.Answers.{after}
-use Rattle.model.specs.history.Runs.{Taught, absent, present, taughtBy}
+use Rattle.model.specs.history.Runs.{taughtBy}
 use Rattle.model.specs.RowLaws.{Free}
 use Rattle.model.proofs.history.Granted.{granted-free, granted-after, refused-after}
 use Rattle.model.proofs.history.Split.{other-key, split-key, new-key, old-key}
-use Rattle.model.proofs.history.Seek.{seek, Different, Without, orElse, or-absent, absent-or, seek-append, seek-keep, seek-miss, seek-hit, rank-key, rank-without}
+use Rattle.model.proofs.history.Seek.{seek, Different, Without, orElse, or-none, none-or, seek-append, seek-keep, seek-miss, seek-hit, rank-key, rank-without}
 use Rattle.model.proofs.history.Changed.{set-seek, set-other, cut, cut-seek, cut-other}
 
 -- a ledger whose lists are in order: keys stand in their own unit, each once
@@ -35,7 +36,7 @@ pub record Ordered (l : Ledger) : Type 0 where
   pub differ : (u r q : ℕ) → r < q → q < length (l .records u) → recordAt l u r .key ≢ recordAt l u q .key
 
 -- what a ledger holds for a key
-unfoldable pub stand : Ledger → ℕ → Taught
+unfoldable pub stand : Ledger → ℕ → Option (List ℕ)
 stand l k = seek (l .records (home l k)) k
 
 module _ (l : Ledger) (h : Ordered l) where
@@ -53,7 +54,7 @@ module _ (l : Ledger) (k : ℕ) where
   stand-with u rs = pick-map (λ (xs : List Rec). seek xs k) (eqb (unitOf (l .units) k) u) rs (l .records (unitOf (l .units) k))
 
   -- a call that gives the list rs to the unit of key j, after which key k stands in it as it should
-  put-list : (j : ℕ) (rs : List Rec) (t : Taught) → (j ≡ k → seek rs k ≡ t) → ((j ≡ k → ⊥) → seek rs k ≡ seek (l .records (home l j)) k)
+  put-list : (j : ℕ) (rs : List Rec) (t : Option (List ℕ)) → (j ≡ k → seek rs k ≡ t) → ((j ≡ k → ⊥) → seek rs k ≡ seek (l .records (home l j)) k)
       → stand (withRecords l (home l j) rs) k ≡ pick (eqb j k) t (stand l k)
   unfolding stand pick
   put-list j rs t a b = stand-with (home l j) rs ∙ go (eqb (home l k) (home l j)) (eqb j k) refl refl
@@ -70,9 +71,9 @@ module _ (l : Ledger) (k : ℕ) where
 module _ (l : Ledger) (h : Ordered l) (k : ℕ) where
   stand-teach : (j : ℕ) (x : List ℕ) → Free (refusals l (teach j x)) → stand (granted l (teach j x)) k ≡ taughtBy k (teach j x) 0 (stand l k)
   unfolding granted taughtBy refusals
-  stand-teach j x f = put-list l k j (rs ++ (y ∷ [])) (present x)
-      (λ e. seek-append rs (y ∷ []) k ∙ rw (seek-miss rs k (λ r a q. fresh r a (q ∙ sym e))) (absent-or (seek (y ∷ []) k) ∙ one-hit e))
-      (λ n. seek-append rs (y ∷ []) k ∙ rw (one-miss n) (or-absent (seek rs k)))
+  stand-teach j x f = put-list l k j (rs ++ (y ∷ [])) (some x)
+      (λ e. seek-append rs (y ∷ []) k ∙ rw (seek-miss rs k (λ r a q. fresh r a (q ∙ sym e))) (none-or (seek (y ∷ []) k) ∙ one-hit e))
+      (λ n. seek-append rs (y ∷ []) k ∙ rw (one-miss n) (or-none (seek rs k)))
     where
       rs : List Rec
       rs = l .records (home l j)
@@ -83,10 +84,10 @@ module _ (l : Ledger) (h : Ordered l) (k : ℕ) where
       fresh : Without rs j
       fresh = rank-without rs j (ltb-false (rankOf rs j) (length rs) (f .1 .1 .1 .1 .0))
 
-      one-hit : j ≡ k → seek (y ∷ []) k ≡ present x
+      one-hit : j ≡ k → seek (y ∷ []) k ≡ some x
       one-hit e = seek-hit (y ∷ []) k 0 (λ r q a b. absurd (omega arith)) (omega arith) e
 
-      one-miss : (j ≡ k → ⊥) → seek (y ∷ []) k ≡ absent
+      one-miss : (j ≡ k → ⊥) → seek (y ∷ []) k ≡ none
       one-miss n = seek-miss (y ∷ []) k alone
         where
           alone : Without (y ∷ []) k
@@ -95,7 +96,7 @@ module _ (l : Ledger) (h : Ordered l) (k : ℕ) where
 
   stand-correct : (j : ℕ) (x : List ℕ) → Free (refusals l (correct j x)) → stand (granted l (correct j x)) k ≡ taughtBy k (correct j x) 0 (stand l k)
   unfolding granted taughtBy refusals
-  stand-correct j x f = put-list l k j (set rs (rankOf rs j) y) (present x)
+  stand-correct j x f = put-list l k j (set rs (rankOf rs j) y) (some x)
       (λ e. ap (seek (set rs (rankOf rs j) y)) (sym e) ∙ set-seek rs d (rankOf rs j) y inside (rank-key rs j inside))
       (λ n. set-other rs d (rankOf rs j) y inside (rank-key rs j inside) k n)
     where
@@ -113,7 +114,7 @@ module _ (l : Ledger) (h : Ordered l) (k : ℕ) where
 
   stand-erase : (j : ℕ) → Free (refusals l (erase j)) → stand (granted l (erase j)) k ≡ taughtBy k (erase j) 0 (stand l k)
   unfolding granted taughtBy refusals
-  stand-erase j f = put-list l k j (cut rs n (pred (length rs))) absent
+  stand-erase j f = put-list l k j (cut rs n (pred (length rs))) none
       (λ e. ap (seek (cut rs n (pred (length rs)))) (sym (hit ∙ e)) ∙ cut-seek rs d n (pred (length rs)) inside end)
       (λ e. cut-other rs d n (pred (length rs)) inside end k (λ w. e (sym hit ∙ w)))
     where
@@ -162,7 +163,7 @@ module _ (l : Ledger) (h : Ordered l) (k : ℕ) where
       dealt = keep (λ (x : Rec). eqb (unitOf (suc m) (x .key)) u) (l .records n)
 
       found : seek dealt k ≡ seek (l .records n) k
-      found = seek-keep (λ i. eqb (unitOf (suc m) i) u) (l .records n) k ∙ pick-true (eq-eqb u u refl) (seek (l .records n) k) absent
+      found = seek-keep (λ i. eqb (unitOf (suc m) i) u) (l .records n) k ∙ pick-true (eq-eqb u u refl) (seek (l .records n) k) none
 
       split : (eqb u m || eqb u n) ≡ true → unitOf m k ≡ n
       split =
@@ -197,12 +198,12 @@ module _ (l : Ledger) (h : Ordered l) (k : ℕ) where
       apart e = omega (arith, split-below m pos)
 
       -- a unit that is not the key's own has no record of it
-      elsewhere : (v : ℕ) → (unitOf (suc m) k ≡ v → ⊥) → seek (l .records v) k ≡ absent
+      elsewhere : (v : ℕ) → (unitOf (suc m) k ≡ v → ⊥) → seek (l .records v) k ≡ none
       elsewhere v d = seek-miss (l .records v) k (λ r a e. d (ap (λ (i : ℕ). unitOf i k) (sym is) ∙ ap (unitOf (l .units)) (sym e) ∙ own-unit l h v r a))
 
       both : (unitOf (suc m) k ≡ n) ⊎ (unitOf (suc m) k ≡ m) → orElse (seek (l .records n) k) (seek (l .records m) k) ≡ seek (l .records (unitOf (suc m) k)) k
-      both (inl e) = rw (elsewhere m (λ f. apart (sym e ∙ f)), e) (or-absent (seek (l .records n) k))
-      both (inr e) = rw (elsewhere n (λ f. apart (sym f ∙ e)), e) (absent-or (seek (l .records m) k))
+      both (inl e) = rw (elsewhere m (λ f. apart (sym e ∙ f)), e) (or-none (seek (l .records n) k))
+      both (inr e) = rw (elsewhere n (λ f. apart (sym f ∙ e)), e) (none-or (seek (l .records m) k))
 
   stand-grow : Free (refusals l grow) → stand (granted l grow) k ≡ stand l k
   unfolding granted refusals
@@ -215,7 +216,7 @@ module _ (l : Ledger) (h : Ordered l) (k : ℕ) where
   -- ---- any call
 
   stand-granted : (c : Call) → Free (refusals l c) → stand (granted l c) k ≡ taughtBy k c 0 (stand l k)
-  unfolding granted taughtBy stand home withOut withIn raisedLedger
+  unfolding granted taughtBy stand home
   stand-granted (teach j x) f = stand-teach j x f
   stand-granted (correct j x) f = stand-correct j x f
   stand-granted (erase j) f = stand-erase j f
@@ -228,11 +229,11 @@ module _ (l : Ledger) (h : Ordered l) (k : ℕ) where
   stand-granted shrink f = stand-shrink f
   stand-granted raise f = refl
 
-  refused : (c : Call) (n : ℕ) (t : Taught) → eqb n 0 ≡ false → taughtBy k c n t ≡ t
+  refused : (c : Call) (n : ℕ) (t : Option (List ℕ)) → eqb n 0 ≡ false → taughtBy k c n t ≡ t
   unfolding taughtBy
-  refused (teach j x) n t e = pick-false (and-false-first e (eqb j k)) (present x) t
-  refused (correct j x) n t e = pick-false (and-false-first e (eqb j k)) (present x) t
-  refused (erase j) n t e = pick-false (and-false-first e (eqb j k)) absent t
+  refused (teach j x) n t e = pick-false (and-false-first e (eqb j k)) (some x) t
+  refused (correct j x) n t e = pick-false (and-false-first e (eqb j k)) (some x) t
+  refused (erase j) n t e = pick-false (and-false-first e (eqb j k)) none t
   refused (read j out) n t e = refl
   refused (readInPlace j) n t e = refl
   refused (list out) n t e = refl

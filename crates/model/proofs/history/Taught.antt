@@ -4,6 +4,7 @@ use Prim.Native.Nat.{ℕ, _/_}
 use mathlib.Core.Path.{_≡_, refl, sym, ap, _∙_}
 use mathlib.Core.Logic.{_≢_}
 use mathlib.Core.List.{List, [], _∷_, _++_, append-nil}
+use mathlib.Core.Option.{Option, none, some}
 use mathlib.Core.Bool.{Bool, true, false, _&&_}
 use lib.Dec.{eqb, leb}
 use lib.ListN.{length, drop, getD}
@@ -16,12 +17,12 @@ use Rattle.model.specs.Perform.{copied, reply, output}
 use Rattle.model.specs.history.Ledger.{Rec, empty, Ledger, opened, home, recordAt, rankOf, isOut, beyondOf}
 use Rattle.model.specs.history.Table.{refusals, number}
 use Rattle.model.specs.history.Answers.{bodyOf, given, answer, after, final}
-use Rattle.model.specs.history.Runs.{Taught, absent, present, taughtBy, told}
+use Rattle.model.specs.history.Runs.{taughtBy, told}
 use Rattle.model.proofs.history.Seek.{seek, seek-rank}
 use Rattle.model.proofs.history.Stand.{Ordered, stand, different, stand-after}
 
 -- what a list of calls says of a key, by the ledger
-unfoldable pub lastTaughtBy : ℕ → Ledger → List Call → Taught → Taught
+unfoldable pub lastTaughtBy : ℕ → Ledger → List Call → Option (List ℕ) → Option (List ℕ)
 lastTaughtBy k l [] t = t
 lastTaughtBy k l (c ∷ cs) t = lastTaughtBy k (after l c) cs (taughtBy k c (number l c) t)
 
@@ -36,7 +37,7 @@ unfolding final lastTaughtBy
 stand-final k [] l h = refl
 stand-final k (c ∷ cs) l h = stand-final k cs (after l c) (h .1) ∙ ap (lastTaughtBy k (after l c) cs) (stand-after l (h .0) k c)
 
-pub stand-opened : (b k : ℕ) → stand (opened b) k ≡ absent
+pub stand-opened : (b k : ℕ) → stand (opened b) k ≡ none
 unfolding stand opened seek
 stand-opened b k = refl
 
@@ -61,7 +62,7 @@ module _ (l : Ledger) (h : Ordered l) (k : ℕ) where
       filled = ap (λ (n : ℕ). body ++ drop n out) (sized (rankOf rs k) ∙ sym fits) ∙ ap (λ (x : List ℕ). body ++ x) (drop-length out) ∙ append-nil body
 
       go : (x y : Bool) → copied (pick x 8 (pick y 6 0)) (pick (eqb (pick x 8 (pick y 6 0)) 0) (body ++ drop (length body) out) out)
-          ≡ pick x (copied 8 out) (told out (pick y absent (present body)))
+          ≡ pick x (copied 8 out) (told out (pick y none (some body)))
       go true y = refl
       go false true = refl
       go false false = ap (copied 0) filled

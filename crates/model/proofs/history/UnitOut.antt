@@ -18,7 +18,7 @@ use Rattle.model.specs.LayoutLaws.{Same, bytes-ext}
 use Rattle.model.specs.Changes.{unitLost}
 use Rattle.model.specs.Numbers.{unitOut, refusalsIn}
 use Rattle.model.specs.Perform.{reply, givenIn, grantedIn}
-use Rattle.model.specs.history.Ledger.{Ledger, recordAt, placed, state, withOut, granted}
+use Rattle.model.specs.history.Ledger.{Ledger, recordAt, placed, state, granted}
 use Rattle.model.specs.history.Picture.{recordBytes, pictureSlot, checkOver, pictureCheck, image, picture}
 use Rattle.model.specs.history.Table.{refusals}
 use Rattle.model.specs.history.Answers.{given}
@@ -35,29 +35,29 @@ module _ (l : Ledger) (w : ℕ) (there : eqb (state l w) 0 ≡ false) where
   in-place = by-test (λ (t : Bool). eqb (pick t (pick (l .out w) 2 1) 0) 0 ≡ false → t ≡ true) (placed l w)
       (λ e q. refl) (λ e q. not-both (ap (λ (n : ℕ). eqb n 0) (pick-false refl (pick (l .out w) 2 1) 0)) q) there
 
-  out-hit : (i : ℕ) → i ≡ w → state (withOut l w) i ≡ 2
-  unfolding state placed withOut
+  out-hit : (i : ℕ) → i ≡ w → state (granted l (unitOut w)) i ≡ 2
+  unfolding state placed granted
   out-hit i e = rw (upd-at (l .out) w true i e, e) (pick-true in-place (pick true 2 1) 0 ∙ pick-true refl 2 1)
 
-  out-miss : (i : ℕ) → (i ≡ w → ⊥) → state (withOut l w) i ≡ state l i
-  unfolding state placed withOut
+  out-miss : (i : ℕ) → (i ≡ w → ⊥) → state (granted l (unitOut w)) i ≡ state l i
+  unfolding state placed granted
   out-miss i n = rw (upd-other (l .out) w true i n)
 
   -- its bytes are zero, all others as before
-  slot-hit : (u r : ℕ) → u ≡ w → pictureSlot (withOut l w) u r ≡ zeros slotBytes
+  slot-hit : (u r : ℕ) → u ≡ w → pictureSlot (granted l (unitOut w)) u r ≡ zeros slotBytes
   unfolding pictureSlot
-  slot-hit u r e = rw (out-hit u e) (pick-false refl (recordBytes (recordAt (withOut l w) u r)) (zeros slotBytes))
+  slot-hit u r e = rw (out-hit u e) (pick-false refl (recordBytes (recordAt (granted l (unitOut w)) u r)) (zeros slotBytes))
 
-  slot-miss : (u r : ℕ) → (u ≡ w → ⊥) → pictureSlot (withOut l w) u r ≡ pictureSlot l u r
-  unfolding pictureSlot recordAt withOut
+  slot-miss : (u r : ℕ) → (u ≡ w → ⊥) → pictureSlot (granted l (unitOut w)) u r ≡ pictureSlot l u r
+  unfolding pictureSlot recordAt granted
   slot-miss u r n = rw (out-miss u n)
 
-  check-hit : (c r : ℕ) → 16 + c ≡ w → pictureCheck (withOut l w) c r ≡ zeros checkBytes
+  check-hit : (c r : ℕ) → 16 + c ≡ w → pictureCheck (granted l (unitOut w)) c r ≡ zeros checkBytes
   unfolding pictureCheck
-  check-hit c r e = rw (out-hit (16 + c) e) (pick-false refl (checkOver (c % 3) (λ p. recordAt (withOut l w) (4 * (c / 3) + p) r)) (zeros checkBytes))
+  check-hit c r e = rw (out-hit (16 + c) e) (pick-false refl (checkOver (c % 3) (λ p. recordAt (granted l (unitOut w)) (4 * (c / 3) + p) r)) (zeros checkBytes))
 
-  check-miss : (c r : ℕ) → (16 + c ≡ w → ⊥) → pictureCheck (withOut l w) c r ≡ pictureCheck l c r
-  unfolding pictureCheck recordAt withOut
+  check-miss : (c r : ℕ) → (16 + c ≡ w → ⊥) → pictureCheck (granted l (unitOut w)) c r ≡ pictureCheck l c r
+  unfolding pictureCheck recordAt granted
   check-miss c r n = rw (out-miss (16 + c) n)
 
   module _ (rest : List ℕ) (h : Valid l) where
@@ -67,24 +67,24 @@ module _ (l : Ledger) (w : ℕ) (there : eqb (state l w) 0 ≡ false) where
     s : Same (view (picture l rest)) (image l rest)
     s = seen l rest (h .good)
 
-    out-picture : bytes (unitLost v w) ≡ picture (withOut l w) rest
-    unfolding unitLost image withOut upd
-    out-picture = bytes-ext (unitLost v w) (image (withOut l w) rest) (record {
+    out-picture : bytes (unitLost v w) ≡ picture (granted l (unitOut w)) rest
+    unfolding unitLost image granted upd
+    out-picture = bytes-ext (unitLost v w) (image (granted l (unitOut w)) rest) (record {
       front = s .front;
       size = s .size;
-      dstate = λ u b. by-pick (λ (n : ℕ). n ≡ state (withOut l w) u) (eqb u w) 2 (v .dstate u)
+      dstate = λ u b. by-pick (λ (n : ℕ). n ≡ state (granted l (unitOut w)) u) (eqb u w) 2 (v .dstate u)
           (λ e. sym (out-hit u (eqb-true u w e))) (λ e. s .dstate u b ∙ sym (out-miss u (eqb-false u w e)));
-      cstate = λ c b. by-pick (λ (n : ℕ). n ≡ state (withOut l w) (16 + c)) (eqb (16 + c) w) 2 (v .cstate c)
+      cstate = λ c b. by-pick (λ (n : ℕ). n ≡ state (granted l (unitOut w)) (16 + c)) (eqb (16 + c) w) 2 (v .cstate c)
           (λ e. sym (out-hit (16 + c) (eqb-true (16 + c) w e))) (λ e. s .cstate c b ∙ sym (out-miss (16 + c) (eqb-false (16 + c) w e)));
-      slot = λ u r b d. by-pick (λ (x : List ℕ). x ≡ pictureSlot (withOut l w) u r) (eqb u w) (zeros slotBytes) (v .slot u r)
+      slot = λ u r b d. by-pick (λ (x : List ℕ). x ≡ pictureSlot (granted l (unitOut w)) u r) (eqb u w) (zeros slotBytes) (v .slot u r)
           (λ e. sym (slot-hit u r (eqb-true u w e))) (λ e. s .slot u r b d ∙ sym (slot-miss u r (eqb-false u w e)));
-      check = λ c r b d. by-pick (λ (x : List ℕ). x ≡ pictureCheck (withOut l w) c r) (eqb (16 + c) w) (zeros checkBytes) (v .check c r)
+      check = λ c r b d. by-pick (λ (x : List ℕ). x ≡ pictureCheck (granted l (unitOut w)) c r) (eqb (16 + c) w) (zeros checkBytes) (v .check c r)
           (λ e. sym (check-hit c r (eqb-true (16 + c) w e))) (λ e. s .check c r b d ∙ sym (check-miss c r (eqb-false (16 + c) w e)));
       rest = s .rest;
     })
 
-    out-valid : Valid (withOut l w)
-    unfolding withOut recordAt placed
+    out-valid : Valid (granted l (unitOut w))
+    unfolding granted recordAt placed
     out-valid = record {
       some = h .some;
       few = h .few;

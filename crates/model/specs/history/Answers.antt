@@ -9,7 +9,7 @@ use Rattle.buffer.specs.Choice.{pick}
 use Rattle.buffer.specs.Bytes.{zeros}
 use Rattle.buffer.specs.Table.{tab}
 use Rattle.group.specs.Widths.{bodyBytes}
-use Rattle.model.specs.Numbers.{Call, read, byAnswer}
+use Rattle.model.specs.Numbers.{Call, read, byKind}
 use Rattle.model.specs.Perform.{Answer, reply}
 use Rattle.model.specs.history.Ledger.{Ledger, home, recordAt, rankOf, isOut, total, granted}
 use Rattle.model.specs.history.Picture.{recordBytes}
@@ -25,9 +25,9 @@ listing l = tab 16 (λ u. tab (length (l .records u)) (λ r. recordBytes (record
 -- the bytes that a granted call hands back
 unfoldable pub given : Ledger → Call → List ℕ
 given l c =
-    byAnswer c [] (λ k out. bodyOf l k)
+    byKind c (λ k x. []) (λ k. []) (λ k out. bodyOf l k)
     (λ k. pick (eqb (number l (read k (zeros bodyBytes))) 0 && not (isOut l (home l k))) (bodyOf l k) [])
-    (λ out. listing l)
+    (λ out. listing l) [] []
 
 unfoldable pub answer : Ledger → Call → Answer
 answer l c = reply c (number l c) (given l c) (total l)

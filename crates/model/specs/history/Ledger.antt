@@ -74,18 +74,13 @@ total l = sum 16 (λ u. length (l .records u))
 
 -- ---- the changes
 
+-- the list of unit u replaced
 unfoldable pub withRecords : Ledger → ℕ → List Rec → Ledger
 withRecords l u rs = ledger (l .size) (l .units) (l .level) (upd (l .records) u rs) (l .checks) (l .out)
 
--- unit out marks a unit out, repair unmarks its group's; neither touches a list
-unfoldable pub withOut : Ledger → ℕ → Ledger
-withOut l w = ledger (l .size) (l .units) (l .level) (l .records) (l .checks) (upd (l .out) w true)
-
+-- the group of a unit
 unfoldable pub groupOf : ℕ → ℕ
 groupOf w = pick (ltb w 16) (w / 4) ((w - 16) / 3)
-
-unfoldable pub withIn : Ledger → ℕ → Ledger
-withIn l g = ledger (l .size) (l .units) (l .level) (l .records) (l .checks) (λ w. not (eqb (groupOf w) g) && l .out w)
 
 -- grow deals list n out again, in order, by the new M; a group whose first unit is the new one or the split one then has K check units
 unfoldable pub grownLedger : Ledger → Ledger
@@ -104,21 +99,23 @@ shrunkLedger l m =
     (λ u. pick (eqb u m) [] (pick (eqb u n) (l .records n ++ l .records m) (l .records u)))
     (λ g. pick (ltb (4 * g) m) (l .checks g) 0) (l .out)
 
-unfoldable pub raisedLedger : Ledger → Ledger
-raisedLedger l = ledger (l .size) (l .units) (suc (l .level)) (l .records) (l .checks) (l .out)
-
 -- the ledger after a granted call
 unfoldable pub granted : Ledger → Call → Ledger
+-- teach adds its record at the end of the list of the key's unit
 granted l (teach k x) = withRecords l (home l k) (l .records (home l k) ++ (record { key = k; body = x } ∷ []))
+-- correct replaces the body
 granted l (correct k x) = withRecords l (home l k) (set (l .records (home l k)) (rankOf (l .records (home l k)) k) (record { key = k; body = x }))
+-- erase moves the list's last record into the freed place
 granted l (erase k) =
     let rs : List Rec = l .records (home l k) in
     withRecords l (home l k) (take (pred (length rs)) (set rs (rankOf rs k) (getD rs (pred (length rs)) empty)))
 granted l (read k out) = l
 granted l (readInPlace k) = l
 granted l (list out) = l
-granted l (unitOut w) = withOut l w
-granted l (repair g) = withIn l g
+-- unit out marks a unit out, repair unmarks its group's; neither touches a list
+granted l (unitOut w) = ledger (l .size) (l .units) (l .level) (l .records) (l .checks) (upd (l .out) w true)
+granted l (repair g) = ledger (l .size) (l .units) (l .level) (l .records) (l .checks) (λ w. not (eqb (groupOf w) g) && l .out w)
 granted l grow = grownLedger l
 granted l shrink = shrunkLedger l (pred (l .units))
-granted l raise = raisedLedger l
+-- raise adds one to K
+granted l raise = ledger (l .size) (l .units) (suc (l .level)) (l .records) (l .checks) (l .out)

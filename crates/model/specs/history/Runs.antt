@@ -1,12 +1,13 @@
 -- Runs of the store: a list of calls, each getting the store as the one before left it; and what a list of calls says of a key. Assumes nothing.
 use Prim.Native.Nat.{ℕ, _-_}
 use mathlib.Core.List.{List, [], _∷_}
+use mathlib.Core.Option.{Option, none, some}
 use mathlib.Core.Bool.{Bool, true, false, _&&_}
 use lib.Dec.{eqb, ltb}
 use Rattle.buffer.specs.Choice.{pick}
 use Rattle.buffer.specs.Table.{tab}
 use Rattle.model.specs.Layout.{Store}
-use Rattle.model.specs.Numbers.{Call, teach, correct, erase, read, readInPlace, list, unitOut, repair, grow, shrink, raise, numberIn}
+use Rattle.model.specs.Numbers.{Call, byKind, numberIn}
 use Rattle.model.specs.Perform.{Answer, copied, perform}
 
 -- the answers of a list of calls, and the bytes at its end
@@ -18,23 +19,9 @@ unfoldable pub finalIn : List ℕ → List Call → List ℕ
 finalIn s [] = s
 finalIn s (c ∷ cs) = finalIn (perform s c .store) cs
 
--- a choice by what a call changes: nothing or the layout, a key's body (teach, correct), a key (erase), or the marks of units (unit out, repair)
-abbrev pub byChange : {A : Type 0} → Call → A → (ℕ → List ℕ → A) → (ℕ → A) → A → A
-byChange (teach k x) other taught erased marked = taught k x
-byChange (correct k x) other taught erased marked = taught k x
-byChange (erase k) other taught erased marked = erased k
-byChange (read k out) other taught erased marked = other
-byChange (readInPlace k) other taught erased marked = other
-byChange (list out) other taught erased marked = other
-byChange (unitOut w) other taught erased marked = marked
-byChange (repair g) other taught erased marked = marked
-byChange grow other taught erased marked = other
-byChange shrink other taught erased marked = other
-byChange raise other taught erased marked = other
-
 -- all calls but losses and repairs
 unfoldable pub lasting : Call → Bool
-lasting c = byChange c true (λ k x. true) (λ k. true) false
+lasting c = byKind c (λ k x. true) (λ k. true) (λ k out. true) (λ k. true) (λ out. true) false true
 
 -- the granted calls of a run other than losses and repairs
 unfoldable pub aloneIn : List ℕ → List Call → List Call
@@ -50,21 +37,19 @@ allGranted s (c ∷ cs) = eqb (numberIn s c) 0 && allGranted (perform s c .store
 unfoldable pub unitIn : Store → ℕ → List ℕ
 unitIn v w = pick (ltb w 16) (tab (v .size) (v .slot w)) (tab (v .size) (v .check (w - 16)))
 
--- ---- what is known of a key: its body, or none
-pub data Taught : Type 0 where
-  absent : Taught
-  present : List ℕ → Taught
+-- ---- what was taught of a key: its body, or none
 
 -- after a call that returned the number n
-unfoldable pub taughtBy : ℕ → Call → ℕ → Taught → Taught
-taughtBy k c n t = byChange c t (λ j x. pick (eqb n 0 && eqb j k) (present x) t) (λ j. pick (eqb n 0 && eqb j k) absent t) t
+unfoldable pub taughtBy : ℕ → Call → ℕ → Option (List ℕ) → Option (List ℕ)
+taughtBy k c n t =
+    byKind c (λ j x. pick (eqb n 0 && eqb j k) (some x) t) (λ j. pick (eqb n 0 && eqb j k) none t) (λ j out. t) (λ j. t) (λ out. t) t t
 
--- by the key's last granted teach or correct; absent where there is none or a granted erase follows
-unfoldable pub lastTaught : ℕ → List ℕ → List Call → Taught → Taught
+-- by the key's last granted teach or correct; none where there was no such call, or a granted erase follows
+unfoldable pub lastTaught : ℕ → List ℕ → List Call → Option (List ℕ) → Option (List ℕ)
 lastTaught k s [] t = t
 lastTaught k s (c ∷ cs) t = lastTaught k (perform s c .store) cs (taughtBy k c (numberIn s c) t)
 
 -- what read, given a buffer that fits, owes of a key: its body, or 6 and the buffer as it was
-unfoldable pub told : List ℕ → Taught → Answer
-told out absent = copied 6 out
-told out (present x) = copied 0 x
+unfoldable pub told : List ℕ → Option (List ℕ) → Answer
+told out none = copied 6 out
+told out (some x) = copied 0 x
