@@ -46,43 +46,30 @@ unfoldable pub firstOf : List (Bool × ℕ) → ℕ
 firstOf [] = 0
 firstOf (t ∷ ts) = pick (t .0) (t .1) (firstOf ts)
 
--- The table: each call's rows, in the order of document 01. Read in place returns no number and has no rows. The table looks at facts that a
--- store's bytes give (`refusalsIn`) and that the ledger gives (`refusals`).
-module _
-    (ok : Bool)  -- the store's bytes are sound
-    (size units level : ℕ)  -- b, M and K
-    (home : ℕ → ℕ)  -- key → its unit
-    (state : ℕ → ℕ) (out : ℕ → Bool)  -- unit → its state; data unit → it is out
-    (outs : ℕ → ℕ) (beyond : ℕ → Bool) (lost : Bool)  -- group → its units out, it is beyond recovery; a data unit is out in such a group
-    (fill : ℕ → ℕ) (rank : ℕ → ℕ → ℕ)  -- data unit → its records; data unit, key → its rank, or their number
-    (listed : ℕ → ℕ) (listedRank : ℕ → ℕ → ℕ)  -- the same where a unit may be out, by the keys that are listed for it
-    (total : ℕ) where  -- all records
-  abbrev pub table : Call → List (Bool × ℕ)
-  table (teach k x) =
-      (eqb k 0, 2) ∷ (not (eqb (length x) bodyBytes), 2) ∷ (not ok, 1) ∷ (ltb 0 (outs (home k / 4)), 4)
-      ∷ (ltb (rank (home k) k) (fill (home k)), 5) ∷ (leb size (fill (home k)), 7) ∷ []
-  table (correct k x) =
-      (eqb k 0, 2) ∷ (not (eqb (length x) bodyBytes), 2) ∷ (not ok, 1) ∷ (ltb 0 (outs (home k / 4)), 4)
-      ∷ (leb (fill (home k)) (rank (home k) k), 6) ∷ []
-  table (erase k) = (eqb k 0, 2) ∷ (not ok, 1) ∷ (ltb 0 (outs (home k / 4)), 4) ∷ (leb (fill (home k)) (rank (home k) k), 6) ∷ []
-  table (read k x) =
-      (eqb k 0, 2) ∷ (not (eqb (length x) bodyBytes), 2) ∷ (not ok, 1) ∷ (out (home k) && beyond (home k / 4), 8)
-      ∷ (leb (listed (home k)) (listedRank (home k) k), 6) ∷ []
-  table (readInPlace k) = []
-  table (list x) = (not ok, 1) ∷ (lost, 8) ∷ (ltb (length x) (slotBytes * total), 7) ∷ []
-  table (unitOut w) = (ltb 27 w, 2) ∷ (not ok, 1) ∷ (eqb (state w) 0, 3) ∷ (eqb (state w) 2, 4) ∷ []
-  table (repair g) = (ltb 3 g, 2) ∷ (not ok, 1) ∷ (leb units (4 * g), 3) ∷ (beyond g, 8) ∷ []
-  table grow = (not ok, 1) ∷ (leb 16 units, 9) ∷ (ltb 0 (outs (units / 4)), 4) ∷ (ltb 0 (outs (splitPointer units / 4)), 4) ∷ []
-  table shrink =
-      (not ok, 1) ∷ (leb units 1, 9) ∷ (ltb 0 (outs (pred units / 4)), 4) ∷ (ltb 0 (outs (splitPointer (pred units) / 4)), 4)
-      ∷ (ltb size (fill (splitPointer (pred units)) + fill (pred units)), 7) ∷ []
-  table raise = (not ok, 1) ∷ (ltb 0 (splitPointer units), 9) ∷ (leb 16 units, 9) ∷ (leb 3 level, 9) ∷ []
-
--- the rows for a store with the parts v, whose bytes are sound or not
+-- The rows of each call, for a store with the parts v, whose bytes are sound or not. Read in place returns no number and has no rows.
 unfoldable pub refusalsIn : Bool → Store → Call → List (Bool × ℕ)
-refusalsIn ok v c =
-    table ok (v .size) (unitsIn v) (levelIn v) (homeIn v) (stateIn v) (λ u. eqb (v .dstate u) 2) (outsIn v) (beyondIn v) (lostIn v)
-    (fillIn v) (rankIn v) (listedFill v) (listedRank v) (totalIn v) c
+refusalsIn ok v (teach k x) =
+    (eqb k 0, 2) ∷ (not (eqb (length x) bodyBytes), 2) ∷ (not ok, 1) ∷ (ltb 0 (outsIn v (homeIn v k / 4)), 4)
+    ∷ (ltb (rankIn v (homeIn v k) k) (fillIn v (homeIn v k)), 5) ∷ (leb (v .size) (fillIn v (homeIn v k)), 7) ∷ []
+refusalsIn ok v (correct k x) =
+    (eqb k 0, 2) ∷ (not (eqb (length x) bodyBytes), 2) ∷ (not ok, 1) ∷ (ltb 0 (outsIn v (homeIn v k / 4)), 4)
+    ∷ (leb (fillIn v (homeIn v k)) (rankIn v (homeIn v k) k), 6) ∷ []
+refusalsIn ok v (erase k) =
+    (eqb k 0, 2) ∷ (not ok, 1) ∷ (ltb 0 (outsIn v (homeIn v k / 4)), 4) ∷ (leb (fillIn v (homeIn v k)) (rankIn v (homeIn v k) k), 6) ∷ []
+refusalsIn ok v (read k x) =
+    (eqb k 0, 2) ∷ (not (eqb (length x) bodyBytes), 2) ∷ (not ok, 1) ∷ (eqb (v .dstate (homeIn v k)) 2 && beyondIn v (homeIn v k / 4), 8)
+    ∷ (leb (listedFill v (homeIn v k)) (listedRank v (homeIn v k) k), 6) ∷ []
+refusalsIn ok v (readInPlace k) = []
+refusalsIn ok v (list x) = (not ok, 1) ∷ (lostIn v, 8) ∷ (ltb (length x) (slotBytes * totalIn v), 7) ∷ []
+refusalsIn ok v (unitOut w) = (ltb 27 w, 2) ∷ (not ok, 1) ∷ (eqb (stateIn v w) 0, 3) ∷ (eqb (stateIn v w) 2, 4) ∷ []
+refusalsIn ok v (repair g) = (ltb 3 g, 2) ∷ (not ok, 1) ∷ (leb (unitsIn v) (4 * g), 3) ∷ (beyondIn v g, 8) ∷ []
+refusalsIn ok v grow =
+    (not ok, 1) ∷ (leb 16 (unitsIn v), 9) ∷ (ltb 0 (outsIn v (unitsIn v / 4)), 4) ∷ (ltb 0 (outsIn v (splitPointer (unitsIn v) / 4)), 4) ∷ []
+refusalsIn ok v shrink =
+    let m : ℕ = pred (unitsIn v) in
+    (not ok, 1) ∷ (leb (unitsIn v) 1, 9) ∷ (ltb 0 (outsIn v (m / 4)), 4) ∷ (ltb 0 (outsIn v (splitPointer m / 4)), 4)
+    ∷ (ltb (v .size) (fillIn v (splitPointer m) + fillIn v m), 7) ∷ []
+refusalsIn ok v raise = (not ok, 1) ∷ (ltb 0 (splitPointer (unitsIn v)), 9) ∷ (leb 16 (unitsIn v), 9) ∷ (leb 3 (levelIn v), 9) ∷ []
 
 unfoldable pub numberIn : List ℕ → Call → ℕ
 numberIn s c = firstOf (refusalsIn (sound s) (view s) c)

@@ -4,14 +4,13 @@ use mathlib.Core.Path.{_≡_, refl, sym, _∙_}
 use mathlib.Core.List.{List, [], _∷_, _++_}
 use mathlib.Core.Bool.{Bool, true, false, _&&_, _||_}
 use native.Mathlib.Omega.{arith}
-use lib.Dec.{eqb, leb}
+use lib.Dec.{leb}
 use borrow.Author.Tests.{leb-true}
 use Rattle.buffer.specs.Choice.{pick}
 use Rattle.buffer.specs.ChoiceLaws.{by-test, by-pick, pick-true, pick-false, pick-ext}
 use Rattle.buffer.specs.TestLaws.{and-first, and-second}
-use Rattle.model.specs.Layout.{Store, unitsIn, levelIn}
-use Rattle.model.specs.Reads.{homeIn, fillIn, rankIn, outsIn, stateIn, beyondIn, listedFill, listedRank, lostIn, totalIn}
-use Rattle.model.specs.Numbers.{Call, teach, correct, erase, read, readInPlace, list, unitOut, repair, grow, shrink, raise, firstOf, table, refusalsIn}
+use Rattle.model.specs.Layout.{Store}
+use Rattle.model.specs.Numbers.{Call, teach, correct, erase, read, readInPlace, list, unitOut, repair, grow, shrink, raise, firstOf, refusalsIn}
 
 -- row by row the same, each where none before it holds
 abbrev pub Agree : List (Bool × ℕ) → List (Bool × ℕ) → Type 0
@@ -95,25 +94,18 @@ unfolding firstOf pick
 row-pair true b n ts = refl
 row-pair false b n ts = refl
 
--- ---- the rows of document 01's table, whatever they look at
-
-module _ (ok : Bool) (size units level : ℕ) (home state : ℕ → ℕ) (out : ℕ → Bool) (outs : ℕ → ℕ) (beyond : ℕ → Bool) (lost : Bool) (fill : ℕ → ℕ)
-    (rank : ℕ → ℕ → ℕ) (listed : ℕ → ℕ) (listedRank : ℕ → ℕ → ℕ) (total : ℕ) where
-  pub numbered : (c : Call) → Numbered (table ok size units level home state out outs beyond lost fill rank listed listedRank total c)
-  numbered (teach k x) = (refl, (refl, (refl, (refl, (refl, (refl, tt))))))
-  numbered (correct k x) = (refl, (refl, (refl, (refl, (refl, tt)))))
-  numbered (erase k) = (refl, (refl, (refl, (refl, tt))))
-  numbered (read k out) = (refl, (refl, (refl, (refl, (refl, tt)))))
-  numbered (readInPlace k) = tt
-  numbered (list out) = (refl, (refl, (refl, tt)))
-  numbered (unitOut w) = (refl, (refl, (refl, (refl, tt))))
-  numbered (repair g) = (refl, (refl, (refl, (refl, tt))))
-  numbered grow = (refl, (refl, (refl, (refl, tt))))
-  numbered shrink = (refl, (refl, (refl, (refl, (refl, tt)))))
-  numbered raise = (refl, (refl, (refl, (refl, tt))))
+-- ---- the rows of a store
 
 pub numbered-in : (ok : Bool) (v : Store) (c : Call) → Numbered (refusalsIn ok v c)
 unfolding refusalsIn
-numbered-in ok v =
-    numbered ok (v .size) (unitsIn v) (levelIn v) (homeIn v) (stateIn v) (λ u. eqb (v .dstate u) 2) (outsIn v) (beyondIn v) (lostIn v)
-    (fillIn v) (rankIn v) (listedFill v) (listedRank v) (totalIn v)
+numbered-in ok v (teach k x) = (refl, (refl, (refl, (refl, (refl, (refl, tt))))))
+numbered-in ok v (correct k x) = (refl, (refl, (refl, (refl, (refl, tt)))))
+numbered-in ok v (erase k) = (refl, (refl, (refl, (refl, tt))))
+numbered-in ok v (read k out) = (refl, (refl, (refl, (refl, (refl, tt)))))
+numbered-in ok v (readInPlace k) = tt
+numbered-in ok v (list out) = (refl, (refl, (refl, tt)))
+numbered-in ok v (unitOut w) = (refl, (refl, (refl, (refl, tt))))
+numbered-in ok v (repair g) = (refl, (refl, (refl, (refl, tt))))
+numbered-in ok v grow = (refl, (refl, (refl, (refl, tt))))
+numbered-in ok v shrink = (refl, (refl, (refl, (refl, (refl, tt)))))
+numbered-in ok v raise = (refl, (refl, (refl, (refl, tt))))
