@@ -8,12 +8,13 @@ use native.Mathlib.Omega.{arith}
 use lib.Dec.{eqb, ltb}
 use borrow.Author.Tests.{eq-eqb, lt-ltb, ltb-true, ltb-false}
 use Rattle.buffer.specs.ChoiceLaws.{pick-ext}
+use Rattle.buffer.specs.TestLaws.{and-true, and-false-second}
 use Rattle.buffer.specs.Range.{first, count}
-use Rattle.buffer.specs.RangeLaws.{first-ext, first-found, count-ext, count-pos, count-fails, count-zero, count-not, count-append}
+use Rattle.buffer.specs.RangeLaws.{first-ext, first-found, first-holds, count-ext, count-pos, count-fails, count-zero, count-not, count-append}
 use Rattle.buffer.specs.Bytes.{byte, part}
 use Rattle.buffer.specs.ByteLaws.{byte-part}
 use Rattle.group.specs.Members.{outs, checks, beyond, serves, next, firstFour}
-use Rattle.group.specs.MembersLaws.{Members, serves-data, serves-check, enough, first-four}
+use Rattle.group.specs.MembersLaws.{Members, serves-data, serves-check, serving, enough, first-four}
 use Rattle.model.specs.Layout.{view}
 use Rattle.model.specs.Reads.{outsIn, beyondIn, servesIn, keeper, lostIn}
 use Rattle.lookup.specs.Sized.{Sized}
@@ -60,9 +61,10 @@ module _ (s : List ℕ) (g : ℕ) where
   unfolding view
   check-states j l = let e : 24 + 3 * g + j ≡ 24 + (3 * g + j) = omega arith in byte-part (24 + 3 * g) 3 s j l ∙ ap (λ i. byte s i) e
 
-  pub outs-states : outs (byte (part (8 + 4 * g) 4 s)) (byte (part (24 + 3 * g) 3 s)) ≡ outsIn (view s) g
-  unfolding outsIn
-  outs-states = outs-ext _ _ _ _ data-states check-states
+  -- a group of which n units are out is beyond recovery where that is more than its check units
+  pub beyond-counted : {n : ℕ} → n ≡ outsIn (view s) g → ltb (checks (byte (part (24 + 3 * g) 3 s))) n ≡ beyondIn (view s) g
+  unfolding outsIn beyondIn beyond checks
+  beyond-counted e = rw (e, count-ext 3 _ _ (λ j l. ap (λ x. ltb 0 x) (check-states j l)))
 
   pub beyond-states : beyond (byte (part (8 + 4 * g) 4 s)) (byte (part (24 + 3 * g) 3 s)) ≡ beyondIn (view s) g
   unfolding beyondIn
@@ -127,15 +129,28 @@ pub record Whole (s : List ℕ) : Type 0 where
 pub whole-unit : {s : List ℕ} → Whole s → (u : ℕ) → u < 16 → Recoverable s u
 whole-unit h u l = record { sized = h .sized; unit = l; whole = h .units u l }
 
--- ---- a data unit out in a group beyond recovery
-module _ (s : List ℕ) where
-  pub lost-some : (u : ℕ) → u < 16 → (eqb (view s .dstate u) 2 && beyondIn (view s) (u / 4)) ≡ true → true ≡ lostIn (view s)
-  unfolding lostIn
-  lost-some u l e = sym (lt-ltb 0 _ (count-pos 16 (λ u. eqb (view s .dstate u) 2 && beyondIn (view s) (u / 4)) u l e))
+-- ---- a data unit out in a group beyond recovery: each such group has one, since its check units out are not more than it has
+data-out : (d c : ℕ → ℕ) → ((j : ℕ) → j < 3 → c j ≤ 2) → beyond d c ≡ true → first 4 (λ p. eqb (d p) 2) < 4
+unfolding beyond
+data-out d c h e =
+    let places : count 4 (serves d c) ≡ count 4 (λ p. not (eqb (d p) 2)) = count-ext 4 (serves d c) (λ p. not (eqb (d p) 2)) (serves-data d c) in
+    first-found 4 (λ p. eqb (d p) 2)
+    (omega (arith, ltb-true (checks c) (outs d c) e, serving d c h, count-append 4 3 (serves d c), places, count-not 4 (λ p. eqb (d p) 2)))
 
-  pub lost-none : ((u : ℕ) → u < 16 → (eqb (view s .dstate u) 2 && beyondIn (view s) (u / 4)) ≡ false) → false ≡ lostIn (view s)
+module _ (s : List ℕ) where
+  pub lost-some : Sized s → (g : ℕ) → g < 4 → beyondIn (view s) g ≡ true → true ≡ lostIn (view s)
+  unfolding lostIn beyondIn
+  lost-some h g l e =
+      let d : ℕ → ℕ = λ p. view s .dstate (4 * g + p) in
+      let p : ℕ = first 4 (λ p. eqb (d p) 2) in
+      let k : p < 4 = data-out d (λ j. view s .cstate (3 * g + j)) (λ j q. unfold view in h .checks (3 * g + j) (omega arith)) e in
+      let group : (4 * g + p) / 4 ≡ g = omega arith in
+      let here : beyondIn (view s) ((4 * g + p) / 4) ≡ true = ap (beyondIn (view s)) group ∙ e in
+      sym (lt-ltb 0 _ (count-pos 16 (λ u. eqb (view s .dstate u) 2 && beyondIn (view s) (u / 4)) (4 * g + p) (omega arith) (and-true (first-holds 4 (λ p. eqb (d p) 2) k) here)))
+
+  pub lost-none : ((g : ℕ) → g < 4 → beyondIn (view s) g ≡ false) → false ≡ lostIn (view s)
   unfolding lostIn
-  lost-none h = rw (count-fails 16 (λ u. eqb (view s .dstate u) 2 && beyondIn (view s) (u / 4)) h)
+  lost-none h = rw (count-fails 16 (λ u. eqb (view s .dstate u) 2 && beyondIn (view s) (u / 4)) (λ u l. and-false-second (eqb (view s .dstate u) 2) (h (u / 4) (omega arith))))
 
   pub none-lost : lostIn (view s) ≡ false → (u : ℕ) → u < 16 → (eqb (view s .dstate u) 2 && beyondIn (view s) (u / 4)) ≡ false
   unfolding lostIn

@@ -1,7 +1,7 @@
 -- The keys of a list of records: every step bytes from a place on. A data unit's keys stand in its slots; a unit that is out has its keys
 -- listed by a check unit. Assumes nothing.
 use Prim.Native.Nat.{ℕ, _+_, _*_, _/_, _%_, _≤_, _<_}
-use mathlib.Core.Path.{_≡_, refl, sym, ap, _∙_}
+use mathlib.Core.Path.{_≡_, sym, ap, _∙_}
 use mathlib.Core.List.{List}
 use native.Mathlib.Omega.{arith}
 use native.Mathlib.Nat.{mul-le-mul}
@@ -68,6 +68,10 @@ out-within {s} h c p n at l q k e b =
       fits = λ i m. omega (arith, check-fits h c i l (omega arith));
     }
 
+-- where the keys of unit u stand while it is out: in the first check unit in service of its group, the others every 32 bytes behind the first
+abbrev pub keysAt : List ℕ → ℕ → ℕ
+keysAt s u = checkAt (byte s 5) (keeper (view s) (u / 4)) 0 + 4 * (u % 4)
+
 -- ---- the keys of a unit, wherever they are listed
 -- they can be read: the unit is in service, or a check unit of its group is
 pub record Known (s : List ℕ) (u : ℕ) : Type 0 where
@@ -103,6 +107,12 @@ out-bytes s u r i h place =
     ∙ sym (pick-true (eq-eqb (byte s (8 + u)) 2 h) _ _)
 
 module _ {s : List ℕ} {u : ℕ} (known : Known s u) where
+  pub keys-near : {at : ℕ} → byte s (8 + u) ≡ 2 → at ≡ keysAt s u → at < 3000000
+  keys-near h e =
+      let c : keeper (view s) (u / 4) ≤ 12 = omega (arith, known .listed h, known .unit) in
+      let p : keeper (view s) (u / 4) * byte s 5 ≤ 12 * 64 = mul-le-mul c (known .sized .ranks) in
+      omega (arith, known .sized .ranks)
+
   pub lists-own : (at : ℕ) → (byte s (8 + u) ≡ 2 → ⊥) → at ≡ slotAt (byte s 5) u 0 → at < 3000000 → Lists s u at slotBytes
   lists-own at h e b =
       record {
@@ -110,7 +120,7 @@ module _ {s : List ℕ} {u : ℕ} (known : Known s u) where
         within = unit-within (known .sized) u (byte s 5) at (known .unit) (omega arith) e b;
       }
 
-  pub lists-out : (at : ℕ) → byte s (8 + u) ≡ 2 → at ≡ checkAt (byte s 5) (keeper (view s) (u / 4)) 0 + 4 * (u % 4) → at < 3000000 → Lists s u at checkBytes
+  pub lists-out : (at : ℕ) → byte s (8 + u) ≡ 2 → at ≡ keysAt s u → at < 3000000 → Lists s u at checkBytes
   lists-out at h e b =
       record {
         bytes = λ r. out-bytes s u r (at + checkBytes * r) h (omega arith);
@@ -118,11 +128,6 @@ module _ {s : List ℕ} {u : ℕ} (known : Known s u) where
       }
 
 -- ---- a search through the keys finds what the definitions say
-pub fill-found : (s : List ℕ) (u n r at : ℕ) → n ≡ byte s 5 → at ≡ slotAt (byte s 5) u 0 → r ≡ first n (λ i. eqb (keyIn s at slotBytes i) 0) → r ≡ fillIn (view s) u
-unfolding fillIn
-fill-found s u n r at en ea er =
-    er ∙ rw (ea, en) (first-ext (byte s 5) _ _ (λ k l. ap (λ x. eqb x 0) (unit-key s u k)) ∙ unfold view in refl)
-
 pub rank-found : (s : List ℕ) (u n r at key : ℕ) → at ≡ slotAt (byte s 5) u 0 → r ≡ first n (λ i. eqb (keyIn s at slotBytes i) key)
     → r ≡ first n (λ q. eqb (keyOf (view s .slot u q)) key)
 rank-found s u n r at key ea er = er ∙ rw ea (first-ext n _ _ (λ k l. ap (λ x. eqb x key) (unit-key s u k)))

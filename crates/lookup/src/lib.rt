@@ -13,9 +13,9 @@ ghost use Rattle.group.specs.Members.{firstFour};
 ghost use Rattle.group.specs.Rebuilding.{weighed};
 ghost use Rattle.model.specs.Units.{powerBelow, splitPointer, unitOf};
 ghost use Rattle.model.specs.Layout.{view, slotAt, checkAt, keyOf};
-ghost use Rattle.model.specs.Reads.{fillIn, stateIn, outsIn, beyondIn, servesIn, holds, keeper, listedKey, listedFill, listedRank, wholeSlot, lostIn};
+ghost use Rattle.model.specs.Reads.{stateIn, outsIn, beyondIn, servesIn, holds, keeper, listedFill, listedRank, wholeSlot, lostIn};
 ghost use Rattle.lookup.specs.Sized.{Sized};
-ghost use Rattle.lookup.specs.Keys.{keyIn, Within, Known, Lists};
+ghost use Rattle.lookup.specs.Keys.{keyIn, Within, keysAt, Known, Lists};
 ghost use Rattle.lookup.specs.Groups.{Recoverable};
 ghost use Rattle.lookup.specs.Slots.{heldAt, Recipe};
 
@@ -124,14 +124,6 @@ pub fn key_at(s: &[u8], u: u8, r: u8) -> u32
     buffer::load32(s, slot_at(s[5], u, r))
 }
 
-// How many records data unit u has.
-pub fn fill(s: &[u8], u: u8) -> u8
-    requires { ⌜ Sized (now s) × (u < 16) ⌝ }
-    ensures { λ n. ⌜ (n ≡ fillIn (view (now (s .entry))) u) × (n ≤ byte (now (s .entry)) 5) ⌝ }
-{
-    find(s, slot_at(s[5], u, 0), 20, s[5], 0)
-}
-
 // The rank of a key among the first n slots of data unit u; n where it is not there.
 pub fn rank(s: &[u8], u: u8, n: u8, key: u32) -> u8
     requires { ⌜ Sized (now s) × (u < 16) × (n ≤ byte (now s) 5) ⌝ }
@@ -156,6 +148,14 @@ pub fn keeper(s: &[u8], g: u8) -> u8
     3 * g + 3
 }
 
+// Where c, the first check unit in service of its group, lists the keys of data unit u: the first, and each next one 32 bytes on.
+pub fn keys_at(s: &[u8], u: u8, c: u8) -> usize
+    requires { ⌜ Sized (now s) × (c ≡ keeper (view (now s)) (u / 4)) ⌝ }
+    ensures { λ at. ⌜ at ≡ keysAt (now (s .entry)) u ⌝ }
+{
+    check_at(s[5], c, 0) + 4 * buffer::wide(u % 4)
+}
+
 // Where the keys of a unit stand: the first, and how far each is from the one before.
 pub struct Keys {
     pub base: usize,
@@ -169,7 +169,7 @@ pub fn keys_of(s: &[u8], u: u8, c: u8) -> Keys
 {
     if state(s, u) == 2 {
         return Keys {
-            base: check_at(s[5], c, 0) + 4 * buffer::wide(u % 4),
+            base: keys_at(s, u, c),
             step: 32,
         };
     }
@@ -206,20 +206,12 @@ fn check_states(s: &[u8], g: u8) -> &[u8]
     &s[at..at + 3]
 }
 
-// How many units of group g are out.
-pub fn outs(s: &[u8], g: u8) -> u8
-    requires { ⌜ Sized (now s) × (g < 4) ⌝ }
-    ensures { λ r. ⌜ (r ≡ outsIn (view (now (s .entry))) g) × (r ≤ 7) ⌝ }
-{
-    group::outs(data_states(s, g), check_states(s, g))
-}
-
-// Whether group g is beyond recovery: more units out than check units.
-pub fn beyond(s: &[u8], g: u8) -> bool
-    requires { ⌜ Sized (now s) × (g < 4) ⌝ }
+// Whether group g is beyond recovery: more units out, which outs counts, than check units.
+pub fn beyond(s: &[u8], g: u8, outs: u8) -> bool
+    requires { ⌜ Sized (now s) × (g < 4) × (outs ≡ outsIn (view (now s)) g) ⌝ }
     ensures { λ r. ⌜ r ≡ beyondIn (view (now (s .entry))) g ⌝ }
 {
-    group::beyond_recovery(data_states(s, g), check_states(s, g))
+    group::checks_in_place(check_states(s, g)) < outs
 }
 
 // The first four members in service of group g.
@@ -230,58 +222,31 @@ pub fn members(s: &[u8], g: u8) -> [u8; 4]
     group::first_four(data_states(s, g), check_states(s, g))
 }
 
-// Whether data unit u is out and its group beyond recovery.
-pub fn gone(s: &[u8], u: u8) -> bool
-    requires { ⌜ Sized (now s) × (u < 16) ⌝ }
+// Whether data unit u is out and its group, whose units out outs counts, beyond recovery.
+pub fn gone(s: &[u8], u: u8, outs: u8) -> bool
+    requires { ⌜ Sized (now s) × (u < 16) × (outs ≡ outsIn (view (now s)) (u / 4)) ⌝ }
     ensures { λ r. ⌜ r ≡ (eqb (view (now (s .entry)) .dstate u) 2 && beyondIn (view (now (s .entry))) (u / 4)) ⌝ }
 {
     if state(s, u) == 2 {
-        return beyond(s, u / 4);
+        return beyond(s, u / 4, outs);
     }
     false
 }
 
-// Whether a data unit is out in a group beyond recovery.
-pub fn lost(s: &[u8]) -> bool
-    requires { ⌜ Sized (now s) ⌝ }
+// Whether a data unit is out in a group beyond recovery, where outs counts the units out of each group. The groups are asked, not the units: a group
+// beyond recovery has a data unit out, since its check units alone are never more than it has.
+pub fn lost(s: &[u8], outs: [u8; 4]) -> bool
+    requires { ⌜ Sized (now s) × ((g : ℕ) → g < 4 → getD outs g 0 ≡ outsIn (view (now s)) g) ⌝ }
     ensures { λ r. ⌜ r ≡ lostIn (view (now (s .entry))) ⌝ }
 {
-    let mut u: u8 = 0;
-    while u < 16 {
-        if gone(s, u) {
+    let mut g: u8 = 0;
+    while g < 4 {
+        if beyond(s, g, outs[buffer::wide(g)]) {
             return true;
         }
-        u += 1;
+        g += 1;
     }
     false
-}
-
-// The slot of rank r of data unit u.
-pub fn slot(s: &[u8], u: u8, r: u8) -> &[u8]
-    requires { ⌜ Sized (now s) × (u < 16) × (r < byte (now s) 5) ⌝ }
-    ensures { λ x. ⌜ now x ≡ view (now (s .entry)) .slot u r ⌝ }
-{
-    let at = slot_at(s[5], u, r);
-    &s[at..at + 20]
-}
-
-// The check record of rank r of check unit c.
-pub fn check(s: &[u8], c: u8, r: u8) -> &[u8]
-    requires { ⌜ Sized (now s) × (c < 12) × (r < byte (now s) 5) ⌝ }
-    ensures { λ x. ⌜ now x ≡ view (now (s .entry)) .check c r ⌝ }
-{
-    let at = check_at(s[5], c, r);
-    &s[at..at + 32]
-}
-
-// The key of rank r of data unit u, its own or for a unit that is out the one that a check unit lists.
-pub fn listed_key(s: &[u8], u: u8, r: u8) -> &[u8]
-    requires { ⌜ Known (now s) u × (r < byte (now s) 5) ⌝ }
-    ensures { λ x. ⌜ now x ≡ listedKey (view (now (s .entry))) u r ⌝ }
-{
-    let keys = keys_of(s, u, keeper(s, u / 4));
-    let at = keys.base + keys.step * buffer::wide(r);
-    &s[at..at + 4]
 }
 
 // Where member m of group g holds the body or the parity of rank r.
@@ -332,38 +297,25 @@ pub fn rebuild_body(
     group::rebuild_body(out, weights, a, b, c, d, table)
 }
 
-// Rebuilds the slot of rank r of data unit u, which is out; zeros where no key is listed.
+// Rebuilds the slot of rank r of data unit u, which is out and has its keys listed from keys on; zeros where no key is listed.
 pub fn rebuild_slot(
     out: &mut [u8],
     s: &[u8],
     u: u8,
     r: u8,
+    keys: usize,
     members: [u8; 4],
     weights: [u8; 4],
     table: &[u8; 256],
 )
-    requires { ⌜ (length (now out) ≡ slotBytes) × Recipe (now s) u members weights × (r < byte (now s) 5) × (now table ≡ products) ⌝ }
+    requires { ⌜ (length (now out) ≡ slotBytes) × Recipe (now s) u members weights × (r < byte (now s) 5) × (keys ≡ keysAt (now s) u) × (now table ≡ products) ⌝ }
     ensures { λ _. ⌜ now (out .exit) ≡ wholeSlot (view (now (s .entry))) u r ⌝ }
 {
-    let key = listed_key(s, u, r);
-    if buffer::load32(key, 0) == 0 {
+    let at = keys + 32 * buffer::wide(r);
+    if buffer::load32(s, at) == 0 {
         buffer::clear(out);
     } else {
-        buffer::copy(&mut out[0..4], key);
+        buffer::copy(&mut out[0..4], &s[at..at + 4]);
         rebuild_body(&mut out[4..20], s, u / 4, r, members, weights, table);
-    }
-}
-
-// The slot of rank r of data unit u, rebuilt where the unit is out.
-pub fn whole_slot(out: &mut [u8], s: &[u8], u: u8, r: u8, table: &[u8; 256])
-    requires { ⌜ (length (now out) ≡ slotBytes) × Recoverable (now s) u × (r < byte (now s) 5) × (now table ≡ products) ⌝ }
-    ensures { λ _. ⌜ now (out .exit) ≡ wholeSlot (view (now (s .entry))) u r ⌝ }
-{
-    if state(s, u) == 2 {
-        let members = members(s, u / 4);
-        let weights = weights(s, u, members, table);
-        rebuild_slot(out, s, u, r, members, weights, table);
-    } else {
-        buffer::copy(out, slot(s, u, r));
     }
 }

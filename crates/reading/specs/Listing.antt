@@ -1,4 +1,4 @@
--- What a verdict on list hands on: its number and its count; and the counts of the units that list goes by. Assumes nothing.
+-- What a verdict on list hands on: its number and its count; and what of the survey list goes by. Assumes nothing.
 use Prim.Native.Nat.{ℕ, _*_, _≤_, _<_}
 use mathlib.Core.Path.{_≡_}
 use mathlib.Core.Bool.{Bool, true}
@@ -8,7 +8,7 @@ use lib.ListN.{getD}
 use Rattle.buffer.specs.Choice.{pick}
 use Rattle.group.specs.Widths.{slotBytes}
 use Rattle.model.specs.Layout.{view}
-use Rattle.model.specs.Reads.{listedFill, totalIn}
+use Rattle.model.specs.Reads.{keeper, listedFill, totalIn}
 use Rattle.lookup.specs.Groups.{Whole}
 use Rattle.reading.specs.Rows.{listNumber}
 
@@ -19,6 +19,7 @@ pub record Counted (s : List ℕ) (ok : Bool) (n number count : ℕ) : Type 0 wh
   pub whole : number ≡ 0 → Whole s
   pub room : number ≡ 0 → slotBytes * totalIn (view s) ≤ n
 
--- how many keys are listed for each unit
-pub record Fills (s : List ℕ) (fills : List ℕ) : Type 0 where
+-- how many keys are listed for each unit, and the first check unit in service of each group
+pub record Learned (s fills keepers : List ℕ) : Type 0 where
   pub listed : (u : ℕ) → u < 16 → getD fills u 0 ≡ listedFill (view s) u
+  pub kept : (g : ℕ) → g < 4 → getD keepers g 0 ≡ keeper (view s) g

@@ -1,7 +1,7 @@
 // Reading a store of any bytes: read, read in place, and list. None of them changes the store.
 ghost use mathlib.Core.Path.{_≡_};
 ghost use mathlib.Core.List.{_++_};
-ghost use Prim.Native.Nat.{_+_, _*_, _≤_, _<_};
+ghost use Prim.Native.Nat.{_+_, _*_, _/_, _≤_, _<_};
 ghost use lib.ListN.{length, drop, getD};
 ghost use Rattle.buffer.specs.Bytes.{byte, part};
 ghost use Rattle.buffer.specs.Range.{sum};
@@ -9,13 +9,13 @@ ghost use Rattle.buffer.specs.Table.{tab};
 ghost use Rattle.field.specs.Table.{products};
 ghost use Rattle.group.specs.Widths.{keyBytes, bodyBytes, slotBytes};
 ghost use Rattle.model.specs.Layout.{view};
-ghost use Rattle.model.specs.Reads.{listedFill, wholeSlot, totalIn, listingIn};
+ghost use Rattle.model.specs.Reads.{keeper, listedFill, wholeSlot, totalIn, listingIn};
 ghost use Rattle.soundness.specs.Survey.{Surveyed};
 ghost use Rattle.lookup.specs.Groups.{Recoverable, Whole};
 ghost use Rattle.model.specs.Numbers.{Call};
 ghost use Rattle.model.specs.Perform.{copied, lent, listed, outcome, perform, placeIn};
 ghost use Rattle.reading.specs.Found.{Verdict};
-ghost use Rattle.reading.specs.Listing.{Counted, Fills};
+ghost use Rattle.reading.specs.Listing.{Counted, Learned};
 
 // The verdict on a read: its number, and where that is 0 the unit and the rank of the key.
 pub struct Found {
@@ -49,7 +49,8 @@ fn look_up(s: &[u8], survey: soundness::Survey, key: u32, len: usize) -> Found
         return refused(1);
     }
     let unit = lookup::unit_of(s[6], key);
-    if lookup::gone(s, unit) {
+    let outs = survey.outs;
+    if lookup::gone(s, unit, outs[buffer::wide(unit / 4)]) {
         return refused(8);
     }
     let fills = survey.fills;
@@ -141,7 +142,8 @@ fn count_records(s: &[u8], survey: soundness::Survey, len: usize) -> Listing
             count: 0,
         };
     }
-    if lookup::lost(s) {
+    let outs = survey.outs;
+    if lookup::lost(s, outs) {
         return Listing {
             number: 8,
             count: 0,
@@ -158,29 +160,39 @@ fn count_records(s: &[u8], survey: soundness::Survey, len: usize) -> Listing
     Listing { number: 0, count }
 }
 
-// Rebuilds the first n slots of data unit u, which is out, one behind the other.
-fn rebuild_unit(s: &[u8], u: u8, n: u8, out: &mut [u8], table: &[u8; 256])
-    requires { ⌜ Recoverable (now s) u × (byte (now s) (8 + u) ≡ 2) × (n ≤ byte (now s) 5) × (length (now out) ≡ slotBytes * n) × (now table ≡ products) ⌝ }
+// Rebuilds the first n slots of data unit u, which is out, one behind the other. The first check unit in service of its group is c.
+fn rebuild_unit(s: &[u8], u: u8, n: u8, c: u8, out: &mut [u8], table: &[u8; 256])
+    requires { ⌜ Recoverable (now s) u × (byte (now s) (8 + u) ≡ 2) × (n ≤ byte (now s) 5) × (length (now out) ≡ slotBytes * n) × (now table ≡ products) × (c ≡ keeper (view (now s)) (u / 4)) ⌝ }
     ensures { λ _. ⌜ now (out .exit) ≡ tab n (wholeSlot (view (now (s .entry))) u) ⌝ }
 {
     let members = lookup::members(s, u / 4);
     let weights = lookup::weights(s, u, members, table);
+    let keys = lookup::keys_at(s, u, c);
     let mut at = 0;
     let mut r: u8 = 0;
     while r < n {
-        lookup::rebuild_slot(&mut out[at..at + 20], s, u, r, members, weights, table);
+        lookup::rebuild_slot(
+            &mut out[at..at + 20],
+            s,
+            u,
+            r,
+            keys,
+            members,
+            weights,
+            table,
+        );
         at += 20;
         r += 1;
     }
 }
 
-// Copies the first n slots of data unit u, rebuilt where the unit is out, one behind the other.
-fn copy_unit(s: &[u8], u: u8, n: u8, out: &mut [u8], table: &[u8; 256])
-    requires { ⌜ Recoverable (now s) u × (n ≤ byte (now s) 5) × (length (now out) ≡ slotBytes * n) × (now table ≡ products) ⌝ }
+// Copies the first n slots of data unit u, rebuilt where the unit is out, one behind the other. The first check unit in service of its group is c.
+fn copy_unit(s: &[u8], u: u8, n: u8, c: u8, out: &mut [u8], table: &[u8; 256])
+    requires { ⌜ Recoverable (now s) u × (n ≤ byte (now s) 5) × (length (now out) ≡ slotBytes * n) × (now table ≡ products) × (c ≡ keeper (view (now s)) (u / 4)) ⌝ }
     ensures { λ _. ⌜ now (out .exit) ≡ tab n (wholeSlot (view (now (s .entry))) u) ⌝ }
 {
     if lookup::state(s, u) == 2 {
-        rebuild_unit(s, u, n, out, table);
+        rebuild_unit(s, u, n, c, out, table);
     } else {
         let at = lookup::slot_at(s[5], u, 0);
         let end = at + 20 * buffer::wide(n);
@@ -189,8 +201,8 @@ fn copy_unit(s: &[u8], u: u8, n: u8, out: &mut [u8], table: &[u8; 256])
 }
 
 // Writes the records of a store of which nothing is lost, unit by unit; what stands behind them stays.
-fn write_records(s: &[u8], fills: [u8; 16], out: &mut [u8], table: &[u8; 256])
-    requires { ⌜ Whole (now s) × Fills (now s) fills × (slotBytes * totalIn (view (now s)) ≤ length (now out)) × (now table ≡ products) ⌝ }
+fn write_records(s: &[u8], fills: [u8; 16], keepers: [u8; 4], out: &mut [u8], table: &[u8; 256])
+    requires { ⌜ Whole (now s) × Learned (now s) fills keepers × (slotBytes * totalIn (view (now s)) ≤ length (now out)) × (now table ≡ products) ⌝ }
     ensures { λ _. ⌜ now (out .exit) ≡ listingIn (view (now (s .entry))) ++ drop (length (listingIn (view (now (s .entry))))) (now (out .entry)) ⌝ }
 {
     let mut at = 0;
@@ -198,7 +210,8 @@ fn write_records(s: &[u8], fills: [u8; 16], out: &mut [u8], table: &[u8; 256])
     while u < 16 {
         let n = fills[buffer::wide(u)];
         let end = at + 20 * buffer::wide(n); // where the records of this unit end
-        copy_unit(s, u, n, &mut out[at..end], table);
+        let keeper = keepers[buffer::wide(u / 4)];
+        copy_unit(s, u, n, keeper, &mut out[at..end], table);
         at = end;
         u += 1;
     }
@@ -214,7 +227,8 @@ pub fn list(s: &[u8], out: &mut [u8]) -> Listing
         return verdict;
     }
     let fills = survey.fills;
+    let keepers = survey.keepers;
     let table = field::table();
-    write_records(s, fills, out, &table);
+    write_records(s, fills, keepers, out, &table);
     verdict
 }

@@ -21,11 +21,12 @@ use Rattle.group.specs.Widths.{keyBytes, keysBytes, slotBytes}
 use Rattle.group.specs.Members.{serves, beyond, firstFour}
 use Rattle.group.specs.MembersLaws.{serves-data}
 use Rattle.group.specs.Rebuilding.{rebuilt}
-use Rattle.model.specs.Layout.{Store, bytes, view, keyOf}
+use Rattle.model.specs.Layout.{Store, bytes, view, checkAt, keyOf}
 use Rattle.model.specs.LayoutLaws.{Shaped, Same, Long, bytes-view, view-shaped, view-bytes, len-ds, len-cs}
 use Rattle.model.specs.StoreLaws.{slots-size, slots-slot, slots-shaped, same-long, withSlots}
 use Rattle.model.specs.Reads.{beyondIn, servesIn, holds, keeper, listedKey, wholeSlot}
 use Rattle.lookup.specs.Sized.{Sized}
+use Rattle.lookup.specs.Keys.{keysAt}
 use Rattle.lookup.specs.Groups.{beyond-states, four-states, group-four, recoverable-known}
 use Rattle.lookup.specs.Slots.{Recipe, body-rebuilt}
 
@@ -105,9 +106,13 @@ module _ {s₀ s : List ℕ} {f : ℕ → ℕ → List ℕ} (w : Rewritten s₀ 
       ∙ ap₂ (λ d c. firstFour (serves (byte d) (byte c))) (part-kept (8 + 4 * g) 4 (omega arith)) (part-kept (24 + 3 * g) 3 (omega arith))
       ∙ four-states s₀ g
 
-  keeper-kept : (g : ℕ) → g < 4 → keeper (view s) g ≡ keeper (view s₀) g
+  -- ---- where keys are listed
+  pub keeper-kept : (g : ℕ) → g < 4 → keeper (view s) g ≡ keeper (view s₀) g
   unfolding keeper view
   keeper-kept g l = ap (λ j. 3 * g + j) (first-ext 3 _ _ (λ j k. ap (λ x. eqb x 1) (byte-kept (24 + (3 * g + j)) (omega arith))))
+
+  pub keys-kept : (u : ℕ) → u < 16 → keysAt s u ≡ keysAt s₀ u
+  keys-kept u l = ap₂ (λ b c. checkAt b c 0 + 4 * (u % 4)) (byte-kept 5 (omega arith)) (keeper-kept (u / 4) (omega arith))
 
   -- ---- what the members in service hold
   check-kept : (c r : ℕ) → c < 12 → r < view s₀ .size → view s .check c r ≡ view s₀ .check c r

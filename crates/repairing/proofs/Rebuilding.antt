@@ -17,10 +17,11 @@ use Rattle.model.specs.LayoutLaws.{Shaped, bytes-view, view-shaped}
 use Rattle.model.specs.RunLaws.{run, length-run}
 use Rattle.model.specs.StoreLaws.{splice-slots, splice-unit, slots-within, size-of}
 use Rattle.model.specs.Reads.{wholeSlot}
+use Rattle.lookup.specs.Keys.{keysAt}
 use Rattle.lookup.specs.Slots.{Recipe, length-whole}
 use Rattle.repairing.specs.Steps.{unitRebuilt}
 use Rattle.repairing.proofs.Ranks.{Writing, writing-start, writing-turn, writing-end}
-use Rattle.repairing.proofs.Kept.{Rewritten, byte-kept, recipe-kept, whole-kept}
+use Rattle.repairing.proofs.Kept.{Rewritten, byte-kept, keys-kept, recipe-kept, whole-kept}
 
 abbrev pub Rebuilding : List ℕ → ℕ → List ℕ → ℕ → Type 0
 Rebuilding s₀ u = Writing (wholeSlot (view s₀) u) slotBytes (view s₀ .size) (slotAt (view s₀ .size) u 0) s₀
@@ -58,6 +59,9 @@ module _ {s₀ : List ℕ} {u : ℕ} {members weights : List ℕ} (recipe : Reci
 
   pub rebuilding-recipe : {s : List ℕ} {t : ℕ} → Rebuilding s₀ u s t → Recipe s u members weights
   rebuilding-recipe m = recipe-kept (rewritten m) recipe
+
+  pub rebuilding-keys : {s : List ℕ} {t keys : ℕ} → Rebuilding s₀ u s t → keys ≡ keysAt s₀ u → keys ≡ keysAt s u
+  rebuilding-keys m e = e ∙ sym (keys-kept (rewritten m) u (recipe .unit .unit))
 
   pub rebuilding-rank : {s : List ℕ} {t : ℕ} → Rebuilding s₀ u s t → t < byte s₀ 5 → t < byte s 5
   rebuilding-rank m l = rw (byte-kept (rewritten m) 5 (omega arith)) l

@@ -1,24 +1,29 @@
 -- What a granted repair may rely on. Assumes nothing.
 use Prim.Native.Nat.{ℕ}
-use mathlib.Core.Path.{_≡_, sym, _∙_}
-use mathlib.Core.Bool.{Bool}
+use mathlib.Core.Path.{_≡_, ap, _∙_}
+use mathlib.Core.Bool.{Bool, true}
 use mathlib.Core.List.{List}
 use native.Mathlib.Omega.{arith}
+use lib.ListN.{getD}
 use borrow.Author.Tests.{ltb-false, not-false}
 use Rattle.model.specs.Layout.{view}
-use Rattle.model.specs.Sound.{sound}
+use Rattle.model.specs.Reads.{keeper}
 use Rattle.model.specs.Numbers.{Call, repair, firstOf, refusalsIn}
 use Rattle.model.specs.PerformLaws.{none-holds}
+use Rattle.soundness.specs.Survey.{Surveyed, found-sound, keeper-found}
 use Rattle.lookup.specs.Sized.{sound-sized}
 use Rattle.repairing.specs.Groups.{Repairable}
 
 -- no row holds, so the store is sound and the group is not beyond recovery
-pub repairable : {s : List ℕ} {ok : Bool} {g r : ℕ} → ok ≡ sound s → r ≡ firstOf (refusalsIn ok (view s) (Call.repair g)) → r ≡ 0 → Repairable s g
-unfolding refusalsIn
-repairable {s} {ok} {g} {r} tested found z =
-    let rows = none-holds ok (view s) (Call.repair g) r found z in
-    record {
-      sized = sound-sized (sym tested ∙ not-false ok (rows .1 .0));
-      group = omega (arith, ltb-false 3 g (rows .0));
-      whole = rows .1 .1 .1 .0;
-    }
+module _ {s : List ℕ} {ok : Bool} {fills keepers outs : List ℕ} {g r : ℕ} (survey : Surveyed s ok fills keepers outs)
+    (found : r ≡ firstOf (refusalsIn ok (view s) (Call.repair g))) (z : r ≡ 0) where
+  pub repairable : Repairable s g × (ok ≡ true)
+  unfolding refusalsIn
+  repairable =
+      let rows = none-holds ok (view s) (Call.repair g) r found z in
+      let good = not-false ok (rows .1 .0) in
+      (record { sized = sound-sized (found-sound survey good); group = omega (arith, ltb-false 3 g (rows .0)); whole = rows .1 .1 .1 .0 }, good)
+
+  -- and the survey has found its first check unit in service, which the code reads at the index i
+  pub group-keeper : {i : ℕ} → i ≡ g → Repairable s g × (getD keepers i 0 ≡ keeper (view s) g)
+  group-keeper e = (repairable .0, ap (λ j. getD keepers j 0) e ∙ keeper-found survey (repairable .1) g (repairable .0 .group))

@@ -1,38 +1,46 @@
 // Repair of a group: its lost data units are rebuilt, its lost check units are made from the data, and all of them are put in service.
 ghost use mathlib.Core.Path.{_≡_};
-ghost use mathlib.Core.Bool.{true};
 ghost use mathlib.Core.List.{map};
 ghost use Prim.Native.Nat.{_+_, _*_, _<_};
 ghost use Rattle.field.specs.Table.{products};
 ghost use Rattle.group.specs.CheckRecord.{checkRecord};
 ghost use Rattle.model.specs.Layout.{bytes, view};
+ghost use Rattle.model.specs.Reads.{keeper as keeperIn};
 ghost use Rattle.model.specs.Changes.{repaired};
 ghost use Rattle.model.specs.Numbers.{Call, repair, firstOf, refusalsIn};
 ghost use Rattle.model.specs.Perform.{outcome, plain, perform};
-ghost use Rattle.lookup.specs.Sized.{Sized};
+ghost use Rattle.soundness.specs.Survey.{Surveyed};
+ghost use Rattle.lookup.specs.Keys.{keysAt};
 ghost use Rattle.lookup.specs.Slots.{Recipe};
 ghost use Rattle.repairing.specs.Groups.{Group, CheckPlace, Repairable};
 ghost use Rattle.repairing.specs.Steps.{slotsOf, unitRebuilt, unitsRebuilt, unitMade, unitsMade, inService, unitsServing};
 
-// Rebuilds the slots of data unit u, which is out, rank by rank.
-fn rebuild_unit(s: &mut [u8], u: u8, members: [u8; 4], weights: [u8; 4], table: &[u8; 256])
-    requires { ⌜ Recipe (now s) u members weights × (now table ≡ products) ⌝ }
+// Rebuilds the slots of data unit u, which is out and has its keys listed from keys on, rank by rank.
+fn rebuild_unit(
+    s: &mut [u8],
+    u: u8,
+    keys: usize,
+    members: [u8; 4],
+    weights: [u8; 4],
+    table: &[u8; 256],
+)
+    requires { ⌜ Recipe (now s) u members weights × (now table ≡ products) × (keys ≡ keysAt (now s) u) ⌝ }
     ensures { λ _. ⌜ now (s .exit) ≡ bytes (unitRebuilt (view (now (s .entry))) u) ⌝ }
 {
     let b = s[5];
     let mut r: u8 = 0;
     while r < b {
         let mut slot = [0u8; 20];
-        lookup::rebuild_slot(&mut slot, s, u, r, members, weights, table);
+        lookup::rebuild_slot(&mut slot, s, u, r, keys, members, weights, table);
         let at = lookup::slot_at(b, u, r);
         buffer::copy(&mut s[at..at + 20], &slot);
         r += 1;
     }
 }
 
-// Rebuilds the data units of group g that are out, from the first four members in service.
-fn rebuild_units(s: &mut [u8], g: u8, table: &[u8; 256])
-    requires { ⌜ Repairable (now s) g × (now table ≡ products) ⌝ }
+// Rebuilds the data units of group g that are out, from the first four members in service. The first check unit in service, keeper, lists their keys.
+fn rebuild_units(s: &mut [u8], g: u8, keeper: u8, table: &[u8; 256])
+    requires { ⌜ Repairable (now s) g × (now table ≡ products) × (keeper ≡ keeperIn (view (now s)) g) ⌝ }
     ensures { λ _. ⌜ now (s .exit) ≡ bytes (unitsRebuilt (view (now (s .entry))) g) ⌝ }
 {
     let members = lookup::members(s, g);
@@ -41,7 +49,8 @@ fn rebuild_units(s: &mut [u8], g: u8, table: &[u8; 256])
         let u = 4 * g + p;
         if lookup::state(s, u) == 2 {
             let weights = lookup::weights(s, u, members, table);
-            rebuild_unit(s, u, members, weights, table);
+            let keys = lookup::keys_at(s, u, keeper);
+            rebuild_unit(s, u, keys, members, weights, table);
         }
         p += 1;
     }
@@ -121,27 +130,27 @@ fn serve_units(s: &mut [u8], g: u8)
     put_in_service(&mut s[checks_at..checks_at + 3]);
 }
 
-// Repairs group g, which is not beyond recovery.
-fn repair_group(s: &mut [u8], g: u8)
-    requires { ⌜ Repairable (now s) g ⌝ }
+// Repairs group g, which is not beyond recovery and has keeper for its first check unit in service.
+fn repair_group(s: &mut [u8], g: u8, keeper: u8)
+    requires { ⌜ Repairable (now s) g × (keeper ≡ keeperIn (view (now s)) g) ⌝ }
     ensures { λ _. ⌜ now (s .exit) ≡ bytes (repaired (view (now (s .entry))) g) ⌝ }
 {
     let table = field::table();
-    rebuild_units(s, g, &table);
+    rebuild_units(s, g, keeper, &table);
     make_units(s, g, &table);
     serve_units(s, g);
 }
 
-// The number of a repair, of a store that is sound or not.
-fn repair_number(s: &[u8], ok: bool, group: u32) -> u8
-    requires { ⌜ (ok ≡ true → Sized (now s)) ⌝ }
-    ensures { λ r. ⌜ r ≡ firstOf (refusalsIn ok (view (now (s .entry))) (Call.repair group)) ⌝ }
+// The number of a repair, by the survey of the store.
+fn repair_number(s: &[u8], survey: soundness::Survey, group: u32) -> u8
+    requires { ⌜ Surveyed (now s) (survey .sound) (survey .fills) (survey .keepers) (survey .outs) ⌝ }
+    ensures { λ r. ⌜ r ≡ firstOf (refusalsIn (survey .sound) (view (now (s .entry))) (Call.repair group)) ⌝ }
 {
     let above = 3 < group;
     if above {
         return 2;
     }
-    if !ok {
+    if !survey.sound {
         return 1;
     }
     let g = group as u8;
@@ -149,7 +158,8 @@ fn repair_number(s: &[u8], ok: bool, group: u32) -> u8
     if absent {
         return 3;
     }
-    if lookup::beyond(s, g) {
+    let outs = survey.outs;
+    if lookup::beyond(s, g, outs[buffer::wide(g)]) {
         return 8;
     }
     0 // no row holds
@@ -159,11 +169,13 @@ fn repair_number(s: &[u8], ok: bool, group: u32) -> u8
 pub fn repair(s: &mut [u8], group: u32) -> u8
     ensures { λ r. ⌜ outcome (plain r) (now (s .exit)) ≡ perform (now (s .entry)) (Call.repair group) ⌝ }
 {
-    let ok = soundness::is_sound(s);
-    let number = repair_number(s, ok, group);
+    let survey = soundness::survey_of(s);
+    let number = repair_number(s, survey, group);
     if number != 0 {
         return number;
     }
-    repair_group(s, group as u8);
+    let g = group as u8;
+    let keepers = survey.keepers;
+    repair_group(s, g, keepers[buffer::wide(g)]);
     0
 }

@@ -1,6 +1,6 @@
 -- The loop of `deal_out`: the first t records of unit n are dealt out to units n and m, and what both units hold behind is as it was.
 -- Assumes nothing.
-use Prim.Native.Nat.{ℕ, suc, _+_, _-_, _≤_, _<_}
+use Prim.Native.Nat.{ℕ, suc, _+_, _≤_, _<_}
 use mathlib.Core.Path.{_≡_, refl, sym, ap, _∙_}
 use mathlib.Core.List.{List}
 use mathlib.Core.Bool.{Bool, true, false, not, _&&_}
@@ -25,6 +25,7 @@ use Rattle.splitting.specs.Steps.{Split, cleared}
 use Rattle.splitting.proofs.Lists.{getD-snoc, length-snoc, getD-default, kept-none, kept-yes, kept-no, kept-holds}
 use Rattle.splitting.proofs.Holding.{Holds, holds-step, holds-five, holds-length, slots-sized}
 use Rattle.splitting.proofs.StepLaws.{cleared-change}
+use Rattle.splitting.proofs.Added.{fill-most}
 
 -- of the first t records of unit n, those that move to unit m and those that stay
 abbrev gone : Store → ℕ → ℕ → ℕ → List (List ℕ)
@@ -105,6 +106,7 @@ module _ (v : Store) (n m : ℕ) (apart : n ≡ m → ⊥) where
 -- ---- the loop: stay records stayed and left records left among the first t
 pub record Dealing (s₀ : List ℕ) (n m count : ℕ) (s : List ℕ) (stay left t : ℕ) : Type 0 where
   pub within : t ≤ count
+  pub most : count ≤ byte s₀ 5
   pub few : stay + left ≡ t
   pub stayed : stay ≡ length (kept (view s₀) n m t)
   pub went : left ≡ length (gone (view s₀) n m t)
@@ -113,20 +115,23 @@ pub record Dealing (s₀ : List ℕ) (n m count : ℕ) (s : List ℕ) (stay left
   pub sized : Sized s
   pub holds : Holds s₀ s (withSlots (view s₀) (dealing (view s₀) n m t))
 
-module _ (s₀ : List ℕ) (n m count : ℕ) (sp : Split s₀ n m) (hc : count ≤ byte s₀ 5) where
+module _ (s₀ : List ℕ) (n m count : ℕ) (sp : Split s₀ n m) (ec : count ≡ fillIn (view s₀) n) where
   apart : n ≡ m → ⊥
   apart e = omega (arith, sp .apart)
+
+  most : count ≤ byte s₀ 5
+  most = omega (arith, fill-most (view s₀) n, size-of s₀)
 
   shaped : (t : ℕ) → t ≤ count → Shaped (withSlots (view s₀) (dealing (view s₀) n m t))
   shaped t h =
       slots-shaped (view s₀) _ (view-shaped s₀ (sp .sized .long))
-      (dealing-long (view s₀) n m apart t (view-shaped s₀ (sp .sized .long)) (omega (arith, sp .apart, sp .unit)) (sp .unit) (omega (arith, size-of s₀)))
+      (dealing-long (view s₀) n m apart t (view-shaped s₀ (sp .sized .long)) (omega (arith, sp .apart, sp .unit)) (sp .unit) (omega (arith, most, size-of s₀)))
 
   dealt-so-far : (s : List ℕ) (stay left t : ℕ) → t ≤ count → stay + left ≡ t → stay ≡ length (kept (view s₀) n m t) → left ≡ length (gone (view s₀) n m t)
       → s ≡ bytes (withSlots (view s₀) (dealing (view s₀) n m t)) → Dealing s₀ n m count s stay left t
   dealt-so-far s stay left t w f a b e =
       let h : Holds s₀ s (withSlots (view s₀) (dealing (view s₀) n m t)) = unfold withSlots in record { shaped = shaped t w; size = refl; rest = refl; state = e } in
-      record { within = w; few = f; stayed = a; went = b; long = holds-length h (sp .sized .long); five = holds-five h; sized = slots-sized _ (sp .sized) h; holds = h }
+      record { within = w; most = most; few = f; stayed = a; went = b; long = holds-length h (sp .sized .long); five = holds-five h; sized = slots-sized _ (sp .sized) h; holds = h }
 
   pub dealing-start : Dealing s₀ n m count s₀ 0 0 0
   dealing-start =
@@ -139,7 +144,7 @@ module _ (s₀ : List ℕ) (n m count : ℕ) (sp : Split s₀ n m) (hc : count �
         let h : Holds s₀ s (withSlots (view s₀) (dealing (view s₀) n m t)) = d .holds in
         let size : withSlots (view s₀) (dealing (view s₀) n m t) .size ≡ byte s₀ 5 = h .size ∙ sym (size-of s₀) in
         ap (λ x. view x .slot n t) (h .state)
-        ∙ view-bytes _ (h .shaped) .slot n t (omega (arith, sp .apart, sp .unit)) (omega arith)
+        ∙ view-bytes _ (h .shaped) .slot n t (omega (arith, sp .apart, sp .unit)) (omega (arith, most))
         ∙ ap (λ f. f n t) (slots-slot (view s₀) (dealing (view s₀) n m t))
         ∙ dealing-next (view s₀) n m apart t (omega (arith, d .few, d .stayed))
 
@@ -150,7 +155,7 @@ module _ (s₀ : List ℕ) (n m count : ℕ) (sp : Split s₀ n m) (hc : count �
     put : {s′ : List ℕ} (u q : ℕ) → u < 16 → q ≤ t → s′ ≡ splice (slotAt (byte s 5) u q) slotBytes (view s .slot n t) s → s′ ≡ bytes (withSlots (view s₀) (upd2 (dealing (view s₀) n m t) u q (view s₀ .slot n t)))
     put {s′} u q hu hq e =
         let h : Holds s₀ s (withSlots (view s₀) (dealing (view s₀) n m t)) = d .holds in
-        slot-put _ (h .shaped) s (h .state) (byte s 5) (size-at _ (h .shaped) s (h .state)) s′ (view s₀ .slot n t) (slotAt (byte s 5) u q) u q refl hu (omega (arith, d .five))
+        slot-put _ (h .shaped) s (h .state) (byte s 5) (size-at _ (h .shaped) s (h .state)) s′ (view s₀ .slot n t) (slotAt (byte s 5) u q) u q refl hu (omega (arith, most, d .five))
         (e ∙ ap (λ x. splice (slotAt (byte s 5) u q) slotBytes x s) next)
         ∙ ap bytes (slots-again (view s₀) (dealing (view s₀) n m t) u q (view s₀ .slot n t))
 
@@ -174,14 +179,14 @@ module _ (s₀ : List ℕ) (n m count : ℕ) (sp : Split s₀ n m) (hc : count �
 
     -- the two places of a move
     pub deal-from : SlotIn s n t
-    deal-from = record { long = d .sized .long; unit = omega (arith, sp .apart, sp .unit); rank = omega (arith, d .five) }
+    deal-from = record { long = d .sized .long; unit = omega (arith, sp .apart, sp .unit); rank = omega (arith, most, d .five) }
 
     pub deal-to : (u q : ℕ) → u < 16 → q ≤ t → SlotIn s u q
-    deal-to u q hu hq = record { long = d .sized .long; unit = hu; rank = omega (arith, d .five) }
+    deal-to u q hu hq = record { long = d .sized .long; unit = hu; rank = omega (arith, most, d .five) }
 
-  pub dealing-end : {s s₁ s₂ : List ℕ} {stay left t : ℕ} → Dealing s₀ n m count s stay left t → count ≤ t → count ≡ fillIn (view s₀) n
+  pub dealing-end : {s s₁ s₂ : List ℕ} {stay left t : ℕ} → Dealing s₀ n m count s stay left t → count ≤ t
       → s₁ ≡ bytes (cleared (view s) n stay) → s₂ ≡ bytes (cleared (view s₁) m left) → s₂ ≡ bytes (withSlots (view s₀) (dealt (view s₀) m))
-  dealing-end {s} {s₁} {s₂} {stay} {left} {t} d ht ec e₁ e₂ =
+  dealing-end {s} {s₁} {s₂} {stay} {left} {t} d ht e₁ e₂ =
       let all : t ≡ fillIn (view s₀) n = omega (arith, d .within) in
       holds-step (cleared-change m left) (holds-step (cleared-change n stay) (d .holds) e₁) e₂ .state
       ∙ rw (d .stayed, d .went, all) whole

@@ -90,7 +90,7 @@ pub record Merging (s₀ : List ℕ) (n m more : ℕ) (s : List ℕ) (t : ℕ) :
   pub five : byte s 5 ≡ byte s₀ 5
   pub holds : Holds s₀ s (withSlots (view s₀) (merging (view s₀) n m t))
 
-module _ (s₀ : List ℕ) (n m count more : ℕ) (sp : Split s₀ n m) (ec : count ≡ fillIn (view s₀) n) (room : count + more ≤ byte s₀ 5) where
+module _ (s₀ : List ℕ) (n m count more : ℕ) (sp : Split s₀ n m) (ec : count ≡ fillIn (view s₀) n) (em : more ≡ fillIn (view s₀) m) (room : count + more ≤ byte s₀ 5) where
   apart : n ≡ m → ⊥
   apart e = omega (arith, sp .apart)
 
@@ -133,9 +133,9 @@ module _ (s₀ : List ℕ) (n m count more : ℕ) (sp : Split s₀ n m) (ec : co
     pub merging-to : SlotIn s n (count + t)
     merging-to = record { long = holds-long (d .holds); unit = omega (arith, sp .apart, sp .unit); rank = omega (arith, d .five) }
 
-  pub merging-end : {s s₁ s₂ : List ℕ} {t : ℕ} → Merging s₀ n m more s t → more ≤ t → more ≡ fillIn (view s₀) m
+  pub merging-end : {s s₁ s₂ : List ℕ} {t : ℕ} → Merging s₀ n m more s t → more ≤ t
       → s₁ ≡ bytes (cleared (view s) n (count + more)) → s₂ ≡ bytes (cleared (view s₁) m 0) → s₂ ≡ bytes (withSlots (view s₀) (merged (view s₀) m))
-  merging-end {s} {s₁} {s₂} {t} d ht em e₁ e₂ =
+  merging-end {s} {s₁} {s₂} {t} d ht e₁ e₂ =
       let all : t ≡ fillIn (view s₀) m = omega (arith, d .within) in
       holds-step (cleared-change m 0) (holds-step (cleared-change n (count + more)) (d .holds) e₁) e₂ .state
       ∙ rw (ec, em, all) whole

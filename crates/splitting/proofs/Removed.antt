@@ -2,7 +2,7 @@
 use Prim.Native.Nat.{ℕ, _/_, _%_, _<_}
 use mathlib.Core.Path.{_≡_, refl, sym, ap, _∙_}
 use mathlib.Core.List.{List, []}
-use mathlib.Core.Bool.{Bool, true, false, _&&_, _||_}
+use mathlib.Core.Bool.{false, _&&_}
 use native.Mathlib.Omega.{arith}
 use lib.Dec.{eqb, ltb}
 use lib.ListN.{length}
@@ -22,7 +22,7 @@ use Rattle.model.specs.Changes.{rows, recordsIn, merged, shrunk, shrunkState}
 use Rattle.splitting.specs.Steps.{Split, Blank, marked, levelled, wiped, madeRecord, remade, ofFirst, ofBoth}
 use Rattle.splitting.proofs.Lists.{behind-holds}
 use Rattle.splitting.proofs.Holding.{Holds, holds-step}
-use Rattle.splitting.proofs.StepLaws.{marked-change, levelled-change, wiped-change, remade-change}
+use Rattle.splitting.proofs.StepLaws.{or-first, marked-change, levelled-change, wiped-change, remade-change}
 use Rattle.splitting.proofs.Added.{fill-most}
 
 -- ---- the records merged
@@ -50,11 +50,7 @@ states-removed v m c = ap (λ x. pick (ofFirst m c) x (v .cstate c)) (pick-false
 module _ (v : Store) (m c : ℕ) (x y : List ℕ) (blank : (v .cstate c ≡ 1 → ⊥) → y ≡ zeros checkBytes) where
   untouched : touched m (c / 3) ≡ false → pick (ofFirst m c) (zeros checkBytes) y ≡ y
   unfolding touched
-  untouched e = pick-false (and-false-first (or-false (eqb (c / 3) (m / 4)) (eqb (c / 3) (splitPointer m / 4)) e) (eqb (m % 4) 0)) (zeros checkBytes) y
-    where
-      or-false : (s t : Bool) → (s || t) ≡ false → s ≡ false
-      or-false true t e = e
-      or-false false t e = refl
+  untouched e = pick-false (and-false-first (or-first (eqb (c / 3) (m / 4)) (eqb (c / 3) (splitPointer m / 4)) e) (eqb (m % 4) 0)) (zeros checkBytes) y
 
   state-kept : ofFirst m c ≡ false → shrunkState v m c ≡ v .cstate c
   unfolding shrunkState emptied

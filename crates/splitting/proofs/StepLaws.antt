@@ -2,13 +2,14 @@
 use Prim.Native.Nat.{ℕ, _+_, _*_, _/_, _%_, _<_}
 use mathlib.Core.Path.{_≡_, refl, ap, _∙_}
 use mathlib.Core.List.{List}
-use mathlib.Core.Bool.{Bool, _&&_}
+use mathlib.Core.Bool.{Bool, true, false, _&&_, _||_}
 use native.Mathlib.Omega.{arith}
 use lib.Dec.{eqb, leb}
 use lib.ListN.{length, set, length-set}
 use lib.Seq.{getD-set-other}
 use Rattle.buffer.specs.Choice.{pick}
 use Rattle.buffer.specs.ChoiceLaws.{by-pick}
+use Rattle.buffer.specs.TestLaws.{not-both}
 use Rattle.buffer.specs.Bytes.{zeros}
 use Rattle.buffer.specs.ByteLaws.{length-zeros}
 use Rattle.buffer.specs.Table.{upd}
@@ -19,6 +20,15 @@ use Rattle.model.specs.LayoutLaws.{Shaped, Same}
 use Rattle.model.specs.StoreLaws.{withFront, withDstates, withCstates, withSlots, withChecks}
 use Rattle.splitting.specs.Steps.{cleared, marked, levelled, wiped, madeRecord, remade}
 use Rattle.splitting.proofs.Holding.{Change}
+
+-- ---- tests joined by "or", of which none holds
+pub or-first : (s t : Bool) → (s || t) ≡ false → s ≡ false
+or-first true t e = e
+or-first false t e = refl
+
+pub or-second : (s t : Bool) → (s || t) ≡ false → t ≡ false
+or-second true t e = not-both refl e
+or-second false t e = e
 
 -- ---- changes of one part
 slots-change : (f : Store → ℕ → ℕ → List ℕ) → ((t : Store) → Shaped t → (u r : ℕ) → u < 16 → r < t .size → length (f t u r) ≡ slotBytes)

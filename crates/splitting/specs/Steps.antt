@@ -14,7 +14,6 @@ use Rattle.group.specs.Widths.{slotBytes, checkBytes}
 use Rattle.group.specs.CheckRecord.{checkRecord}
 use Rattle.model.specs.Units.{splitPointer, touched}
 use Rattle.model.specs.Layout.{Store, view}
-use Rattle.model.specs.Reads.{outsIn, fillIn}
 use Rattle.model.specs.LayoutLaws.{Long}
 use Rattle.model.specs.StoreLaws.{withFront, withDstates, withCstates, withSlots, withChecks}
 use Rattle.lookup.specs.Sized.{Sized}
@@ -36,13 +35,13 @@ pub record Split (s : List ℕ) (n m : ℕ) : Type 0 where
   pub apart : n < m
   pub unit : m < 16
 
--- a unit is out in the group of unit m or in the group of the unit that m is split from
-unfoldable pub pairOut : Store → ℕ → Bool
-pairOut v m = ltb 0 (outsIn v (m / 4)) || ltb 0 (outsIn v (splitPointer m / 4))
+-- a unit is out in the group of unit m or in the group of the unit that m is split from, by the units out of each group
+unfoldable pub pairOut : (ℕ → ℕ) → ℕ → Bool
+pairOut outs m = ltb 0 (outs (m / 4)) || ltb 0 (outs (splitPointer m / 4))
 
--- unit m and the unit that it was split from have more records than one unit holds
-unfoldable pub pairCrowded : Store → ℕ → Bool
-pairCrowded v m = ltb (v .size) (fillIn v (splitPointer m) + fillIn v m)
+-- unit m and the unit that it was split from have more records than the size of one, by the records of each unit
+unfoldable pub pairCrowded : ℕ → (ℕ → ℕ) → ℕ → Bool
+pairCrowded size fill m = ltb size (fill (splitPointer m) + fill m)
 
 -- check units that aren't in service are zero
 abbrev pub Blank : List ℕ → Type 0

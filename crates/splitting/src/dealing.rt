@@ -34,12 +34,11 @@ fn clear_from(s: &mut [u8], u: u8, q: u8)
     buffer::clear(&mut s[from..to]);
 }
 
-// Deals the records of unit n out to units n and m, in place: no record is written over before it is read.
-pub fn deal_out(s: &mut [u8], n: u8, m: u8)
-    requires { ⌜ Split (now s) n m ⌝ }
+// Deals the records of unit n, which has count of them, out to units n and m, in place: no record is written over before it is read.
+pub fn deal_out(s: &mut [u8], n: u8, m: u8, count: u8)
+    requires { ⌜ Split (now s) n m × (count ≡ fillIn (view (now s)) n) ⌝ }
     ensures { λ _. ⌜ now (s .exit) ≡ bytes (withSlots (view (now (s .entry))) (dealt (view (now (s .entry))) m)) ⌝ }
 {
-    let count = lookup::fill(s, n);
     let mut kept: u8 = 0;
     let mut gone: u8 = 0;
     let mut t: u8 = 0;
@@ -59,13 +58,11 @@ pub fn deal_out(s: &mut [u8], n: u8, m: u8)
     clear_from(s, m, gone);
 }
 
-// Moves the records of unit m behind those of unit n, which have room for them.
-pub fn merge_into(s: &mut [u8], n: u8, m: u8)
-    requires { ⌜ Split (now s) n m × (fillIn (view (now s)) n + fillIn (view (now s)) m ≤ byte (now s) 5) ⌝ }
+// Moves the records of unit m behind those of unit n, where there is room for them. Unit n has count records, and unit m has more.
+pub fn merge_into(s: &mut [u8], n: u8, m: u8, count: u8, more: u8)
+    requires { ⌜ Split (now s) n m × (count ≡ fillIn (view (now s)) n) × (more ≡ fillIn (view (now s)) m) × (count + more ≤ byte (now s) 5) ⌝ }
     ensures { λ _. ⌜ now (s .exit) ≡ bytes (withSlots (view (now (s .entry))) (merged (view (now (s .entry))) m)) ⌝ }
 {
-    let count = lookup::fill(s, n);
-    let more = lookup::fill(s, m);
     let mut t: u8 = 0;
     while t < more {
         move_record(s, m, t, n, count + t);

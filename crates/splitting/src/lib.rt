@@ -7,61 +7,61 @@ pub mod states;
 ghost use mathlib.Core.Path.{_≡_};
 ghost use mathlib.Core.Bool.{true};
 ghost use Prim.Native.Nat.{_+_, _≤_, _<_};
+ghost use lib.ListN.{getD};
 ghost use Rattle.buffer.specs.Choice.{pick};
 ghost use Rattle.buffer.specs.Bytes.{byte};
-ghost use Rattle.model.specs.Units.{splitPointer};
 ghost use Rattle.model.specs.Layout.{bytes, view};
 ghost use Rattle.model.specs.Reads.{fillIn};
 ghost use Rattle.model.specs.Numbers.{Call, grow, shrink, raise, firstOf, refusalsIn};
 ghost use Rattle.model.specs.Changes.{grown, shrunk};
 ghost use Rattle.model.specs.Perform.{outcome, plain, perform};
+ghost use Rattle.soundness.specs.Survey.{Surveyed};
 ghost use Rattle.lookup.specs.Sized.{Sized};
-ghost use Rattle.splitting.specs.Steps.{Blank, pairOut, pairCrowded};
+ghost use Rattle.splitting.specs.Steps.{Split, Blank, pairOut, pairCrowded};
 
-// Adds unit m: the records of the unit that is split are dealt out, and the check units of both groups are made anew.
-fn add_unit(s: &mut [u8], m: u8)
-    requires { ⌜ Sized (now s) × (1 ≤ m) × (m < 16) ⌝ }
+// Adds unit m: the records of unit n, which is split and has count of them, are dealt out, and the check units of both groups are made anew.
+fn add_unit(s: &mut [u8], n: u8, m: u8, count: u8)
+    requires { ⌜ Split (now s) n m × (count ≡ fillIn (view (now s)) n) ⌝ }
     ensures { λ _. ⌜ now (s .exit) ≡ bytes (grown (view (now (s .entry))) m) ⌝ }
 {
-    let n = lookup::split_pointer(m);
     let level = s[7];
-    dealing::deal_out(s, n, m);
+    dealing::deal_out(s, n, m, count);
     states::mark(s, m + 1, m, 1);
     states::set_first(s, m, level);
     states::set_first(s, n, level);
     making::make_groups(s, n, m);
 }
 
-// Removes unit m, the last: its records go behind those of the unit that it was split from.
-fn remove_unit(s: &mut [u8], m: u8)
-    requires { ⌜ Sized (now s) × Blank (now s) × (1 ≤ m) × (m < 16) × (fillIn (view (now s)) (splitPointer m) + fillIn (view (now s)) m ≤ byte (now s) 5) ⌝ }
+// Removes unit m, the last: its records go behind those of unit n, which it was split from. Unit n has count records, and unit m has more.
+fn remove_unit(s: &mut [u8], n: u8, m: u8, count: u8, more: u8)
+    requires { ⌜ Split (now s) n m × Blank (now s) × (count ≡ fillIn (view (now s)) n) × (more ≡ fillIn (view (now s)) m) × (count + more ≤ byte (now s) 5) ⌝ }
     ensures { λ _. ⌜ now (s .exit) ≡ bytes (shrunk (view (now (s .entry))) m) ⌝ }
 {
-    let n = lookup::split_pointer(m);
-    dealing::merge_into(s, n, m);
+    dealing::merge_into(s, n, m, count, more);
     states::mark(s, m, m, 0);
     states::set_first(s, m, 0);
     making::clear_first(s, m);
     making::make_groups(s, n, m);
 }
 
-// Whether a unit is out in the group of unit m or in the group of the unit that m is split from.
-fn pair_out(s: &[u8], m: u8) -> bool
-    requires { ⌜ Sized (now s) × (1 ≤ m) × (m < 16) ⌝ }
-    ensures { λ r. ⌜ r ≡ pairOut (view (now (s .entry))) m ⌝ }
+// Whether a unit is out in the group of unit m or in the group of the unit that m is split from, by the units out of each group.
+fn pair_out(outs: [u8; 4], m: u8) -> bool
+    requires { ⌜ (1 ≤ m) × (m < 16) ⌝ }
+    ensures { λ r. ⌜ r ≡ pairOut (λ g. getD outs g 0) m ⌝ }
 {
-    let own = 0 < lookup::outs(s, m / 4);
-    let other = 0 < lookup::outs(s, lookup::split_pointer(m) / 4);
+    let own = 0 < outs[buffer::wide(m / 4)];
+    let other = 0 < outs[buffer::wide(lookup::split_pointer(m) / 4)];
     own || other
 }
 
-// Whether unit m and the unit that it was split from have more records than one unit holds.
-fn pair_crowded(s: &[u8], m: u8) -> bool
-    requires { ⌜ Sized (now s) × (1 ≤ m) × (m < 16) ⌝ }
-    ensures { λ r. ⌜ r ≡ pairCrowded (view (now (s .entry))) m ⌝ }
+// Whether unit m and the unit that it was split from have more records than the b that one unit holds, by the records of each unit.
+fn pair_crowded(b: u8, fills: [u8; 16], m: u8) -> bool
+    requires { ⌜ (1 ≤ m) × (m < 16) ⌝ }
+    ensures { λ r. ⌜ r ≡ pairCrowded b (λ u. getD fills u 0) m ⌝ }
 {
-    let into = lookup::split_pointer(m);
-    buffer::byte_at(s, 5) < lookup::fill(s, into) + lookup::fill(s, m)
+    let into = buffer::wide(fills[buffer::wide(lookup::split_pointer(m))]);
+    let own = buffer::wide(fills[buffer::wide(m)]);
+    buffer::wide(b) < into + own
 }
 
 // The number of a row of the table where its test holds, and otherwise that of the rows behind it.
@@ -74,12 +74,12 @@ fn row(holds: bool, number: u8, rest: u8) -> u8
     rest
 }
 
-// The number of a grow, for a store that is sound or not.
-fn grow_number(s: &[u8], ok: bool) -> u8
-    requires { ⌜ (ok ≡ true → Sized (now s)) ⌝ }
-    ensures { λ r. ⌜ r ≡ firstOf (refusalsIn ok (view (now (s .entry))) Call.grow) ⌝ }
+// The number of a grow, by the survey of the store.
+fn grow_number(s: &[u8], survey: soundness::Survey) -> u8
+    requires { ⌜ Surveyed (now s) (survey .sound) (survey .fills) (survey .keepers) (survey .outs) ⌝ }
+    ensures { λ r. ⌜ r ≡ firstOf (refusalsIn (survey .sound) (view (now (s .entry))) Call.grow) ⌝ }
 {
-    if !ok {
+    if !survey.sound {
         return 1;
     }
     let m = buffer::byte_at(s, 6);
@@ -87,15 +87,16 @@ fn grow_number(s: &[u8], ok: bool) -> u8
     if full {
         return 9;
     }
-    row(pair_out(s, m), 4, 0)
+    let outs = survey.outs;
+    row(pair_out(outs, m), 4, 0)
 }
 
 // The number of a shrink.
-fn shrink_number(s: &[u8], ok: bool) -> u8
-    requires { ⌜ (ok ≡ true → Sized (now s)) ⌝ }
-    ensures { λ r. ⌜ r ≡ firstOf (refusalsIn ok (view (now (s .entry))) Call.shrink) ⌝ }
+fn shrink_number(s: &[u8], survey: soundness::Survey) -> u8
+    requires { ⌜ Surveyed (now s) (survey .sound) (survey .fills) (survey .keepers) (survey .outs) ⌝ }
+    ensures { λ r. ⌜ r ≡ firstOf (refusalsIn (survey .sound) (view (now (s .entry))) Call.shrink) ⌝ }
 {
-    if !ok {
+    if !survey.sound {
         return 1;
     }
     let units = buffer::byte_at(s, 6);
@@ -104,10 +105,13 @@ fn shrink_number(s: &[u8], ok: bool) -> u8
         return 9;
     }
     let m = units - 1;
-    row(pair_out(s, m), 4, row(pair_crowded(s, m), 7, 0))
+    let b = buffer::byte_at(s, 5);
+    let fills = survey.fills;
+    let outs = survey.outs;
+    row(pair_out(outs, m), 4, row(pair_crowded(b, fills, m), 7, 0))
 }
 
-// The number of a raise.
+// The number of a raise, for a store that is sound or not.
 fn raise_number(s: &[u8], ok: bool) -> u8
     requires { ⌜ (ok ≡ true → Sized (now s)) ⌝ }
     ensures { λ r. ⌜ r ≡ firstOf (refusalsIn ok (view (now (s .entry))) Call.raise) ⌝ }
@@ -126,13 +130,15 @@ fn raise_number(s: &[u8], ok: bool) -> u8
 pub fn grow(s: &mut [u8]) -> u8
     ensures { λ r. ⌜ outcome (plain r) (now (s .exit)) ≡ perform (now (s .entry)) Call.grow ⌝ }
 {
-    let ok = soundness::is_sound(s);
-    let number = grow_number(s, ok);
+    let survey = soundness::survey_of(s);
+    let number = grow_number(s, survey);
     if number != 0 {
         return number;
     }
     let m = buffer::byte_at(s, 6);
-    add_unit(s, m);
+    let n = lookup::split_pointer(m);
+    let fills = survey.fills;
+    add_unit(s, n, m, fills[buffer::wide(n)]);
     0
 }
 
@@ -140,13 +146,15 @@ pub fn grow(s: &mut [u8]) -> u8
 pub fn shrink(s: &mut [u8]) -> u8
     ensures { λ r. ⌜ outcome (plain r) (now (s .exit)) ≡ perform (now (s .entry)) Call.shrink ⌝ }
 {
-    let ok = soundness::is_sound(s);
-    let number = shrink_number(s, ok);
+    let survey = soundness::survey_of(s);
+    let number = shrink_number(s, survey);
     if number != 0 {
         return number;
     }
-    let units = buffer::byte_at(s, 6);
-    remove_unit(s, units - 1);
+    let m = buffer::byte_at(s, 6) - 1;
+    let n = lookup::split_pointer(m);
+    let fills = survey.fills;
+    remove_unit(s, n, m, fills[buffer::wide(n)], fills[buffer::wide(m)]);
     0
 }
 

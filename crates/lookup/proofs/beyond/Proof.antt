@@ -1,15 +1,14 @@
 -- `lookup::beyond` meets its contract. Assumes nothing.
-use mathlib.Core.Path.{_∙_}
 use borrow.Author.Needs.{needs}
-use Rattle.lookup.specs.Groups.{beyond-states}
+use Rattle.lookup.specs.Groups.{beyond-counted}
 use Rattle.lookup.proofs.beyond.Statement.{statement}
 use Rattle.lookup.proofs.beyond.Tie as tie
 
 returns : tie.Need-returns
 returns c =
     let lent = c .before in
-    let start = lent .before .before .before in
-    rw (lent .before .data-states .ensures, lent .check-states .ensures) at (c .beyond-recovery .ensures) ∙ beyond-states (start .args .s .now) (start .args .g)
+    let start = lent .before .before in
+    simp (c .checks-in-place .ensures .0, lent .check-states .ensures, beyond-counted (start .args .s .now) (start .args .g) (start .pre .2))
 
 pub beyond-spec : {M : Type 1} → statement M
-beyond-spec = tie.close (tie.spec (λ c κs. search needs) (λ c κs. search needs) (λ c κs. search needs) returns)
+beyond-spec = tie.close (tie.spec (λ c κs. search needs) (λ c κs. search needs) returns)

@@ -3,20 +3,20 @@ use mathlib.Core.Path.{sym, _∙_}
 use native.Mathlib.Omega.{arith}
 use borrow.Author.Needs.{needs}
 use Rattle.lookup.specs.States.{state-byte}
-use Rattle.lookup.specs.Keys.{lists-own, lists-out}
+use Rattle.lookup.specs.Keys.{keys-near, lists-own, lists-out}
 use Rattle.lookup.proofs.keys_of.Statement.{statement}
 use Rattle.lookup.proofs.keys_of.Tie as tie
 
+keys-at-requires : tie.Need-keys-at-requires
+keys-at-requires c κs = let p = c .before .before .before .pre in (p .0 .sized, p .1)
+
 returns : tie.Need-returns
 returns c =
-    let test = c .before .before .before in
+    let test = c .before in
     let start = test .before .before .before in
-    lists-out
-    (start .pre .0)
-    _
-    (state-byte (start .args .s .now) (start .args .u) ∙ sym (test .before .state .ensures) ∙ test .if1 .taken)
-    (rw (← start .pre .1) (omega arith))
-    (omega arith)
+    let known = start .pre .0 in
+    let out = state-byte (start .args .s .now) (start .args .u) ∙ sym (test .before .state .ensures) ∙ test .if1 .taken in
+    lists-out known _ out (c .keys-at .ensures) (keys-near known out (c .keys-at .ensures))
 
 returns-2 : tie.Need-returns-2
 returns-2 c =
@@ -34,11 +34,7 @@ keys-of-spec =
     tie.close
     (tie.spec
     (λ c κs. search needs)
-    (λ c. search needs)
-    (λ c κs. search needs)
-    (λ c κs. search needs)
-    (λ c. search needs)
-    (λ c. search needs)
+    keys-at-requires
     returns
     (λ c. search needs)
     (λ c κs. search needs)

@@ -1,9 +1,8 @@
 -- `lookup::lost` meets its contract. Assumes nothing.
-use Prim.Native.Nat.{ℕ, _-_, _/_}
-use mathlib.Core.Bool.{_&&_}
-use mathlib.Core.Path.{sym, _∙_}
+use Prim.Native.Nat.{_-_}
+use mathlib.Core.Path.{sym, ap, _∙_}
 use native.Mathlib.Omega.{arith}
-use lib.Dec.{eqb}
+use lib.ListN.{getD}
 use borrow.Author.Needs.{needs}
 use Rattle.buffer.specs.LoopTests.{Missing, missing-start, missing-turn}
 use Rattle.model.specs.Layout.{view}
@@ -13,21 +12,31 @@ use Rattle.lookup.proofs.lost.Statement.{statement}
 use Rattle.lookup.proofs.lost.Tie as tie
 
 abbrev Inv-loop : tie.InvT-loop
-Inv-loop s u₀ u = Missing (λ (u : ℕ). eqb (view s .dstate u) 2 && beyondIn (view s) (u / 4)) 16 u
+Inv-loop s outs g₀ g = Missing (beyondIn (view s)) 4 g
 
 abbrev μ-loop : tie.MeasureT-loop
-μ-loop s u₀ u = 16 - u
+μ-loop s outs g₀ g = 4 - g
+
+beyond-requires : tie.Need-beyond-requires Inv-loop μ-loop
+beyond-requires c κs =
+    let turn = c .before in
+    let start = turn .before .before .before in
+    (start .pre .0, turn .loop-test .taken, ap (λ i. getD (start .args .t2) i 0) (c .wide .ensures .0) ∙ start .pre .1 _ (turn .loop-test .taken))
 
 returns : tie.Need-returns Inv-loop μ-loop
 returns c =
-    let l = c .before .before .before in
-    lost-some (l .before .before .args .s .now) (l .loop .u) (c .before .before .loop-test .taken) (sym (c .before .gone .ensures) ∙ c .if1 .taken)
+    let turn = c .before .before .before in
+    let l = turn .before in
+    let start = l .before .before in
+    lost-some (start .args .s .now) (start .pre .0) (l .loop .g) (turn .loop-test .taken) (sym (c .before .beyond .ensures) ∙ c .if1 .taken)
 
 loop-again : tie.Need-loop-again Inv-loop μ-loop
-loop-again c = missing-turn (c .before .before .before .loop .inv) (c .before .before .loop-test .taken) (sym (c .before .gone .ensures) ∙ c .if1 .left)
+loop-again c =
+    let turn = c .before .before .before in
+    missing-turn (turn .before .loop .inv) (turn .loop-test .taken) (sym (c .before .beyond .ensures) ∙ c .if1 .left)
 
 returns-2 : tie.Need-returns-2 Inv-loop μ-loop
-returns-2 c = lost-none (c .before .before .before .args .s .now) (λ u l. c .before .loop .inv .missed u (omega (arith, c .loop-test .left)))
+returns-2 c = lost-none (c .before .before .before .args .s .now) (λ g l. c .before .loop .inv .missed g (omega (arith, c .loop-test .left)))
 
 pub lost-spec : {M : Type 1} → statement M
 lost-spec =
@@ -37,6 +46,8 @@ lost-spec =
     μ-loop
     (λ c. missing-start)
     (λ c κs. search needs)
+    (λ c. search needs)
+    beyond-requires
     returns
     (λ c. search needs)
     (λ c. search needs)

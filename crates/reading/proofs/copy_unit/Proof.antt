@@ -18,7 +18,7 @@ rebuild-unit-requires c κs =
     let start = test .before .before .before .before in
     let p = start .pre in
     let out = state-byte (start .args .s .now) (start .args .u) ∙ sym (test .before .state .ensures) ∙ test .if1 .taken in
-    (p .0, out, p .1, p .2, p .3)
+    (p .0, out, p .1, p .2, p .3, p .4)
 
 part-copy-end : tie.Need-part-copy-end
 part-copy-end c =

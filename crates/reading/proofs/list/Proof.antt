@@ -1,8 +1,8 @@
 -- `reading::list` meets its contract. Assumes nothing.
-use mathlib.Core.Path.{refl, sym, _∙_}
+use mathlib.Core.Path.{refl, _∙_}
 use borrow.Author.Needs.{needs}
 use Rattle.reading.specs.Rows.{list-rows}
-use Rattle.reading.proofs.Verdicts.{whole-fills}
+use Rattle.reading.proofs.Verdicts.{whole-learned}
 use Rattle.reading.proofs.Answers.{list-refused, list-granted}
 use Rattle.reading.proofs.list.Statement.{statement}
 use Rattle.reading.proofs.list.Tie as tie
@@ -22,16 +22,16 @@ returns c =
 write-records-requires : tie.Need-write-records-requires
 write-records-requires c κs =
     let table = c .before .before in
-    let test = table .before .before in
+    let test = table .before .before .before in
     let count = test .before .before in
     let verdict = count .count-records .ensures in
     let whole = verdict .whole (test .if1 .left) in
-    (whole, whole-fills (count .before .survey-of .ensures) (verdict .sound (test .if1 .left)) whole, verdict .room (test .if1 .left), table .table .ensures)
+    (whole, whole-learned (count .before .survey-of .ensures) (verdict .sound (test .if1 .left)) whole, verdict .room (test .if1 .left), table .table .ensures)
 
 returns-2 : tie.Need-returns-2
 returns-2 c =
     let written = c .before .before in
-    let test = written .before .before .before .before .before in
+    let test = written .before .before .before .before .before .before in
     let count = test .before .before in
     let start = count .before .before .before .before in
     let s = start .args .s .now in

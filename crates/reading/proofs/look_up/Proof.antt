@@ -1,4 +1,5 @@
 -- `reading::look_up` meets its contract. Assumes nothing.
+use Prim.Native.Nat.{_<_}
 use mathlib.Core.Path.{sym, _∙_}
 use native.Mathlib.Omega.{arith}
 use borrow.Author.Needs.{needs}
@@ -6,7 +7,7 @@ use borrow.Author.Tests.{not-true, not-false}
 use Rattle.lookup.specs.Groups.{recoverable-known}
 use Rattle.soundness.specs.Survey.{found-sound}
 use Rattle.lookup.specs.Sized.{sound-sized}
-use Rattle.reading.proofs.Verdicts.{refusal, home-is, no-key, no-room, unsound, lost, absent, present, safe-unit, safe-fill, safe-keeper}
+use Rattle.reading.proofs.Verdicts.{refusal, home-is, no-key, no-room, unsound, lost, absent, present, safe-unit, safe-fill, outs-read, safe-keeper}
 use Rattle.reading.proofs.look_up.Statement.{statement}
 use Rattle.reading.proofs.look_up.Tie as tie
 
@@ -34,16 +35,26 @@ unit-of-requires c κs =
     let good = c .before in
     sound-sized (found-sound (good .before .before .before .before .before .pre) (not-false _ (good .if3 .left))) .unit
 
+array-read-gone : tie.Need-array-read-gone
+array-read-gone c =
+    let unit = c .before .before in
+    let good = unit .before .before in
+    omega (arith, c .wide .ensures .0, unit .unit-of .ensures .1, sound-sized (found-sound (good .before .before .before .before .before .pre) (not-false _ (good .if3 .left))) .units)
+
 gone-requires : tie.Need-gone-requires
 gone-requires c κs =
-    let good = c .before .before in
-    let store = sound-sized (found-sound (good .before .before .before .before .before .pre) (not-false _ (good .if3 .left))) in
-    (store, omega (arith, c .unit-of .ensures .1, store .units))
+    let unit = c .before .before in
+    let good = unit .before .before in
+    let start = good .before .before .before .before .before in
+    let ok = not-false _ (good .if3 .left) in
+    let store = sound-sized (found-sound (start .pre) ok) in
+    let low : unit .unit-of .result < 16 = omega (arith, unit .unit-of .ensures .1, store .units) in
+    (store, low, outs-read (start .pre) ok low (c .wide .ensures .0))
 
 returns-4 : tie.Need-returns-4
 returns-4 c =
     let gone = c .before .before in
-    let unit = gone .before in
+    let unit = gone .before .before .before in
     let good = unit .before .before in
     let room = good .before .before in
     let start = room .before .before .before in
@@ -52,13 +63,13 @@ returns-4 c =
 
 array-read-n : tie.Need-array-read-n
 array-read-n c =
-    let unit = c .before .before .before .before in
+    let unit = c .before .before .before .before .before .before in
     let good = unit .before .before in
     omega (arith, unit .unit-of .ensures .1, sound-sized (found-sound (good .before .before .before .before .before .pre) (not-false _ (good .if3 .left))) .units)
 
 array-read-keeper : tie.Need-array-read-keeper
 array-read-keeper c =
-    let unit = c .before .before .before .before .before .before in
+    let unit = c .before .before .before .before .before .before .before .before in
     let good = unit .before .before in
     omega (arith, unit .unit-of .ensures .1, sound-sized (found-sound (good .before .before .before .before .before .pre) (not-false _ (good .if3 .left))) .units)
 
@@ -66,21 +77,21 @@ listed-rank-requires : tie.Need-listed-rank-requires
 listed-rank-requires c κs =
     let count = c .before .before in
     let safe = count .before .before in
-    let unit = safe .before .before in
+    let unit = safe .before .before .before .before in
     let good = unit .before .before in
     let start = good .before .before .before .before .before in
     let ok = not-false _ (good .if3 .left) in
     let store = sound-sized (found-sound (start .pre) ok) in
     let there = safe-unit store (omega (arith, unit .unit-of .ensures .1, store .units)) (sym (safe .before .gone .ensures) ∙ safe .if4 .left) in
-    let fill = safe-fill (start .pre) ok there (count .wide .ensures .0) in
-    (recoverable-known there, safe-keeper (start .pre) ok there (c .wide2 .ensures .0), fill .0, fill .1)
+    let fill = safe-fill (start .pre) ok there (count .wide2 .ensures .0) in
+    (recoverable-known there, safe-keeper (start .pre) ok there (c .wide3 .ensures .0), fill .0, fill .1)
 
 returns-5 : tie.Need-returns-5
 returns-5 c =
     let found = c .before .before in
     let count = found .before .before .before in
     let safe = count .before .before in
-    let unit = safe .before .before in
+    let unit = safe .before .before .before .before in
     let good = unit .before .before in
     let room = good .before .before in
     let start = room .before .before .before in
@@ -88,7 +99,7 @@ returns-5 c =
     let store = sound-sized (found-sound (start .pre) ok) in
     let safe-one = sym (safe .before .gone .ensures) ∙ safe .if4 .left in
     let there = safe-unit store (omega (arith, unit .unit-of .ensures .1, store .units)) safe-one in
-    let fill = safe-fill (start .pre) ok there (count .wide .ensures .0) in
+    let fill = safe-fill (start .pre) ok there (count .wide2 .ensures .0) in
     refusal 5 (c .refused5 .ensures)
     (absent (start .args .s .now) _ _ _ (room .before .if1 .left) (room .if2 .left) ok _ (home-is _ _ _ (unit .unit-of .ensures .0)) safe-one
     (rw (← fill .0, ← found .listed-rank .ensures .0) (c .before .if5 .taken)))
@@ -98,7 +109,7 @@ returns-6 c =
     let found = c .before in
     let count = found .before .before .before in
     let safe = count .before .before in
-    let unit = safe .before .before in
+    let unit = safe .before .before .before .before in
     let good = unit .before .before in
     let room = good .before .before in
     let start = room .before .before .before in
@@ -106,7 +117,7 @@ returns-6 c =
     let store = sound-sized (found-sound (start .pre) ok) in
     let safe-one = sym (safe .before .gone .ensures) ∙ safe .if4 .left in
     let there = safe-unit store (omega (arith, unit .unit-of .ensures .1, store .units)) safe-one in
-    let fill = safe-fill (start .pre) ok there (count .wide .ensures .0) in
+    let fill = safe-fill (start .pre) ok there (count .wide2 .ensures .0) in
     let home = home-is (start .args .s .now) (start .args .key) (unit .unit-of .result) (unit .unit-of .ensures .0) in
     let listed = rw (fill .0) at (c .if5 .left) in
     record {
@@ -133,6 +144,8 @@ look-up-spec =
     returns-3
     shared-slice-read-unit-of
     unit-of-requires
+    (λ c κs. search needs)
+    array-read-gone
     gone-requires
     (λ c κs. search needs)
     returns-4

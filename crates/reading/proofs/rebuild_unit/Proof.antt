@@ -16,10 +16,10 @@ use Rattle.reading.proofs.rebuild_unit.Statement.{statement}
 use Rattle.reading.proofs.rebuild_unit.Tie as tie
 
 abbrev Inv-loop : tie.InvT-loop
-Inv-loop s u n out₀ table members weights at₀ r₀ out at r = (at ≡ 20 * r) × Appending (wholeSlot (view s) u) n out₀ out r at
+Inv-loop s u n c out₀ table members weights keys at₀ r₀ out at r = (at ≡ 20 * r) × Appending (wholeSlot (view s) u) n out₀ out r at
 
 abbrev μ-loop : tie.MeasureT-loop
-μ-loop s u n out₀ table members weights at₀ r₀ out at r = n - r
+μ-loop s u n c out₀ table members weights keys at₀ r₀ out at r = n - r
 
 members-requires : tie.Need-members-requires Inv-loop μ-loop
 members-requires c κs = let p = c .before .before .pre in (p .0 .sized, omega (arith, p .0 .unit))
@@ -27,23 +27,26 @@ members-requires c κs = let p = c .before .before .pre in (p .0 .sized, omega (
 weights-requires : tie.Need-weights-requires Inv-loop μ-loop
 weights-requires c κs = let p = c .before .before .before .pre in (p .0, p .1, c .members .ensures, p .4)
 
+keys-at-requires : tie.Need-keys-at-requires Inv-loop μ-loop
+keys-at-requires c κs = let p = c .before .before .before .before .pre in (p .0 .sized, p .5)
+
 part-rebuild-slot-end : tie.Need-part-rebuild-slot-end Inv-loop μ-loop
-part-rebuild-slot-end c = omega (arith, c .before .loop .inv .1 .long, c .before .before .before .before .before .before .pre .3)
+part-rebuild-slot-end c = omega (arith, c .before .loop .inv .1 .long, c .before .before .before .before .before .before .before .pre .3)
 
 rebuild-slot-requires : tie.Need-rebuild-slot-requires Inv-loop μ-loop
 rebuild-slot-requires c κs =
     let turn = c .before in
     let l = turn .before in
-    let start = l .before .before .before .before .before in
+    let start = l .before .before .before .before .before .before in
     let p = start .pre in
-    (length-lent (l .loop .out) (l .loop .at) 20 (omega (arith, l .loop .inv .1 .long, p .3)), l .before .weights .ensures, omega (arith, p .2), p .4)
+    (length-lent (l .loop .out) (l .loop .at) 20 (omega (arith, l .loop .inv .1 .long, p .3)), l .before .before .weights .ensures, omega (arith, p .2), l .before .keys-at .ensures, p .4)
 
 loop-again : tie.Need-loop-again Inv-loop μ-loop
 loop-again c =
     let built = c .before .before in
     let turn = built .before .before in
     let l = turn .before in
-    let start = l .before .before .before .before .before in
+    let start = l .before .before .before .before .before .before in
     let p = start .pre in
     let o = l .loop .out in
     let at = l .loop .at in
@@ -53,7 +56,7 @@ loop-again c =
 returns : tie.Need-returns Inv-loop μ-loop
 returns c =
     let l = c .before in
-    let start = l .before .before .before .before .before in
+    let start = l .before .before .before .before .before .before in
     let p = start .pre in
     filled-whole _ _ _ (appending-end (l .loop .inv .1) (c .loop-test .left)) (p .3 ∙ sym (length-tab (start .args .n) slotBytes (wholeSlot (view (start .args .s .now)) (start .args .u)) (slots-wide (p .0) (start .args .n) (p .2))))
 
@@ -65,6 +68,7 @@ rebuild-unit-spec =
     μ-loop
     members-requires
     weights-requires
+    keys-at-requires
     (λ c. (omega arith, appending-start))
     (λ c. omega arith)
     (λ c. search needs)

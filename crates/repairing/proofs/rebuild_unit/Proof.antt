@@ -7,15 +7,15 @@ use Prim.Native.Nat.{_-_}
 use lib.ListN.{length, getD}
 use Rattle.buffer.specs.Bytes.{part, splice}
 use Rattle.model.specs.StoreLaws.{slot-within}
-use Rattle.repairing.proofs.Rebuilding.{Rebuilding, rebuilding-start, rebuilding-recipe, rebuilding-rank, rebuilding-turn, rebuilding-end}
+use Rattle.repairing.proofs.Rebuilding.{Rebuilding, rebuilding-start, rebuilding-recipe, rebuilding-keys, rebuilding-rank, rebuilding-turn, rebuilding-end}
 use Rattle.repairing.proofs.rebuild_unit.Statement.{statement}
 use Rattle.repairing.proofs.rebuild_unit.Tie as tie
 
 abbrev Inv-loop : tie.InvT-loop
-Inv-loop s₀ u members weights table b r₀ s r = Rebuilding s₀ u s r
+Inv-loop s₀ u keys members weights table b r₀ s r = Rebuilding s₀ u s r
 
 abbrev μ-loop : tie.MeasureT-loop
-μ-loop s₀ u members weights table b r₀ s r = b - r
+μ-loop s₀ u keys members weights table b r₀ s r = b - r
 
 loop-holds : tie.Need-loop-holds Inv-loop μ-loop
 loop-holds c = rebuilding-start (c .before .before .pre .0)
@@ -24,7 +24,7 @@ rebuild-slot-requires : tie.Need-rebuild-slot-requires Inv-loop μ-loop
 rebuild-slot-requires c κs =
     let l = c .before .before .before in
     let e = l .before .before .before in
-    (search needs, rebuilding-recipe (e .pre .0) (l .loop .inv), omega (arith, rebuilding-rank (e .pre .0) (l .loop .inv) (search needs)), e .pre .1)
+    (search needs, rebuilding-recipe (e .pre .0) (l .loop .inv), omega (arith, rebuilding-rank (e .pre .0) (l .loop .inv) (search needs)), rebuilding-keys (e .pre .0) (l .loop .inv) (e .pre .2), e .pre .1)
 
 part-copy-end : tie.Need-part-copy-end Inv-loop μ-loop
 part-copy-end c =

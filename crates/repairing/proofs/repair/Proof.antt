@@ -1,40 +1,46 @@
 -- `repairing::repair` meets its contract. Assumes nothing.
 use native.Mathlib.Omega.{arith}
-use mathlib.Core.Path.{sym, _∙_}
 use Rattle.model.specs.Perform.{grantedIn}
 use Rattle.model.specs.PerformLaws.{of-repair, refused, granted}
-use Rattle.lookup.specs.Sized.{sound-sized}
-use Rattle.repairing.proofs.Verdicts.{repairable}
+use Rattle.repairing.proofs.Verdicts.{repairable, group-keeper}
 use borrow.Author.Needs.{needs}
 use Rattle.repairing.proofs.repair.Statement.{statement}
 use Rattle.repairing.proofs.repair.Tie as tie
 
 repair-number-requires : tie.Need-repair-number-requires
-repair-number-requires c κs = λ t. sound-sized (sym (c .before .is-sound .ensures) ∙ t)
+repair-number-requires c κs = c .before .survey-of .ensures
 
 returns : tie.Need-returns
 returns c =
     let n = c .before in
     let k = n .before .before in
-    refused _ of-repair (k .is-sound .ensures) (n .repair-number .ensures) (c .if1 .taken)
+    refused _ of-repair (k .survey-of .ensures .tested) (n .repair-number .ensures) (c .if1 .taken)
 
-cast-repair-group : tie.Need-cast-repair-group
-cast-repair-group c =
-    let n = c .before .before in
-    omega (arith, repairable (n .before .before .is-sound .ensures) (n .repair-number .ensures) (c .before .if1 .left) .group)
+cast-g : tie.Need-cast-g
+cast-g c =
+    let n = c .before in
+    omega (arith, repairable (n .before .before .survey-of .ensures) (n .repair-number .ensures) (c .if1 .left) .0 .group)
+
+array-read-repair-group : tie.Need-array-read-repair-group
+array-read-repair-group c =
+    let i = c .before .before .before in
+    let n = i .before in
+    omega (arith, c .wide .ensures .0, repairable (n .before .before .survey-of .ensures) (n .repair-number .ensures) (i .if1 .left) .0 .group)
 
 repair-group-requires : tie.Need-repair-group-requires
 repair-group-requires c κs =
-    let n = c .before .before in
-    repairable (n .before .before .is-sound .ensures) (n .repair-number .ensures) (c .before .if1 .left)
+    let i = c .before .before .before in
+    let n = i .before in
+    group-keeper (n .before .before .survey-of .ensures) (n .repair-number .ensures) (i .if1 .left) (c .wide .ensures .0)
 
 returns-2 : tie.Need-returns-2
 unfolding grantedIn
 returns-2 c =
-    let i = c .before .before .before .before in
+    let r = c .before .before in
+    let i = r .before .before .before .before in
     let n = i .before in
     let k = n .before .before in
-    granted _ of-repair (k .is-sound .ensures) (n .repair-number .ensures) (i .if1 .left) (c .before .before .repair-group .ensures)
+    granted _ of-repair (k .survey-of .ensures .tested) (n .repair-number .ensures) (i .if1 .left) (r .repair-group .ensures)
 
 pub repair-spec : {M : Type 1} → statement M
 repair-spec =
@@ -44,7 +50,9 @@ repair-spec =
     repair-number-requires
     (λ c. search needs)
     returns
-    cast-repair-group
+    cast-g
+    (λ c κs. search needs)
+    array-read-repair-group
     repair-group-requires
     (λ c. search needs)
     returns-2)

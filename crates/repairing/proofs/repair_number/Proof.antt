@@ -1,11 +1,15 @@
 -- `repairing::repair_number` meets its contract. Assumes nothing.
 use Rattle.buffer.specs.TestLaws.{is-yes}
-use mathlib.Core.Path.{refl}
+use Prim.Native.Nat.{_<_}
+use mathlib.Core.Path.{refl, ap, _∙_}
 use native.Mathlib.Omega.{arith}
+use lib.ListN.{getD}
 use borrow.Author.Tests.{ltb-false}
 use Rattle.buffer.specs.Choice.{pick}
 use Rattle.model.specs.Numbers.{firstOf, refusalsIn}
 use Rattle.model.specs.StoreLaws.{units-of}
+use Rattle.soundness.specs.Survey.{found-sound, outs-counted}
+use Rattle.lookup.specs.Sized.{sound-sized}
 use borrow.Author.Needs.{needs}
 use Rattle.repairing.proofs.repair_number.Statement.{statement}
 use Rattle.repairing.proofs.repair_number.Tie as tie
@@ -16,30 +20,40 @@ returns c = simp (c .if1 .taken)
 
 returns-2 : tie.Need-returns-2
 unfolding firstOf refusalsIn pick
-returns-2 c = simp (c .before .if1 .left, c .if2 .taken)
+returns-2 c = simp (c .before .before .if1 .left, c .if2 .taken)
 
 returns-3 : tie.Need-returns-3
 unfolding firstOf refusalsIn pick
 returns-3 c =
     let k = c .before .before in
-    simp (k .before .if1 .left, k .if2 .left, ← units-of, ← c .before .byte-at .ensures, c .if3 .taken)
+    simp (k .before .before .if1 .left, k .if2 .left, ← units-of, ← c .before .byte-at .ensures, c .if3 .taken)
+
+array-read-beyond : tie.Need-array-read-beyond
+array-read-beyond c =
+    let first = c .before .before .before .before .before .before in
+    omega (arith, c .wide .ensures .0, ltb-false 3 (first .before .before .args .group) (first .if1 .left))
 
 beyond-requires : tie.Need-beyond-requires
-beyond-requires c κs = (c .before .before .before .before .before .pre (is-yes refl (c .before .before .if2 .left)), omega (arith, ltb-false))
+beyond-requires c κs =
+    let good = c .before .before .before .before in
+    let start = good .before .before .before .before in
+    let ok = is-yes refl (good .if2 .left) in
+    let low : start .args .group < 4 = omega (arith, ltb-false 3 (start .args .group) (good .before .before .if1 .left)) in
+    (sound-sized (found-sound (start .pre) ok), low, ap (λ i. getD (start .args .survey .outs) i 0) (c .wide .ensures .0) ∙ outs-counted (start .pre) ok (start .args .group) low)
 
 returns-4 : tie.Need-returns-4
 unfolding firstOf refusalsIn pick
 returns-4 c =
-    let k = c .before .before in
-    simp (k .before .before .before .if1 .left, k .before .before .if2 .left, ← units-of, ← k .before .byte-at .ensures, k .if3 .left, ← c .before .beyond .ensures, c .if4 .taken)
+    let k = c .before .before .before .before in
+    simp (k .before .before .before .before .if1 .left, k .before .before .if2 .left, ← units-of, ← k .before .byte-at .ensures, k .if3 .left, ← c .before .beyond .ensures, c .if4 .taken)
 
 returns-5 : tie.Need-returns-5
 unfolding firstOf refusalsIn pick
 returns-5 c =
-    let k = c .before .before in
-    simp (k .before .before .before .if1 .left, k .before .before .if2 .left, ← units-of, ← k .before .byte-at .ensures, k .if3 .left, ← c .before .beyond .ensures, c .if4 .left)
+    let k = c .before .before .before .before in
+    simp (k .before .before .before .before .if1 .left, k .before .before .if2 .left, ← units-of, ← k .before .byte-at .ensures, k .if3 .left, ← c .before .beyond .ensures, c .if4 .left)
 
 pub repair-number-spec : {M : Type 1} → statement M
 repair-number-spec =
     tie.close
-    (tie.spec returns returns-2 (λ c. search needs) (λ c κs. search needs) (λ c. omega (arith, ltb-false)) returns-3 beyond-requires returns-4 returns-5)
+    (tie.spec returns returns-2 (λ c. search needs) (λ c κs. search needs) (λ c. omega (arith, ltb-false)) returns-3 (λ c κs. search needs) array-read-beyond beyond-requires returns-4 returns-5)

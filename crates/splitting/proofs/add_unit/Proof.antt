@@ -1,7 +1,6 @@
 -- `splitting::add_unit` meets its contract. Assumes nothing.
 use borrow.Author.Needs.{needs}
 use native.Mathlib.Omega.{arith}
-use Rattle.splitting.specs.Steps.{Split}
 use Rattle.splitting.proofs.Holding.{holds-long}
 use Rattle.model.specs.StoreLaws.{level-of}
 use Rattle.splitting.proofs.Added.{dealt-holds, marked-holds, new-holds, old-holds, all-added}
@@ -9,39 +8,36 @@ use Rattle.splitting.proofs.add_unit.Statement.{statement}
 use Rattle.splitting.proofs.add_unit.Tie as tie
 
 slice-read-level : tie.Need-slice-read-level
-slice-read-level c = omega (arith, c .before .before .before .pre .0 .long)
+slice-read-level c = omega (arith, c .before .before .pre .0 .sized .long)
 
 deal-out-requires : tie.Need-deal-out-requires
-deal-out-requires c κs =
-    let p = c .before .before in
-    let e = p .before .before in
-    record { sized = e .pre .0; from = p .split-pointer .ensures .0; apart = p .split-pointer .ensures .1; unit = e .pre .2 }
+deal-out-requires c κs = c .before .before .before .pre
+
+add-mark : tie.Need-add-mark
+add-mark c = omega (arith, c .before .before .before .before .before .before .before .pre .0 .unit)
 
 mark-requires : tie.Need-mark-requires
 mark-requires c κs =
     let d = c .before .before .before in
-    let p = d .before .before .before in
-    let e = p .before .before in
-    let sp : Split (e .args .s .now) (p .split-pointer .result) (e .args .m) = record { sized = e .pre .0; from = p .split-pointer .ensures .0; apart = p .split-pointer .ensures .1; unit = e .pre .2 } in
-    (holds-long (dealt-holds sp (d .deal-out .ensures)), e .pre .2)
+    let e = d .before .before .before .before in
+    let sp = e .pre .0 in
+    (holds-long (dealt-holds sp (d .deal-out .ensures)), sp .unit)
 
 set-first-requires : tie.Need-set-first-requires
 set-first-requires c κs =
     let k = c .before .before .before in
     let d = k .before .before .before .before in
-    let p = d .before .before .before in
-    let e = p .before .before in
-    let sp : Split (e .args .s .now) (p .split-pointer .result) (e .args .m) = record { sized = e .pre .0; from = p .split-pointer .ensures .0; apart = p .split-pointer .ensures .1; unit = e .pre .2 } in
-    (holds-long (marked-holds sp (d .deal-out .ensures) (k .mark .ensures)), e .pre .2)
+    let e = d .before .before .before .before in
+    let sp = e .pre .0 in
+    (holds-long (marked-holds sp (d .deal-out .ensures) (k .mark .ensures)), sp .unit)
 
 set-first-requires-2 : tie.Need-set-first-requires-2
 set-first-requires-2 c κs =
     let f = c .before .before .before in
     let k = f .before .before .before .before in
     let d = k .before .before .before .before in
-    let p = d .before .before .before in
-    let e = p .before .before in
-    let sp : Split (e .args .s .now) (p .split-pointer .result) (e .args .m) = record { sized = e .pre .0; from = p .split-pointer .ensures .0; apart = p .split-pointer .ensures .1; unit = e .pre .2 } in
+    let e = d .before .before .before .before in
+    let sp = e .pre .0 in
     (holds-long (new-holds sp (d .deal-out .ensures) (k .mark .ensures) _ (f .set-first .ensures)), omega (arith, sp .apart, sp .unit))
 
 make-groups-requires : tie.Need-make-groups-requires
@@ -50,9 +46,8 @@ make-groups-requires c κs =
     let f = f2 .before .before .before .before in
     let k = f .before .before .before .before in
     let d = k .before .before .before .before in
-    let p = d .before .before .before in
-    let e = p .before .before in
-    let sp : Split (e .args .s .now) (p .split-pointer .result) (e .args .m) = record { sized = e .pre .0; from = p .split-pointer .ensures .0; apart = p .split-pointer .ensures .1; unit = e .pre .2 } in
+    let e = d .before .before .before .before in
+    let sp = e .pre .0 in
     (holds-long (old-holds sp (d .deal-out .ensures) (k .mark .ensures) _ (f .set-first .ensures) (f2 .set-first2 .ensures)), sp .from, sp .apart, sp .unit)
 
 returns : tie.Need-returns
@@ -62,19 +57,17 @@ returns c =
     let f = f2 .before .before .before .before in
     let k = f .before .before .before .before in
     let d = k .before .before .before .before in
-    let p = d .before .before .before in
-    let e = p .before .before in
-    let sp : Split (e .args .s .now) (p .split-pointer .result) (e .args .m) = record { sized = e .pre .0; from = p .split-pointer .ensures .0; apart = p .split-pointer .ensures .1; unit = e .pre .2 } in
+    let e = d .before .before .before .before in
+    let sp = e .pre .0 in
     all-added sp (d .deal-out .ensures) (k .mark .ensures) _ (f .set-first .ensures) (f2 .set-first2 .ensures) (level-of (e .args .s .now)) (g .make-groups .ensures)
 
 pub add-unit-spec : {M : Type 1} → statement M
 add-unit-spec =
     tie.close
     (tie.spec
-    (λ c κs. search needs)
     slice-read-level
     deal-out-requires
-    (λ c. search needs)
+    add-mark
     mark-requires
     set-first-requires
     set-first-requires-2

@@ -1,43 +1,36 @@
 -- `splitting::remove_unit` meets its contract. Assumes nothing.
 use borrow.Author.Needs.{needs}
-use Rattle.splitting.specs.Steps.{Split}
 use Rattle.splitting.proofs.Holding.{holds-long}
 use Rattle.splitting.proofs.Removed.{merged-holds, marked-holds, states-hold, wiped-holds, all-removed}
 use Rattle.splitting.proofs.remove_unit.Statement.{statement}
 use Rattle.splitting.proofs.remove_unit.Tie as tie
 
 merge-into-requires : tie.Need-merge-into-requires
-merge-into-requires c κs =
-    let p = c .before in
-    let e = p .before .before in
-    (record { sized = e .pre .0; from = p .split-pointer .ensures .0; apart = p .split-pointer .ensures .1; unit = e .pre .3 }, rw (p .split-pointer .ensures .0) (e .pre .4))
+merge-into-requires c κs = let p = c .before .before .pre in (p .0, p .2, p .3, p .4)
 
 mark-requires : tie.Need-mark-requires
 mark-requires c κs =
     let d = c .before .before .before in
-    let p = d .before .before in
-    let e = p .before .before in
-    let sp : Split (e .args .s .now) (p .split-pointer .result) (e .args .m) = record { sized = e .pre .0; from = p .split-pointer .ensures .0; apart = p .split-pointer .ensures .1; unit = e .pre .3 } in
-    (holds-long (merged-holds sp (d .merge-into .ensures)), e .pre .3)
+    let e = d .before .before .before in
+    let sp = e .pre .0 in
+    (holds-long (merged-holds sp (d .merge-into .ensures)), sp .unit)
 
 set-first-requires : tie.Need-set-first-requires
 set-first-requires c κs =
     let k = c .before .before .before in
     let d = k .before .before .before .before in
-    let p = d .before .before in
-    let e = p .before .before in
-    let sp : Split (e .args .s .now) (p .split-pointer .result) (e .args .m) = record { sized = e .pre .0; from = p .split-pointer .ensures .0; apart = p .split-pointer .ensures .1; unit = e .pre .3 } in
-    (holds-long (marked-holds sp (d .merge-into .ensures) (k .mark .ensures)), e .pre .3)
+    let e = d .before .before .before in
+    let sp = e .pre .0 in
+    (holds-long (marked-holds sp (d .merge-into .ensures) (k .mark .ensures)), sp .unit)
 
 clear-first-requires : tie.Need-clear-first-requires
 clear-first-requires c κs =
     let f = c .before .before .before in
     let k = f .before .before .before .before in
     let d = k .before .before .before .before in
-    let p = d .before .before in
-    let e = p .before .before in
-    let sp : Split (e .args .s .now) (p .split-pointer .result) (e .args .m) = record { sized = e .pre .0; from = p .split-pointer .ensures .0; apart = p .split-pointer .ensures .1; unit = e .pre .3 } in
-    (holds-long (states-hold sp (d .merge-into .ensures) (k .mark .ensures) (f .set-first .ensures)), e .pre .3)
+    let e = d .before .before .before in
+    let sp = e .pre .0 in
+    (holds-long (states-hold sp (d .merge-into .ensures) (k .mark .ensures) (f .set-first .ensures)), sp .unit)
 
 make-groups-requires : tie.Need-make-groups-requires
 make-groups-requires c κs =
@@ -45,9 +38,8 @@ make-groups-requires c κs =
     let f = w .before .before .before .before in
     let k = f .before .before .before .before in
     let d = k .before .before .before .before in
-    let p = d .before .before in
-    let e = p .before .before in
-    let sp : Split (e .args .s .now) (p .split-pointer .result) (e .args .m) = record { sized = e .pre .0; from = p .split-pointer .ensures .0; apart = p .split-pointer .ensures .1; unit = e .pre .3 } in
+    let e = d .before .before .before in
+    let sp = e .pre .0 in
     (holds-long (wiped-holds sp (d .merge-into .ensures) (k .mark .ensures) (f .set-first .ensures) (w .clear-first .ensures)), sp .from, sp .apart, sp .unit)
 
 returns : tie.Need-returns
@@ -57,16 +49,14 @@ returns c =
     let f = w .before .before .before .before in
     let k = f .before .before .before .before in
     let d = k .before .before .before .before in
-    let p = d .before .before in
-    let e = p .before .before in
-    let sp : Split (e .args .s .now) (p .split-pointer .result) (e .args .m) = record { sized = e .pre .0; from = p .split-pointer .ensures .0; apart = p .split-pointer .ensures .1; unit = e .pre .3 } in
+    let e = d .before .before .before in
+    let sp = e .pre .0 in
     all-removed sp (d .merge-into .ensures) (k .mark .ensures) (f .set-first .ensures) (w .clear-first .ensures) (e .pre .1) (g .make-groups .ensures)
 
 pub remove-unit-spec : {M : Type 1} → statement M
 remove-unit-spec =
     tie.close
     (tie.spec
-    (λ c κs. search needs)
     merge-into-requires
     mark-requires
     set-first-requires

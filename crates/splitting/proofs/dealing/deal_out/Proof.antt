@@ -15,32 +15,27 @@ Inv-loop s₀ n m count kept₀ gone₀ t₀ s kept gone t = Dealing s₀ n m co
 abbrev μ-loop : tie.MeasureT-loop
 μ-loop s₀ n m count kept₀ gone₀ t₀ s kept gone t = count - t
 
-fill-requires : tie.Need-fill-requires Inv-loop μ-loop
-fill-requires c κs = let e = c .before .before in (e .pre .sized, omega (arith, e .pre .apart, e .pre .unit))
-
 loop-holds : tie.Need-loop-holds Inv-loop μ-loop
-loop-holds c = let e = c .before .before .before in dealing-start (e .args .s .now) _ _ _ (e .pre) (c .fill .ensures .1)
+loop-holds c = let e = c .before in dealing-start (e .args .s .now) _ _ _ (e .pre .0) (e .pre .1)
 
 key-at-requires : tie.Need-key-at-requires Inv-loop μ-loop
 key-at-requires c κs =
     let l = c .before .before in
-    let f = l .before in
-    let e = f .before .before .before in
-    (l .loop .inv .sized, omega (arith, e .pre .apart, e .pre .unit), omega (arith, l .loop .inv .five, f .fill .ensures .1))
+    let e = l .before .before in
+    (l .loop .inv .sized, omega (arith, e .pre .0 .apart, e .pre .0 .unit), omega (arith, l .loop .inv .five, l .loop .inv .most))
 
 add-unit-of : tie.Need-add-unit-of Inv-loop μ-loop
-add-unit-of c = omega (arith, c .before .before .before .before .before .before .before .pre .unit)
+add-unit-of c = omega (arith, c .before .before .before .before .before .pre .0 .unit)
 
 move-record-requires : tie.Need-move-record-requires Inv-loop μ-loop
 move-record-requires c κs =
     let u = c .before .before in
     let k = u .before in
     let l = k .before .before .before in
-    let f = l .before in
-    let e = f .before .before .before in
+    let e = l .before .before in
     let taken = k .before .before .loop-test .taken in (
-      deal-from (e .args .s .now) _ _ _ (e .pre) (f .fill .ensures .1) (l .loop .inv) taken (k .key-at .ensures) (u .unit-of .ensures .0),
-      deal-to (e .args .s .now) _ _ _ (e .pre) (f .fill .ensures .1) (l .loop .inv) taken (k .key-at .ensures) (u .unit-of .ensures .0) _ _ (e .pre .unit) (omega (arith, l .loop .inv .few)),
+      deal-from (e .args .s .now) _ _ _ (e .pre .0) (e .pre .1) (l .loop .inv) taken (k .key-at .ensures) (u .unit-of .ensures .0),
+      deal-to (e .args .s .now) _ _ _ (e .pre .0) (e .pre .1) (l .loop .inv) taken (k .key-at .ensures) (u .unit-of .ensures .0) _ _ (e .pre .0 .unit) (omega (arith, l .loop .inv .few)),
     )
 
 add-gone : tie.Need-add-gone Inv-loop μ-loop
@@ -53,11 +48,10 @@ move-record-requires-2 c κs =
     let u = c .before .before in
     let k = u .before in
     let l = k .before .before .before in
-    let f = l .before in
-    let e = f .before .before .before in
+    let e = l .before .before in
     let taken = k .before .before .loop-test .taken in (
-      deal-from (e .args .s .now) _ _ _ (e .pre) (f .fill .ensures .1) (l .loop .inv) taken (k .key-at .ensures) (u .unit-of .ensures .0),
-      deal-to (e .args .s .now) _ _ _ (e .pre) (f .fill .ensures .1) (l .loop .inv) taken (k .key-at .ensures) (u .unit-of .ensures .0) _ _ (omega (arith, e .pre .apart, e .pre .unit)) (omega (arith, l .loop .inv .few)),
+      deal-from (e .args .s .now) _ _ _ (e .pre .0) (e .pre .1) (l .loop .inv) taken (k .key-at .ensures) (u .unit-of .ensures .0),
+      deal-to (e .args .s .now) _ _ _ (e .pre .0) (e .pre .1) (l .loop .inv) taken (k .key-at .ensures) (u .unit-of .ensures .0) _ _ (omega (arith, e .pre .0 .apart, e .pre .0 .unit)) (omega (arith, l .loop .inv .few)),
     )
 
 add-kept : tie.Need-add-kept Inv-loop μ-loop
@@ -70,29 +64,26 @@ loop-again c =
     let u = c .before in
     let k = u .before in
     let l = k .before .before .before in
-    let f = l .before in
-    let e = f .before .before .before in
+    let e = l .before .before in
     let taken = k .before .before .loop-test .taken in
     ⊎-elim
-    (λ w. rw (w .5, w .6, w .7) (deal-goes (e .args .s .now) _ _ _ (e .pre) (f .fill .ensures .1) (l .loop .inv) taken (k .key-at .ensures) (u .unit-of .ensures .0) (w .0 .taken) (w .2 .ensures)))
-    (λ w. rw (w .5, w .6, w .7) (deal-stays (e .args .s .now) _ _ _ (e .pre) (f .fill .ensures .1) (l .loop .inv) taken (k .key-at .ensures) (u .unit-of .ensures .0) (w .0 .left) (w .2 .ensures)))
+    (λ w. rw (w .5, w .6, w .7) (deal-goes (e .args .s .now) _ _ _ (e .pre .0) (e .pre .1) (l .loop .inv) taken (k .key-at .ensures) (u .unit-of .ensures .0) (w .0 .taken) (w .2 .ensures)))
+    (λ w. rw (w .5, w .6, w .7) (deal-stays (e .args .s .now) _ _ _ (e .pre .0) (e .pre .1) (l .loop .inv) taken (k .key-at .ensures) (u .unit-of .ensures .0) (w .0 .left) (w .2 .ensures)))
     (c .if1 .came)
 
 clear-from-requires : tie.Need-clear-from-requires Inv-loop μ-loop
 clear-from-requires c κs =
     let l = c .before .before in
-    let f = l .before in
-    let e = f .before .before .before in
-    (l .loop .inv .sized .long, omega (arith, e .pre .apart, e .pre .unit), omega (arith, l .loop .inv .five, l .loop .inv .few, l .loop .inv .within, f .fill .ensures .1))
+    let e = l .before .before in
+    (l .loop .inv .sized .long, omega (arith, e .pre .0 .apart, e .pre .0 .unit), omega (arith, l .loop .inv .five, l .loop .inv .few, l .loop .inv .within, l .loop .inv .most))
 
 clear-from-requires-2 : tie.Need-clear-from-requires-2 Inv-loop μ-loop
 clear-from-requires-2 c κs =
     let k = c .before .before .before in
     let l = k .before .before .before in
-    let f = l .before in
-    let e = f .before .before .before in
+    let e = l .before .before in
     let h = holds-step (cleared-change (e .args .n) (l .loop .kept)) (l .loop .inv .holds) (k .clear-from .ensures) in
-    (holds-long h, e .pre .unit, omega (arith, holds-five h, l .loop .inv .few, l .loop .inv .within, f .fill .ensures .1))
+    (holds-long h, e .pre .0 .unit, omega (arith, holds-five h, l .loop .inv .few, l .loop .inv .within, l .loop .inv .most))
 
 returns : tie.Need-returns Inv-loop μ-loop
 returns c =
@@ -100,9 +91,8 @@ returns c =
     let k = k2 .before .before .before .before in
     let x = k .before .before in
     let l = x .before in
-    let f = l .before in
-    let e = f .before .before .before in
-    dealing-end (e .args .s .now) _ _ _ (e .pre) (f .fill .ensures .1) (l .loop .inv) (x .loop-test .left) (f .fill .ensures .0) (k .clear-from .ensures) (k2 .clear-from2 .ensures)
+    let e = l .before .before in
+    dealing-end (e .args .s .now) _ _ _ (e .pre .0) (e .pre .1) (l .loop .inv) (x .loop-test .left) (k .clear-from .ensures) (k2 .clear-from2 .ensures)
 
 pub deal-out-spec : {M : Type 1} → statement M
 deal-out-spec =
@@ -110,7 +100,6 @@ deal-out-spec =
     (tie.spec
     Inv-loop
     μ-loop
-    fill-requires
     loop-holds
     key-at-requires
     add-unit-of

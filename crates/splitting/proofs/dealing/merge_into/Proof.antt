@@ -1,8 +1,7 @@
 -- `splitting::dealing::merge_into` meets its contract. Assumes nothing.
 use borrow.Author.Needs.{needs}
-use Prim.Native.Nat.{_-_, _+_, _≤_}
+use Prim.Native.Nat.{_-_, _+_}
 use native.Mathlib.Omega.{arith}
-use Rattle.buffer.specs.Bytes.{byte}
 use Rattle.splitting.proofs.Holding.{holds-step, holds-long}
 use Rattle.splitting.proofs.StepLaws.{cleared-change}
 use Rattle.splitting.proofs.MergeLoop.{Merging, merging-start, merging-turn, merging-from, merging-to, merging-end}
@@ -15,36 +14,22 @@ Inv-loop s₀ n m count more t₀ s t = Merging s₀ n m more s t
 abbrev μ-loop : tie.MeasureT-loop
 μ-loop s₀ n m count more t₀ s t = more - t
 
-fill-requires : tie.Need-fill-requires Inv-loop μ-loop
-fill-requires c κs = let e = c .before .before in (e .pre .0 .sized, omega (arith, e .pre .0 .apart, e .pre .0 .unit))
-
-fill-requires-2 : tie.Need-fill-requires-2 Inv-loop μ-loop
-fill-requires-2 c κs = let e = c .before .before .before .before in (e .pre .0 .sized, e .pre .0 .unit)
-
 loop-holds : tie.Need-loop-holds Inv-loop μ-loop
-loop-holds c =
-    let f = c .before .before in
-    let e = f .before .before .before in
-    merging-start (e .args .s .now) _ _ _ _ (e .pre .0) (f .fill .ensures .0) (omega (arith, f .fill .ensures .0, c .fill2 .ensures .0, e .pre .1))
+loop-holds c = let e = c .before in merging-start (e .args .s .now) _ _ _ _ (e .pre .0) (e .pre .1) (e .pre .2) (e .pre .3)
 
 add-move-record : tie.Need-add-move-record Inv-loop μ-loop
 add-move-record c =
     let l = c .before .before in
-    let g = l .before in
-    let f = g .before .before in
-    let e = f .before .before .before in
-    omega (arith, f .fill .ensures .0, g .fill2 .ensures .0, e .pre .1, e .pre .0 .sized .ranks)
+    let e = l .before .before in
+    omega (arith, e .pre .3, e .pre .0 .sized .ranks)
 
 move-record-requires : tie.Need-move-record-requires Inv-loop μ-loop
 move-record-requires c κs =
     let l = c .before .before in
-    let g = l .before in
-    let f = g .before .before in
-    let e = f .before .before .before in
-    let room : f .fill .result + g .fill2 .result ≤ byte (e .args .s .now) 5 = omega (arith, f .fill .ensures .0, g .fill2 .ensures .0, e .pre .1) in
+    let e = l .before .before in
     let taken = c .before .loop-test .taken in (
-      merging-from (e .args .s .now) _ _ _ _ (e .pre .0) (f .fill .ensures .0) room (l .loop .inv) taken,
-      merging-to (e .args .s .now) _ _ _ _ (e .pre .0) (f .fill .ensures .0) room (l .loop .inv) taken,
+      merging-from (e .args .s .now) _ _ _ _ (e .pre .0) (e .pre .1) (e .pre .2) (e .pre .3) (l .loop .inv) taken,
+      merging-to (e .args .s .now) _ _ _ _ (e .pre .0) (e .pre .1) (e .pre .2) (e .pre .3) (l .loop .inv) taken,
     )
 
 loop-again : tie.Need-loop-again Inv-loop μ-loop
@@ -52,35 +37,26 @@ loop-again c =
     let k = c .before .before in
     let x = k .before .before in
     let l = x .before in
-    let g = l .before in
-    let f = g .before .before in
-    let e = f .before .before .before in
-    let room : f .fill .result + g .fill2 .result ≤ byte (e .args .s .now) 5 = omega (arith, f .fill .ensures .0, g .fill2 .ensures .0, e .pre .1) in
-    merging-turn (e .args .s .now) _ _ _ _ (e .pre .0) (f .fill .ensures .0) room (l .loop .inv) (x .loop-test .taken) (k .move-record .ensures)
+    let e = l .before .before in
+    merging-turn (e .args .s .now) _ _ _ _ (e .pre .0) (e .pre .1) (e .pre .2) (e .pre .3) (l .loop .inv) (x .loop-test .taken) (k .move-record .ensures)
 
 add-clear-from : tie.Need-add-clear-from Inv-loop μ-loop
 add-clear-from c =
-    let g = c .before .before .before in
-    let f = g .before .before in
-    let e = f .before .before .before in
-    omega (arith, f .fill .ensures .0, g .fill2 .ensures .0, e .pre .1, e .pre .0 .sized .ranks)
+    let e = c .before .before .before .before in
+    omega (arith, e .pre .3, e .pre .0 .sized .ranks)
 
 clear-from-requires : tie.Need-clear-from-requires Inv-loop μ-loop
 clear-from-requires c κs =
     let l = c .before .before in
-    let g = l .before in
-    let f = g .before .before in
-    let e = f .before .before .before in
-    (holds-long (l .loop .inv .holds), omega (arith, e .pre .0 .apart, e .pre .0 .unit), omega (arith, l .loop .inv .five, f .fill .ensures .0, g .fill2 .ensures .0, e .pre .1))
+    let e = l .before .before in
+    (holds-long (l .loop .inv .holds), omega (arith, e .pre .0 .apart, e .pre .0 .unit), omega (arith, l .loop .inv .five, e .pre .3))
 
 clear-from-requires-2 : tie.Need-clear-from-requires-2 Inv-loop μ-loop
 clear-from-requires-2 c κs =
     let k = c .before .before .before in
     let l = k .before .before .before in
-    let g = l .before in
-    let f = g .before .before in
-    let e = f .before .before .before in
-    let h = holds-step (cleared-change (e .args .n) (f .fill .result + g .fill2 .result)) (l .loop .inv .holds) (k .clear-from .ensures) in
+    let e = l .before .before in
+    let h = holds-step (cleared-change (e .args .n) (e .args .count + e .args .more)) (l .loop .inv .holds) (k .clear-from .ensures) in
     (holds-long h, e .pre .0 .unit, omega arith)
 
 returns : tie.Need-returns Inv-loop μ-loop
@@ -89,11 +65,8 @@ returns c =
     let k = k2 .before .before .before .before in
     let x = k .before .before in
     let l = x .before in
-    let g = l .before in
-    let f = g .before .before in
-    let e = f .before .before .before in
-    let room : f .fill .result + g .fill2 .result ≤ byte (e .args .s .now) 5 = omega (arith, f .fill .ensures .0, g .fill2 .ensures .0, e .pre .1) in
-    merging-end (e .args .s .now) _ _ _ _ (e .pre .0) (f .fill .ensures .0) room (l .loop .inv) (x .loop-test .left) (g .fill2 .ensures .0) (k .clear-from .ensures) (k2 .clear-from2 .ensures)
+    let e = l .before .before in
+    merging-end (e .args .s .now) _ _ _ _ (e .pre .0) (e .pre .1) (e .pre .2) (e .pre .3) (l .loop .inv) (x .loop-test .left) (k .clear-from .ensures) (k2 .clear-from2 .ensures)
 
 pub merge-into-spec : {M : Type 1} → statement M
 merge-into-spec =
@@ -101,8 +74,6 @@ merge-into-spec =
     (tie.spec
     Inv-loop
     μ-loop
-    fill-requires
-    fill-requires-2
     loop-holds
     add-move-record
     move-record-requires
