@@ -79,14 +79,6 @@ pub length-bytes32 : (x : ℕ) → length (bytes32 x) ≡ 4
 unfolding bytes32
 length-bytes32 x = refl
 
-pub bytes32-lt : (x i : ℕ) → byte (bytes32 x) i < 256
-unfolding bytes32
-bytes32-lt x zero = omega arith
-bytes32-lt x (suc zero) = omega arith
-bytes32-lt x (suc (suc zero)) = omega arith
-bytes32-lt x (suc (suc (suc zero))) = omega arith
-bytes32-lt x (suc (suc (suc (suc i)))) = omega arith
-
 -- a number and its quotient, by their low bytes
 halves : (x : ℕ) → x ≡ x / 65536 * 65536 + x / 256 % 256 * 256 + x % 256
 halves x = omega arith

@@ -2,6 +2,7 @@ pub mod Choice
 pub mod Range
 pub mod Bytes
 pub mod Table
+pub mod Strided
 pub mod Loops
 pub mod ChoiceLaws
 pub mod TestLaws

@@ -4,16 +4,14 @@ use mathlib.Core.Path.{_≡_, refl, sym, ap, _∙_}
 use mathlib.Core.Logic.{_⊎_, inl, inr}
 use mathlib.Core.List.{List, [], _∷_, _++_, append-assoc, append-nil}
 use Prim.Native.Nat.{ℕ, zero, suc, _+_, _*_, _≤_, _<_}
-use native.Mathlib.Nat.{le-suc-iff, mul-le-mul-left, mul-zero, mul-suc, add-zero, add-suc, not-suc-le-zero, one-mul, zero-add}
+use native.Mathlib.Nat.{le-suc-iff, mul-le-mul-left, mul-zero, mul-suc, add-zero, add-suc, not-suc-le-zero, zero-add}
 use native.Mathlib.Numerals.{add-one}
 use native.Mathlib.Omega.{arith}
 use lib.Dec.{eqb}
 use lib.ListN.{length, length-append}
 use borrow.Author.Tests.{eq-eqb, ne-eqb}
-use Rattle.buffer.specs.ChoiceLaws.{pick-true, pick-false, pick-map, by-pick}
+use Rattle.buffer.specs.ChoiceLaws.{pick-true, pick-false, pick-map}
 use Rattle.buffer.specs.Range.{sum}
-use Rattle.buffer.specs.Loops.{entries}
-use Rattle.buffer.specs.RangeLaws.{entries-of}
 use Rattle.buffer.specs.Bytes.{byte, zeros, part, splice}
 use Rattle.buffer.specs.SpliceLaws.{part-left, part-right, part-whole, part-append, splice-left, splice-right, splice-whole}
 use Rattle.buffer.specs.ByteLaws.{byte-part, zeros-append}
@@ -143,11 +141,6 @@ splice-chunk n w f h i z l =
     ∙ splice-tab n w f h i 0 w z l (omega arith)
     ∙ ap (λ x. tab n (upd f i x)) (splice-whole w z (f i) (omega (arith, h i l)))
 
--- a changed table keeps its width
-pub upd-wide : (n w : ℕ) (f : ℕ → List ℕ) → Wide n w f → (i : ℕ) (z : List ℕ) → length z ≡ w → Wide n w (upd f i z)
-unfolding upd
-upd-wide n w f h i z e k l = by-pick (λ s. length s ≡ w) (eqb k i) z (f k) (λ q. e) (λ q. h k l)
-
 -- a list cut into chunks
 cut-front : (n w : ℕ) (s : List ℕ) → tab n (λ k. part (w * k) w s) ≡ part 0 (w * n) s
 unfolding tab part
@@ -167,7 +160,3 @@ pub byte-ones : (n : ℕ) (f : ℕ → ℕ) (i : ℕ) → i < n → byte (tab n 
 byte-ones n f i l =
     let place : 1 * i + 0 ≡ i = omega arith in
     ap (λ j. byte (tab n (λ k. f k ∷ [])) j) (sym place) ∙ byte-tab n 1 (λ k. f k ∷ []) (λ k q. refl) i 0 l (omega arith)
-
-pub tab-ones : (n : ℕ) (f : ℕ → ℕ) → tab n (λ k. f k ∷ []) ≡ entries n f
-tab-ones n f =
-    entries-of (tab n (λ k. f k ∷ [])) n f (length-tab n 1 (λ k. f k ∷ []) (λ k q. refl) ∙ one-mul n) (byte-ones n f)

@@ -19,7 +19,7 @@ use Rattle.buffer.specs.TableLaws.{upd-at, upd-other}
 use Rattle.code.specs.MatrixLaws.{entry-bound}
 use Rattle.field.specs.Byte.{scale}
 use Rattle.group.specs.Body.{addBody, scaleBody}
-use Rattle.group.specs.BodyLaws.{length-add, length-scale, byte-add, byte-scale, add-swap, add-self, add-zeros, zeros-add, add-back, scale-sum, scale-zeros, add-is, IsBody}
+use Rattle.group.specs.BodyLaws.{length-add, length-scale, byte-add, byte-scale, add-swap, add-self, add-zeros, zeros-add, add-back, scale-sum, scale-zeros}
 use Rattle.group.specs.Parity.{coefficient, sum4, parity, adjusted}
 
 -- ---- a coefficient is a symbol
@@ -52,16 +52,6 @@ byte-sum4 n f h i =
     ∙ ap (λ b. bitXor b (byte (f 3) i))
     (byte-add (addBody (f 0) (f 1)) (f 2) i (two ∙ sym (h 2 (omega arith)))
     ∙ ap (λ b. bitXor b (byte (f 2) i)) (byte-add (f 0) (f 1) i (h 0 (omega arith) ∙ sym (h 1 (omega arith)))))
-
-pub sum4-is : (n : ℕ) (f : ℕ → List ℕ) → ((p : ℕ) → p < 4 → IsBody n (f p)) → IsBody n (sum4 f)
-unfolding sum4
-sum4-is n f h =
-    add-is
-    n
-    (addBody (addBody (f 0) (f 1)) (f 2))
-    (f 3)
-    (add-is n (addBody (f 0) (f 1)) (f 2) (add-is n (f 0) (f 1) (h 0 (omega arith)) (h 1 (omega arith))) (h 2 (omega arith)))
-    (h 3 (omega arith))
 
 pub sum4-add : (f g : ℕ → List ℕ) → sum4 (λ p. addBody (f p) (g p)) ≡ addBody (sum4 f) (sum4 g)
 unfolding sum4

@@ -5,16 +5,15 @@ ghost use mathlib.Core.Bool.{true};
 ghost use Prim.Native.Nat.{_+_, _≤_, _<_};
 ghost use lib.ListN.{length};
 ghost use Rattle.buffer.specs.Bytes.{byte};
-ghost use Rattle.buffer.specs.Range.{count};
 ghost use Rattle.field.specs.Table.{products};
 ghost use Rattle.field.specs.Byte.{scale};
 ghost use Rattle.code.specs.Matrix.{within};
-ghost use lib.Dec.{eqb, ltb};
+ghost use lib.Dec.{ltb};
 ghost use Rattle.group.specs.Widths.{checkBytes};
 ghost use Rattle.group.specs.Body.{addBody, scaleBody};
 ghost use Rattle.group.specs.Parity.{coefficient};
 ghost use Rattle.group.specs.CheckRecord.{patched};
-ghost use Rattle.group.specs.Members.{outs, checks, beyond, serves, next, firstFour};
+ghost use Rattle.group.specs.Members.{checks, serves, next, firstFour};
 ghost use Rattle.group.specs.Rebuilding.{weighed};
 ghost use Rattle.group.specs.Four.{fourBodies};
 
@@ -79,30 +78,8 @@ pub fn follow(
     add_scaled(&mut into[16..32], &change, coefficient(place, check), table);
 }
 
-// How many of the first states are 2, out.
-fn out_of(states: &[u8], many: u8) -> u8
-    ensures { λ r. ⌜ (r ≡ count many (λ k. eqb (byte (now (states .entry)) k) 2)) × (r ≤ many) ⌝ }
-{
-    let mut n: u8 = 0;
-    let mut i: u8 = 0;
-    while i < many {
-        if buffer::byte_at(states, buffer::wide(i)) == 2 {
-            n += 1;
-        }
-        i += 1;
-    }
-    n
-}
-
-// How many units of the group are out, by the states d of the data units and c of the check units.
-pub fn outs(d: &[u8], c: &[u8]) -> u8
-    ensures { λ r. ⌜ (r ≡ outs (byte (now (d .entry))) (byte (now (c .entry)))) × (r ≤ 7) ⌝ }
-{
-    out_of(d, 4) + out_of(c, 3)
-}
-
 // How many check units are in place, out ones counted too.
-pub fn checks_in_place(c: &[u8]) -> u8
+fn checks_in_place(c: &[u8]) -> u8
     ensures { λ r. ⌜ (r ≡ checks (byte (now (c .entry)))) × (r ≤ 3) ⌝ }
 {
     let mut n: u8 = 0;
@@ -116,11 +93,11 @@ pub fn checks_in_place(c: &[u8]) -> u8
     n
 }
 
-// Whether more units are out than the group has check units.
-pub fn beyond_recovery(d: &[u8], c: &[u8]) -> bool
-    ensures { λ r. ⌜ r ≡ beyond (byte (now (d .entry))) (byte (now (c .entry))) ⌝ }
+// Whether more units are out than the group has check units, whose states are c.
+pub fn beyond_recovery(c: &[u8], outs: u8) -> bool
+    ensures { λ r. ⌜ r ≡ ltb (checks (byte (now (c .entry)))) outs ⌝ }
 {
-    checks_in_place(c) < outs(d, c)
+    checks_in_place(c) < outs
 }
 
 // Whether a member is in service, by the states d of the data units and c of the check units: 0 to 3 the data units, 4 to 6 the check units.

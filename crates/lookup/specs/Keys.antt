@@ -12,16 +12,13 @@ use Rattle.buffer.specs.ChoiceLaws.{pick-true, pick-false}
 use Rattle.buffer.specs.Range.{first}
 use Rattle.buffer.specs.RangeLaws.{first-ext, first-le, first-misses}
 use Rattle.buffer.specs.Bytes.{byte, be32, part}
+use Rattle.buffer.specs.Strided.{strided32}
 use Rattle.buffer.specs.ByteLaws.{be32-part}
 use Rattle.buffer.specs.SpliceLaws.{part-part}
 use Rattle.group.specs.Widths.{keyBytes, slotBytes, checkBytes}
 use Rattle.model.specs.Layout.{view, slotAt, checkAt, keyOf}
 use Rattle.model.specs.Reads.{fillIn, rankIn, keeper, listedKey, listedFill, listedRank}
 use Rattle.lookup.specs.Sized.{Sized, slot-fits, check-fits}
-
--- key i of such a list
-unfoldable pub keyIn : List ℕ → ℕ → ℕ → ℕ → ℕ
-keyIn s base step i = be32 s (base + step * i)
 
 -- n keys lie within the slice
 pub record Within (s : List ℕ) (base step n : ℕ) : Type 0 where
@@ -45,8 +42,8 @@ slot-key s u r =
     ap (be32 s) (sym z) ∙ sym (be32-part at slotBytes s 0 (omega arith))
 
 -- ---- the keys of a data unit, as a list
-pub unit-key : (s : List ℕ) (u r : ℕ) → keyIn s (slotAt (byte s 5) u 0) slotBytes r ≡ keyOf (view s .slot u r)
-unfolding keyIn
+pub unit-key : (s : List ℕ) (u r : ℕ) → strided32 s (slotAt (byte s 5) u 0) slotBytes r ≡ keyOf (view s .slot u r)
+unfolding strided32
 unit-key s u r =
     let e : slotAt (byte s 5) u 0 + slotBytes * r ≡ slotAt (byte s 5) u r = omega arith in
     ap (be32 s) e ∙ slot-key s u r
@@ -84,8 +81,8 @@ pub record Lists (s : List ℕ) (u base step : ℕ) : Type 0 where
   pub bytes : (r : ℕ) → part (base + step * r) keyBytes s ≡ listedKey (view s) u r
   pub within : Within s base step (byte s 5)
 
-pub lists-key : {s : List ℕ} {u base step : ℕ} → Lists s u base step → (r : ℕ) → keyIn s base step r ≡ keyOf (listedKey (view s) u r)
-unfolding keyIn keyOf
+pub lists-key : {s : List ℕ} {u base step : ℕ} → Lists s u base step → (r : ℕ) → strided32 s base step r ≡ keyOf (listedKey (view s) u r)
+unfolding strided32 keyOf
 lists-key {s} {u} {base} {step} h r =
     let at : ℕ = base + step * r in
     let z : at + 0 ≡ at = omega arith in
@@ -128,7 +125,7 @@ module _ {s : List ℕ} {u : ℕ} (known : Known s u) where
       }
 
 -- ---- a search through the keys finds what the definitions say
-pub rank-found : (s : List ℕ) (u n r at key : ℕ) → at ≡ slotAt (byte s 5) u 0 → r ≡ first n (λ i. eqb (keyIn s at slotBytes i) key)
+pub rank-found : (s : List ℕ) (u n r at key : ℕ) → at ≡ slotAt (byte s 5) u 0 → r ≡ first n (λ i. eqb (strided32 s at slotBytes i) key)
     → r ≡ first n (λ q. eqb (keyOf (view s .slot u q)) key)
 rank-found s u n r at key ea er = er ∙ rw ea (first-ext n _ _ (λ k l. ap (λ x. eqb x key) (unit-key s u k)))
 
@@ -137,7 +134,7 @@ unfolding rankIn
 rank-in s u n r key en er = er ∙ rw en
 
 module _ {s : List ℕ} {u base step : ℕ} (lists : Lists s u base step) where
-  pub listed-rank-found : (n r key : ℕ) → n ≡ listedFill (view s) u → r ≡ first n (λ i. eqb (keyIn s base step i) key) → r ≡ listedRank (view s) u key
+  pub listed-rank-found : (n r key : ℕ) → n ≡ listedFill (view s) u → r ≡ first n (λ i. eqb (strided32 s base step i) key) → r ≡ listedRank (view s) u key
   unfolding listedRank
   listed-rank-found n r key en er = er ∙ rw en (first-ext (listedFill (view s) u) _ _ (λ k l. ap (λ x. eqb x key) (lists-key lists k)))
 

@@ -15,7 +15,8 @@ ghost use Rattle.model.specs.Units.{powerBelow, splitPointer, unitOf};
 ghost use Rattle.model.specs.Layout.{view, slotAt, checkAt, keyOf};
 ghost use Rattle.model.specs.Reads.{stateIn, outsIn, beyondIn, servesIn, holds, keeper, listedFill, listedRank, wholeSlot, lostIn};
 ghost use Rattle.lookup.specs.Sized.{Sized};
-ghost use Rattle.lookup.specs.Keys.{keyIn, Within, keysAt, Known, Lists};
+ghost use Rattle.buffer.specs.Strided.{strided32};
+ghost use Rattle.lookup.specs.Keys.{Within, keysAt, Known, Lists};
 ghost use Rattle.lookup.specs.Groups.{Recoverable};
 ghost use Rattle.lookup.specs.Slots.{heldAt, Recipe};
 
@@ -103,7 +104,7 @@ pub fn state(s: &[u8], w: u8) -> u8
 // branch depends on where the key is.
 fn find(s: &[u8], base: usize, step: usize, n: u8, key: u32) -> u8
     requires { ⌜ Within (now s) base step n ⌝ }
-    ensures { λ r. ⌜ (r ≡ first n (λ i. eqb (keyIn (now (s .entry)) base step i) key)) × (r ≤ n) ⌝ }
+    ensures { λ r. ⌜ (r ≡ first n (λ i. eqb (strided32 (now (s .entry)) base step i) key)) × (r ≤ n) ⌝ }
 {
     let mut found = n;
     let mut i = n;
@@ -211,7 +212,7 @@ pub fn beyond(s: &[u8], g: u8, outs: u8) -> bool
     requires { ⌜ Sized (now s) × (g < 4) × (outs ≡ outsIn (view (now s)) g) ⌝ }
     ensures { λ r. ⌜ r ≡ beyondIn (view (now (s .entry))) g ⌝ }
 {
-    group::checks_in_place(check_states(s, g)) < outs
+    group::beyond_recovery(check_states(s, g), outs)
 }
 
 // The first four members in service of group g.

@@ -15,7 +15,8 @@ use Rattle.buffer.specs.Bytes.{byte, be32, zeros}
 use Rattle.model.specs.Layout.{view, checkAt}
 use Rattle.model.specs.Reads.{keeper}
 use Rattle.model.specs.Sound.{same}
-use Rattle.soundness.specs.Keys.{keyFrom, samePair, sameLists}
+use Rattle.buffer.specs.Strided.{strided32}
+use Rattle.soundness.specs.Keys.{samePair, sameLists}
 use Rattle.soundness.specs.Pieces.{Ranged, zeroBetween, checkGood}
 use Rattle.soundness.proofs.Joined.{unless}
 use Rattle.soundness.proofs.Places.{row-within}
@@ -23,7 +24,7 @@ use Rattle.soundness.proofs.Zeros.{zero-range, range-zero, check-zero, 
 
 -- the key at rank r that check unit c lists for place p of its group
 abbrev pub checkKey : List ℕ → ℕ → ℕ → ℕ → ℕ
-checkKey s c p r = keyFrom s (checkAt (byte s 5) c 0 + 4 * p) 32 r
+checkKey s c p r = strided32 s (checkAt (byte s 5) c 0 + 4 * p) 32 r
 
 pub record Check (s : List ℕ) (c : ℕ) : Type 0 where
   pub zero : (r : ℕ) → r < byte s 5 → (eqb (byte s (24 + c)) 1 || same (view s .check c r) (zeros 32)) ≡ true
@@ -32,10 +33,10 @@ pub record Check (s : List ℕ) (c : ℕ) : Type 0 where
 -- the four keys of each record, pair by pair
 module _ (s : List ℕ) (x y b : ℕ) where
   Four : ℕ → Type 0
-  Four r = (p : ℕ) → p < 4 → keyFrom s (x + 4 * p) 32 r ≡ keyFrom s (y + 4 * p) 32 r
+  Four r = (p : ℕ) → p < 4 → strided32 s (x + 4 * p) 32 r ≡ strided32 s (y + 4 * p) 32 r
 
   lists-true : sameLists s x y b ≡ true → (r : ℕ) → r < b → Four r
-  unfolding sameLists samePair keyFrom Four
+  unfolding sameLists samePair strided32 Four
   lists-true h r l =
       let q = all-true b (λ r. samePair s (x + 32 * r) (y + 32 * r) && samePair s (x + 32 * r + 8) (y + 32 * r + 8)) h r l in
       let one = and-first (samePair s (x + 32 * r) (y + 32 * r)) _ q in
@@ -56,7 +57,7 @@ module _ (s : List ℕ) (x y b : ℕ) where
       moved i j k l e f g = ap (be32 s) e ∙ g ∙ sym (ap (be32 s) f)
 
   lists-holds : ((r : ℕ) → r < b → Four r) → sameLists s x y b ≡ true
-  unfolding sameLists samePair keyFrom Four
+  unfolding sameLists samePair strided32 Four
   lists-holds h =
       all-holds b (λ r. samePair s (x + 32 * r) (y + 32 * r) && samePair s (x + 32 * r + 8) (y + 32 * r + 8)) (λ r l.
       and-true

@@ -15,7 +15,8 @@ use Rattle.buffer.specs.Bytes.{byte}
 use Rattle.group.specs.Members.{outs}
 use Rattle.model.specs.Layout.{view, slotAt, checkAt}
 use Rattle.model.specs.Reads.{keeper, outsIn}
-use Rattle.soundness.specs.Keys.{keyFrom, fillOf, reached, sameKeys, noKeys, sameLists}
+use Rattle.buffer.specs.Strided.{strided32}
+use Rattle.soundness.specs.Keys.{fillOf, reached, sameKeys, noKeys, sameLists}
 use Rattle.soundness.specs.Pieces.{Kept, zeroBetween, dataKeys, columnKeys, columnAt, unkept, dataFill, columnFill}
 use Rattle.soundness.proofs.Places.{data-list, column-list}
 
@@ -62,11 +63,11 @@ keeper-before s c e =
 
 -- ---- what the callees found at the places that the code computed: unit u's slots at `at`, its b ranks as `w`, its column at `to`
 module _ (s : List ℕ) (u : ℕ) {w : ℕ} (width : w ≡ byte s 5) where
-  pub data-fill : {at n : ℕ} → at ≡ slotAt (byte s 5) u 0 → n ≡ reached w (byte s 6) u (keyFrom s at 20) → n ≡ dataFill s u
+  pub data-fill : {at n : ℕ} → at ≡ slotAt (byte s 5) u 0 → n ≡ reached w (byte s 6) u (strided32 s at 20) → n ≡ dataFill s u
   unfolding dataFill
   data-fill e f = f ∙ ap₂ (λ b key. reached b (byte s 6) u key) width (data-list s u e)
 
-  pub column-fill : {to n : ℕ} → to ≡ columnAt s u → n ≡ reached w (byte s 6) u (keyFrom s to 32) → n ≡ columnFill s u
+  pub column-fill : {to n : ℕ} → to ≡ columnAt s u → n ≡ reached w (byte s 6) u (strided32 s to 32) → n ≡ columnFill s u
   unfolding columnFill
   column-fill e f = f ∙ ap₂ (λ b key. reached b (byte s 6) u key) width (column-list s u e)
 
@@ -82,12 +83,12 @@ module _ (s : List ℕ) (u : ℕ) {w : ℕ} (width : w ≡ byte s 5) where
       → r ≡ zeroBetween s (slotAt (byte s 5) u 0 + 20 * dataFill s u) (slotAt (byte s 5) u 0 + 20 * byte s 5)
   rest-zero e f h = h ∙ ap₂ (zeroBetween s) (ap₂ (λ a k. a + 20 * k) e f) (end e)
 
-  pub column-same : {at to : ℕ} {r : Bool} → at ≡ slotAt (byte s 5) u 0 → to ≡ columnAt s u → r ≡ sameKeys w (keyFrom s at 20) (keyFrom s to 32)
+  pub column-same : {at to : ℕ} {r : Bool} → at ≡ slotAt (byte s 5) u 0 → to ≡ columnAt s u → r ≡ sameKeys w (strided32 s at 20) (strided32 s to 32)
       → r ≡ sameKeys (byte s 5) (dataKeys s u) (columnKeys s u)
   column-same e f h = h ∙ ap₂ (sameKeys w) (data-list s u e) (column-list s u f) ∙ ap (λ b. sameKeys b (dataKeys s u) (columnKeys s u)) width
 
-  pub column-none : {to n k : ℕ} {r : Bool} → to ≡ columnAt s u → n ≡ k → r ≡ noKeys n w (keyFrom s to 32) → r ≡ noKeys k (byte s 5) (columnKeys s u)
-  column-none {to} {k = k} e f h = h ∙ ap₂ (λ i b. noKeys i b (keyFrom s to 32)) f width ∙ ap (noKeys k (byte s 5)) (column-list s u e)
+  pub column-none : {to n k : ℕ} {r : Bool} → to ≡ columnAt s u → n ≡ k → r ≡ noKeys n w (strided32 s to 32) → r ≡ noKeys k (byte s 5) (columnKeys s u)
+  column-none {to} {k = k} e f h = h ∙ ap₂ (λ i b. noKeys i b (strided32 s to 32)) f width ∙ ap (noKeys k (byte s 5)) (column-list s u e)
 
 -- ---- and of a check unit
 module _ (s : List ℕ) (c : ℕ) {w at : ℕ} (width : w ≡ byte s 5) (place : at ≡ checkAt (byte s 5) c 0) where

@@ -10,7 +10,7 @@ use Rattle.buffer.specs.Bytes.{byte, be32, part}
 use Rattle.buffer.specs.ByteLaws.{be32-part}
 use Rattle.model.specs.Layout.{view, keyOf, slotAt, checkAt}
 use Rattle.model.specs.Reads.{keeper, listedKey}
-use Rattle.soundness.specs.Keys.{keyFrom}
+use Rattle.buffer.specs.Strided.{strided32}
 use Rattle.soundness.specs.Pieces.{dataKeys, columnAt, columnKeys}
 
 -- the key of a list's first four bytes
@@ -21,14 +21,14 @@ key-take x = unfold part in be32-part 0 4 x 0 (omega arith)
 module _ (s : List ℕ) where
   -- a slot's key
   pub slot-key : (u r : ℕ) → keyOf (view s .slot u r) ≡ dataKeys s u r
-  unfolding keyOf view dataKeys keyFrom
+  unfolding keyOf view dataKeys strided32
   slot-key u r =
       let at : slotAt (byte s 5) u r + 0 ≡ slotAt (byte s 5) u 0 + 20 * r = omega arith in
       be32-part (slotAt (byte s 5) u r) 20 s 0 (omega arith) ∙ ap (be32 s) at
 
   -- the key at a place of a check record
-  pub check-key : (c p r : ℕ) → p < 4 → keyOf (part (4 * p) 4 (view s .check c r)) ≡ keyFrom s (checkAt (byte s 5) c 0 + 4 * p) 32 r
-  unfolding keyOf view keyFrom
+  pub check-key : (c p r : ℕ) → p < 4 → keyOf (part (4 * p) 4 (view s .check c r)) ≡ strided32 s (checkAt (byte s 5) c 0 + 4 * p) 32 r
+  unfolding keyOf view strided32
   check-key c p r h =
       let at : checkAt (byte s 5) c r + (4 * p + 0) ≡ checkAt (byte s 5) c 0 + 4 * p + 32 * r = omega arith in
       be32-part (4 * p) 4 (part (checkAt (byte s 5) c r) 32 s) 0 (omega arith)

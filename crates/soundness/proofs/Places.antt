@@ -8,7 +8,8 @@ use lib.ListN.{length}
 use Rattle.buffer.specs.Bytes.{byte}
 use Rattle.model.specs.Layout.{view, slotAt, checkAt}
 use Rattle.model.specs.Reads.{keeper}
-use Rattle.soundness.specs.Keys.{keyFrom, Within}
+use Rattle.buffer.specs.Strided.{strided32}
+use Rattle.soundness.specs.Keys.{Within}
 use Rattle.soundness.specs.Pieces.{dataKeys, columnAt, columnKeys}
 
 -- row u of n rows of b ends within them
@@ -27,10 +28,10 @@ pub column-place : (s : List ℕ) (u : ℕ) {k at p : ℕ} → k ≡ keeper (vie
 unfolding columnAt
 column-place s u {k} {at} {p} e f g = ap₂ (λ x y. x + 4 * y) (f ∙ ap (λ c. checkAt (byte s 5) c 0) e) g
 
-pub column-list : (s : List ℕ) (u : ℕ) {at : ℕ} → at ≡ columnAt s u → keyFrom s at 32 ≡ columnKeys s u
+pub column-list : (s : List ℕ) (u : ℕ) {at : ℕ} → at ≡ columnAt s u → strided32 s at 32 ≡ columnKeys s u
 unfolding columnKeys
-column-list s u e = ap (λ x. keyFrom s x 32) e
+column-list s u e = ap (λ x. strided32 s x 32) e
 
-pub data-list : (s : List ℕ) (u : ℕ) {at : ℕ} → at ≡ slotAt (byte s 5) u 0 → keyFrom s at 20 ≡ dataKeys s u
+pub data-list : (s : List ℕ) (u : ℕ) {at : ℕ} → at ≡ slotAt (byte s 5) u 0 → strided32 s at 20 ≡ dataKeys s u
 unfolding dataKeys
-data-list s u e = ap (λ x. keyFrom s x 20) e
+data-list s u e = ap (λ x. strided32 s x 20) e

@@ -16,7 +16,8 @@ use Rattle.buffer.specs.Bytes.{byte, be32, part, zeros}
 use Rattle.model.specs.Layout.{view, version, storeBytes, keyOf, unitsIn, levelIn, checkAt}
 use Rattle.model.specs.Reads.{fillIn, keeper, listedKey, listedFill}
 use Rattle.model.specs.Sound.{same, ranges, unitsPlaced, groupsPlaced, zeroed, keysKnown, keysPlaced, listsAgree, sound}
-use Rattle.soundness.specs.Keys.{keyFrom, fillOf, isNew, ownAndNew}
+use Rattle.buffer.specs.Strided.{strided32}
+use Rattle.soundness.specs.Keys.{fillOf, isNew, ownAndNew}
 use Rattle.soundness.specs.Pieces.{Ranged, placed, groupPlaced, columnAt, columnKeys, unkept, unitGood, checkGood, pieces}
 use Rattle.soundness.proofs.Joined.{second, unless, and-assoc}
 use Rattle.soundness.proofs.Endings.{keeper-before}
@@ -94,7 +95,7 @@ module _ (s : List ℕ) where
   place-column g p r h k =
       let e : (4 * g + p) / 4 ≡ g = omega arith in
       let f : (4 * g + p) % 4 ≡ p = omega arith in
-      ap₂ (λ i j. keyFrom s (checkAt (byte s 5) (keeper (view s) i) 0 + 4 * j) 32 r) e f
+      ap₂ (λ i j. strided32 s (checkAt (byte s 5) (keeper (view s) i) 0 + 4 * j) 32 r) e f
 
   -- check unit c in service lists, for each place of its group, the keys of the unit there
   abbrev Agree : ℕ → Type 0

@@ -16,7 +16,8 @@ use Rattle.buffer.specs.Bytes.{byte, be32, zeros}
 use Rattle.model.specs.Layout.{view, keyOf, slotAt}
 use Rattle.model.specs.Reads.{fillIn, keeper, listedKey, listedFill}
 use Rattle.model.specs.Sound.{same, keysKnown}
-use Rattle.soundness.specs.Keys.{keyFrom, fillOf, ownAndNew, reached, sameKeys, noKeys}
+use Rattle.buffer.specs.Strided.{strided32}
+use Rattle.soundness.specs.Keys.{fillOf, ownAndNew, reached, sameKeys, noKeys}
 use Rattle.soundness.specs.Pieces.{Ranged, placed, zeroBetween, dataKeys, columnKeys, unkept, dataFill, columnFill, lostFill, served, lost, absent, unitGood, unitFill}
 use Rattle.soundness.specs.Survey.{keysLost, knownFill}
 use Rattle.soundness.proofs.Joined.{or-right, or-left, either, behind, second, unless, once}
@@ -43,7 +44,7 @@ module _ (s : List ℕ) (u : ℕ) where
   fill-in = first-ext (byte s 5) _ _ (λ r _. ap (λ k. eqb k 0) (slot-key s u r))
 
   data-zero : (n : ℕ) → Zero s (slotAt (byte s 5) u 0 + 20 * n) (slotAt (byte s 5) u 0 + 20 * byte s 5) → (r : ℕ) → n ≤ r → r < byte s 5 → dataKeys s u r ≡ 0
-  unfolding dataKeys keyFrom
+  unfolding dataKeys strided32
   data-zero n z r l k = key-zero s (slotAt (byte s 5) u 0 + 20 * r) (λ i p q. z i (omega arith) (omega arith))
 
   -- whether a unit's keys are known, by its state

@@ -10,10 +10,6 @@ use Rattle.buffer.specs.Range.{all, first}
 use Rattle.buffer.specs.Bytes.{byte, be32}
 use Rattle.model.specs.Units.{unitOf}
 
--- the key at a rank of a list whose keys stand `step` bytes apart, from `base` on
-unfoldable pub keyFrom : List ℕ → ℕ → ℕ → ℕ → ℕ
-keyFrom s base step r = be32 s (base + step * r)
-
 -- the bytes have such a list of b keys
 pub record Within (s : List ℕ) (base step b : ℕ) : Type 0 where
   pub reach : (r : ℕ) → r < b → base + step * r + 4 ≤ length s

@@ -13,7 +13,8 @@ use Rattle.buffer.specs.Loops.{allZero}
 use Rattle.model.specs.Layout.{view, storeBytes, slotAt, checkAt}
 use Rattle.model.specs.Reads.{keeper}
 use Rattle.model.specs.Sound.{ranges, checksIn, checksAllowed}
-use Rattle.soundness.specs.Keys.{keyFrom, reached, sameKeys, noKeys, sameLists}
+use Rattle.buffer.specs.Strided.{strided32}
+use Rattle.soundness.specs.Keys.{reached, sameKeys, noKeys, sameLists}
 
 -- what the later pieces rely on: the store's units lie within the bytes
 pub record Ranged (s : List ℕ) : Type 0 where
@@ -44,13 +45,13 @@ groupPlaced s g =
 
 -- ---- a data unit: its own keys, and those that the first check unit in service of its group lists for it
 unfoldable pub dataKeys : List ℕ → ℕ → ℕ → ℕ
-dataKeys s u = keyFrom s (slotAt (byte s 5) u 0) 20
+dataKeys s u = strided32 s (slotAt (byte s 5) u 0) 20
 
 unfoldable pub columnAt : List ℕ → ℕ → ℕ
 columnAt s u = checkAt (byte s 5) (keeper (view s) (u / 4)) 0 + 4 * (u % 4)
 
 unfoldable pub columnKeys : List ℕ → ℕ → ℕ → ℕ
-columnKeys s u = keyFrom s (columnAt s u) 32
+columnKeys s u = strided32 s (columnAt s u) 32
 
 -- no check unit of the group is in service
 unfoldable pub unkept : List ℕ → ℕ → Bool

@@ -14,7 +14,8 @@ ghost use Rattle.model.specs.Units.{unitOf, powerBelow};
 ghost use Rattle.model.specs.Layout.{view, slotAt, checkAt};
 ghost use Rattle.model.specs.Reads.{keeper, outsIn};
 ghost use Rattle.model.specs.Sound.{ranges, checksIn, sound};
-ghost use Rattle.soundness.specs.Keys.{keyFrom, Within, placeOf, isNew, reached, sameKeys, noKeys, le32, samePair, sameLists};
+ghost use Rattle.buffer.specs.Strided.{strided32};
+ghost use Rattle.soundness.specs.Keys.{Within, placeOf, isNew, reached, sameKeys, noKeys, le32, samePair, sameLists};
 ghost use Rattle.soundness.specs.Pieces.{Ranged, Kept, placed, groupPlaced, zeroBetween, dataFill, lostFill, served, lost, absent, unitCount, checkGood};
 ghost use Rattle.soundness.specs.Survey.{Counted, Nothing, Surveyed};
 
@@ -34,7 +35,7 @@ fn wide64(x: u32) -> u64
 
 fn key(s: &[u8], base: usize, step: usize, r: usize) -> u32
     requires { ⌜ base + step * r + 4 ≤ length (now s) ⌝ }
-    ensures { λ k. ⌜ k ≡ keyFrom (now (s .entry)) base step r ⌝ }
+    ensures { λ k. ⌜ k ≡ strided32 (now (s .entry)) base step r ⌝ }
 {
     buffer::load32(s, base + step * r)
 }
@@ -42,7 +43,7 @@ fn key(s: &[u8], base: usize, step: usize, r: usize) -> u32
 // Whether a key is none of the first n of a list.
 fn is_new(s: &[u8], base: usize, step: usize, n: usize, k: u32) -> bool
     requires { ⌜ Within (now s) base step n ⌝ }
-    ensures { λ r. ⌜ r ≡ isNew n (keyFrom (now (s .entry)) base step) k ⌝ }
+    ensures { λ r. ⌜ r ≡ isNew n (strided32 (now (s .entry)) base step) k ⌝ }
 {
     let mut q = 0;
     while q < n {
@@ -97,7 +98,7 @@ fn mask_of(m: u8, u: u8) -> u32
 // in the table; only a key that finds the stamp already there is compared with those before it. What the table held before does not matter.
 fn reach(t: &mut [u8; 2048], s: &[u8], base: usize, step: usize, b: usize, m: u8, u: u8) -> usize
     requires { ⌜ Within (now s) base step b × (1 ≤ m) × (m ≤ 16) × (u < m) × (length (now t) ≡ 2048) ⌝ }
-    ensures { λ r. ⌜ (r ≡ reached b m u (keyFrom (now (s .entry)) base step)) × (length (now (t .exit)) ≡ 2048) ⌝ }
+    ensures { λ r. ⌜ (r ≡ reached b m u (strided32 (now (s .entry)) base step)) × (length (now (t .exit)) ≡ 2048) ⌝ }
 {
     let mask = mask_of(m, u);
     let own = wide32(u);
@@ -126,7 +127,7 @@ fn reach(t: &mut [u8; 2048], s: &[u8], base: usize, step: usize, b: usize, m: u8
 // Whether the slots of a unit have the keys that a check unit lists for it.
 fn same_column(s: &[u8], slots: usize, column: usize, b: usize) -> bool
     requires { ⌜ Within (now s) slots 20 b × Within (now s) column 32 b ⌝ }
-    ensures { λ r. ⌜ r ≡ sameKeys b (keyFrom (now (s .entry)) slots 20) (keyFrom (now (s .entry)) column 32) ⌝ }
+    ensures { λ r. ⌜ r ≡ sameKeys b (strided32 (now (s .entry)) slots 20) (strided32 (now (s .entry)) column 32) ⌝ }
 {
     let mut r = 0;
     while r < b {
@@ -141,7 +142,7 @@ fn same_column(s: &[u8], slots: usize, column: usize, b: usize) -> bool
 // Whether a check unit lists no key from rank n on.
 fn no_keys(s: &[u8], column: usize, n: usize, b: usize) -> bool
     requires { ⌜ Within (now s) column 32 b × (n ≤ b) ⌝ }
-    ensures { λ r. ⌜ r ≡ noKeys n b (keyFrom (now (s .entry)) column 32) ⌝ }
+    ensures { λ r. ⌜ r ≡ noKeys n b (strided32 (now (s .entry)) column 32) ⌝ }
 {
     let mut r = n;
     while r < b {

@@ -7,13 +7,14 @@ use borrow.Author.Needs.{needs}
 use Rattle.buffer.specs.Bytes.{be32}
 use Rattle.buffer.specs.LoopTests.{Seeking, seeking-start, seeking-hit, seeking-miss, seeking-end}
 use Rattle.buffer.specs.TestLaws.{is-eq, is-ne}
-use Rattle.lookup.specs.Keys.{keyIn, place-near}
+use Rattle.buffer.specs.Strided.{strided32}
+use Rattle.lookup.specs.Keys.{place-near}
 use Rattle.lookup.proofs.find.Statement.{statement}
 use Rattle.lookup.proofs.find.Tie as tie
 
 -- from key i on, the first that is the one is found
 abbrev Inv-loop : tie.InvT-loop
-Inv-loop s base step n key found₀ i₀ found i = Seeking (λ (k : ℕ). eqb (keyIn s base step k) key) n i found
+Inv-loop s base step n key found₀ i₀ found i = Seeking (λ (k : ℕ). eqb (strided32 s base step k) key) n i found
 
 abbrev μ-loop : tie.MeasureT-loop
 μ-loop s base step n key found₀ i₀ found i = i
@@ -36,14 +37,14 @@ load32-requires c κs =
     omega (arith, c .before .before .before .before .pre .fits (c .wide .result) (omega (arith, c .wide .ensures, l .inv .least, l .inv .most, c .before .loop-test .taken)))
 
 loop-again : tie.Need-loop-again Inv-loop μ-loop
-unfolding keyIn
+unfolding strided32
 loop-again c =
     let l = c .before .before .before .before .loop in
     let a = c .before .before .before .before .before .before .args in
     seeking-hit (l .inv) (omega (arith, c .before .before .before .loop-test .taken)) (is-eq (c .before .load32 .ensures ∙ ap (λ (i : ℕ). be32 (a .s .now) (a .base + a .step * i)) (c .before .before .wide .ensures .0)) refl (c .if1 .taken))
 
 loop-again-2 : tie.Need-loop-again-2 Inv-loop μ-loop
-unfolding keyIn
+unfolding strided32
 loop-again-2 c =
     let l = c .before .before .before .before .loop in
     let a = c .before .before .before .before .before .before .args in

@@ -8,7 +8,8 @@ use borrow.Author.Needs.{needs}
 use Rattle.buffer.specs.Bytes.{be32, zeros}
 use Rattle.model.specs.Layout.{view, keyOf}
 use Rattle.model.specs.Reads.{listedKey}
-use Rattle.lookup.specs.Keys.{keyIn, Lists, place-near, lists-key}
+use Rattle.buffer.specs.Strided.{strided32}
+use Rattle.lookup.specs.Keys.{Lists, place-near, lists-key}
 use Rattle.lookup.specs.Slots.{recipe-keys, out-key-long, body-rebuilt, slot-rebuilt, slot-none}
 use Rattle.lookup.proofs.Lent.{part-lent, body-room, two-parts}
 use Rattle.lookup.proofs.rebuild_slot.Statement.{statement}
@@ -16,7 +17,7 @@ use Rattle.lookup.proofs.rebuild_slot.Tie as tie
 
 -- the number that code reads where the key of rank r is listed is that key
 key-read : {s : List ℕ} {u base step : ℕ} → Lists s u base step → (r i : ℕ) {k : ℕ} → i ≡ r → k ≡ be32 s (base + step * i) → k ≡ keyOf (listedKey (view s) u r)
-unfolding keyIn
+unfolding strided32
 key-read {s} {u} {base} {step} lists r i ei e = e ∙ ap (λ j. be32 s (base + step * j)) ei ∙ lists-key lists r
 
 add-at : tie.Need-add-at

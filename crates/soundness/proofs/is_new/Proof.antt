@@ -6,12 +6,13 @@ use lib.Dec.{eqb}
 use borrow.Author.Needs.{needs}
 use Rattle.buffer.specs.TestLaws.{is-eq, is-ne}
 use Rattle.buffer.specs.LoopTests.{Passing, passing-start, passing-turn, passing-fail, passing-end}
-use Rattle.soundness.specs.Keys.{keyFrom, isNew}
+use Rattle.buffer.specs.Strided.{strided32}
+use Rattle.soundness.specs.Keys.{isNew}
 use Rattle.soundness.proofs.is_new.Statement.{statement}
 use Rattle.soundness.proofs.is_new.Tie as tie
 
 abbrev Inv-loop : tie.InvT-loop
-Inv-loop s base step n k q₀ q = Passing (λ i. not (eqb (keyFrom s base step i) k)) n q
+Inv-loop s base step n k q₀ q = Passing (λ i. not (eqb (strided32 s base step i) k)) n q
 
 abbrev μ-loop : tie.MeasureT-loop
 μ-loop s base step n k q₀ q = n - q

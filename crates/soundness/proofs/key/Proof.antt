@@ -1,11 +1,11 @@
 -- `soundness::key` meets its contract. Assumes nothing.
 use borrow.Author.Needs.{needs}
-use Rattle.soundness.specs.Keys.{keyFrom}
+use Rattle.buffer.specs.Strided.{strided32}
 use Rattle.soundness.proofs.key.Statement.{statement}
 use Rattle.soundness.proofs.key.Tie as tie
 
 returns : tie.Need-returns
-unfolding keyFrom
+unfolding strided32
 returns c = c .load32 .ensures
 
 pub key-spec : {M : Type 1} → statement M

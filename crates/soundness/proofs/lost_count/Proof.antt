@@ -5,7 +5,7 @@ use borrow.Author.Needs.{needs}
 use Rattle.buffer.specs.Choice.{pick}
 use Rattle.buffer.specs.Bytes.{byte}
 use Rattle.buffer.specs.TestLaws.{is-no, is-yes, is-le, not-le}
-use Rattle.soundness.specs.Keys.{keyFrom}
+use Rattle.buffer.specs.Strided.{strided32}
 use Rattle.soundness.specs.Pieces.{lost, lostFill}
 use Rattle.soundness.proofs.Places.{within-column, column-place}
 use Rattle.soundness.proofs.Endings.{reached-le, is-unkept, is-kept, column-fill, unit-zero, column-none}
@@ -63,7 +63,7 @@ no-keys-requires c κs =
     let s = start .args .s .now in
     let at = to .checks-at .result in
     let p = found .before .before .wide2 .result in
-    let l = reached-le (place .before .wide .result) (byte s 6) (start .args .u) (keyFrom s (at + 4 * p) 32) (found .reach .ensures .0) (c .if3 .left) in
+    let l = reached-le (place .before .wide .result) (byte s 6) (start .args .u) (strided32 s (at + 4 * p) 32) (found .reach .ensures .0) (c .if3 .left) in
     (within-column at p (search needs) (search needs) (search needs), l)
 
 returns-4 : tie.Need-returns-4

@@ -6,13 +6,14 @@ use native.Mathlib.Omega.{arith}
 use lib.Bits.{bitAnd}
 use borrow.Author.Needs.{needs}
 use Rattle.buffer.specs.TestLaws.{is-eq, is-ne, is-no, is-yes}
-use Rattle.soundness.specs.Keys.{keyFrom, placeOf, isNew}
+use Rattle.buffer.specs.Strided.{strided32}
+use Rattle.soundness.specs.Keys.{placeOf, isNew}
 use Rattle.soundness.proofs.Reaching.{Reaching, reaching-start, reaching-turn, reaching-new, own-new, not-own, not-new, reaching-stop, reaching-full, reaching-fail}
 use Rattle.soundness.proofs.reach.Statement.{statement}
 use Rattle.soundness.proofs.reach.Tie as tie
 
 abbrev Inv-loop : tie.InvT-loop
-Inv-loop t₀ s base step b m u mask own stamp r₀ t r = Reaching (keyFrom s base step) b m u stamp t r
+Inv-loop t₀ s base step b m u mask own stamp r₀ t r = Reaching (strided32 s base step) b m u stamp t r
 
 abbrev μ-loop : tie.MeasureT-loop
 μ-loop t₀ s base step b m u mask own stamp r₀ t r = b - r
@@ -31,7 +32,7 @@ returns c =
 returns-2 : tie.Need-returns-2 Inv-loop μ-loop
 returns-2 c =
     let given = c .before .before .before .before .before .before .before .before .args in
-    let keys = keyFrom (given .s .now) (given .base) (given .step) in
+    let keys = strided32 (given .s .now) (given .base) (given .step) in
     let turn = c .before .before .before .before .loop in
     let key = c .before .before .key .ensures in
     let some = is-ne key refl (c .before .if1 .left) in
@@ -45,7 +46,7 @@ is-new-requires c κs = record { reach = λ q l. c .before .before .before .befo
 returns-3 : tie.Need-returns-3 Inv-loop μ-loop
 returns-3 c =
     let given = c .before .before .before .before .before .before .before .before .before .before .before .before .before .args in
-    let keys = keyFrom (given .s .now) (given .base) (given .step) in
+    let keys = strided32 (given .s .now) (given .base) (given .step) in
     let turn = c .before .before .before .before .before .before .before .before .before .loop in
     let key = c .before .before .before .before .before .before .before .key .ensures in
     let some = is-ne key refl (c .before .before .before .before .before .before .if1 .left) in
@@ -55,7 +56,7 @@ returns-3 c =
 loop-again : tie.Need-loop-again Inv-loop μ-loop
 loop-again c =
     let given = c .before .before .before .before .before .before .before .before .before .before .before .args in
-    let keys = keyFrom (given .s .now) (given .base) (given .step) in
+    let keys = strided32 (given .s .now) (given .base) (given .step) in
     let turn = c .before .before .before .before .before .before .before .loop in
     let key = c .before .before .before .before .before .key .ensures in
     let some = is-ne key refl (c .before .before .before .before .if1 .left) in

@@ -4,12 +4,13 @@ use lib.Dec.{eqb}
 use borrow.Author.Needs.{needs}
 use Rattle.buffer.specs.TestLaws.{is-eq, is-ne}
 use Rattle.buffer.specs.LoopTests.{Passing, passing-start, passing-turn, passing-fail, passing-end}
-use Rattle.soundness.specs.Keys.{keyFrom, sameKeys}
+use Rattle.buffer.specs.Strided.{strided32}
+use Rattle.soundness.specs.Keys.{sameKeys}
 use Rattle.soundness.proofs.same_column.Statement.{statement}
 use Rattle.soundness.proofs.same_column.Tie as tie
 
 abbrev Inv-loop : tie.InvT-loop
-Inv-loop s slots column b r₀ r = Passing (λ i. eqb (keyFrom s slots 20 i) (keyFrom s column 32 i)) b r
+Inv-loop s slots column b r₀ r = Passing (λ i. eqb (strided32 s slots 20 i) (strided32 s column 32 i)) b r
 
 abbrev μ-loop : tie.MeasureT-loop
 μ-loop s slots column b r₀ r = b - r

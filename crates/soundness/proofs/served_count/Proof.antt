@@ -8,7 +8,8 @@ use borrow.Author.Needs.{needs}
 use Rattle.buffer.specs.Choice.{pick}
 use Rattle.buffer.specs.Bytes.{byte}
 use Rattle.buffer.specs.TestLaws.{is-no, is-yes, is-le, not-le}
-use Rattle.soundness.specs.Keys.{keyFrom, sameKeys}
+use Rattle.buffer.specs.Strided.{strided32}
+use Rattle.soundness.specs.Keys.{sameKeys}
 use Rattle.soundness.specs.Pieces.{dataKeys, columnKeys, unkept, served}
 use Rattle.soundness.proofs.Places.{within-slots, within-column, column-place}
 use Rattle.soundness.proofs.Endings.{reached-le, is-unkept, is-kept, data-fill, rest-zero, column-same}
@@ -35,7 +36,7 @@ zero-between-requires c κs =
     let place = found .before .before in
     let start = place .before .before .before .before .before in
     let s = start .args .s .now in
-    let l = reached-le (place .before .wide .result) (byte s 6) (start .args .u) (keyFrom s (place .slots-at .result) 20) (found .reach .ensures .0) (c .if1 .left) in
+    let l = reached-le (place .before .wide .result) (byte s 6) (start .args .u) (strided32 s (place .slots-at .result) 20) (found .reach .ensures .0) (c .if1 .left) in
     (omega arith, omega arith)
 
 returns-2 : tie.Need-returns-2
