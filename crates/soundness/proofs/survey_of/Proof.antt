@@ -1,9 +1,7 @@
 -- `soundness::survey_of` meets its contract. Assumes nothing.
-use mathlib.Core.Path.{_≡_, sym, _∙_}
-use mathlib.Core.Bool.{false}
 use native.Mathlib.Omega.{arith}
 use borrow.Author.Needs.{needs}
-use borrow.Author.Tests.{not-true, not-false}
+use borrow.Author.Tests.{not-false}
 use Rattle.buffer.specs.TestLaws.{is-no, is-yes}
 use Rattle.soundness.specs.Pieces.{pieces}
 use Rattle.soundness.proofs.Theorem.{ranged}

@@ -1,6 +1,5 @@
 -- `splitting::parities::mix` meets its contract. Assumes nothing.
 use borrow.Author.Needs.{needs}
-use native.Mathlib.Omega.{arith}
 use lib.Bits.{bitXor, xor-lt}
 use Rattle.splitting.proofs.ParitySums.{mixed, row-byte}
 use Rattle.splitting.proofs.parities.mix.Statement.{statement}
