@@ -5,14 +5,14 @@ ghost use lib.ListN.{length};
 ghost use Rattle.buffer.specs.Bytes.{byte, be32, bytes32, zeros};
 ghost use Rattle.buffer.specs.Loops.{allZero};
 
-// A byte as an index.
+// A byte as an index, and as a number of 32 bits.
 pub fn wide(x: u8) -> usize
     ensures { λ r. ⌜ (r ≡ x) × (r < 256) ⌝ }
 {
     x as usize
 }
 
-fn wide32(x: u8) -> u32
+pub fn wide32(x: u8) -> u32
     ensures { λ r. ⌜ (r ≡ x) × (r < 256) ⌝ }
 {
     x as u32

@@ -68,12 +68,6 @@ pub fn split_pointer(m: u8) -> u8
     m - power_below(m)
 }
 
-fn wide32(x: u8) -> u32
-    ensures { λ r. ⌜ r ≡ x ⌝ }
-{
-    x as u32
-}
-
 fn low(x: u32) -> u8
     requires { ⌜ x < 256 ⌝ }
     ensures { λ r. ⌜ r ≡ x ⌝ }
@@ -86,8 +80,8 @@ pub fn unit_of(m: u8, key: u32) -> u8
     requires { ⌜ 1 ≤ m ⌝ }
     ensures { λ u. ⌜ (u ≡ unitOf m key) × (u < m) ⌝ }
 {
-    let p = wide32(power_below(m));
-    if key % p + p < wide32(m) {
+    let p = buffer::wide32(power_below(m));
+    if key % p + p < buffer::wide32(m) {
         return low(key % (2 * p));
     }
     low(key % p)
@@ -133,15 +127,14 @@ pub fn rank(s: &[u8], u: u8, n: u8, key: u32) -> u8
     find(s, slot_at(s[5], u, 0), 20, n, key)
 }
 
-// The first check unit in service of group g.
+// The first check unit in service of group g, or 3g + 3.
 pub fn keeper(s: &[u8], g: u8) -> u8
-    requires { ⌜ g < 4 ⌝ }
-    ensures { λ c. ⌜ (c ≡ keeper (view (now (s .entry))) g) × (c ≤ 12) ⌝ }
+    requires { ⌜ (g < 4) × (36 ≤ length (now s)) ⌝ }
+    ensures { λ c. ⌜ (c ≡ keeper (view (now (s .entry))) g) × (c ≤ 3 * g + 3) ⌝ }
 {
-    let from = 24 + 3 * buffer::wide(g);
     let mut j: u8 = 0;
     while j < 3 {
-        if buffer::byte_at(s, from + buffer::wide(j)) == 1 {
+        if s[24 + buffer::wide(3 * g + j)] == 1 {
             return 3 * g + j;
         }
         j += 1;

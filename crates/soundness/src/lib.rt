@@ -19,12 +19,6 @@ ghost use Rattle.soundness.specs.Keys.{Within, placeOf, isNew, reached, 
 ghost use Rattle.soundness.specs.Pieces.{Ranged, Kept, placed, groupPlaced, zeroBetween, dataFill, lostFill, served, lost, absent, unitCount, checkGood};
 ghost use Rattle.soundness.specs.Survey.{Counted, Nothing, Surveyed};
 
-fn wide32(x: u8) -> u32
-    ensures { λ r. ⌜ (r ≡ x) × (r < 256) ⌝ }
-{
-    x as u32
-}
-
 fn wide64(x: u32) -> u64
     ensures { λ r. ⌜ (r ≡ x) × (r < 4294967296) ⌝ }
 {
@@ -62,36 +56,18 @@ fn place(k: u32) -> usize
     (wide64(k) * 2654435761 / 2097152 % 2048) as usize
 }
 
-fn power_below(m: u8) -> u8
-    ensures { λ r. ⌜ r ≡ powerBelow m ⌝ }
-{
-    if m < 2 {
-        return 1;
-    }
-    if m < 4 {
-        return 2;
-    }
-    if m < 8 {
-        return 4;
-    }
-    if m < 16 {
-        return 8;
-    }
-    16
-}
-
 // The low bits of a key that tell whether it belongs to unit u of m: one bit more where u was split, or made by a split.
 fn mask_of(m: u8, u: u8) -> u32
     requires { ⌜ (1 ≤ m) × (m ≤ 16) × (u < m) ⌝ }
     ensures { λ r. ⌜ ((k : ℕ) → eqb (bitAnd k r) u ≡ eqb (unitOf m k) u) ⌝ }
 {
-    let low = power_below(m);
+    let low = lookup::power_below(m);
     if u < low {
         if m - low <= u {
-            return wide32(low - 1);
+            return buffer::wide32(low - 1);
         }
     }
-    wide32(2 * low - 1)
+    buffer::wide32(2 * low - 1)
 }
 
 // How many keys a list has before its first key 0, or 65 where one of them is in another unit or there twice. Each key leaves the unit's stamp
@@ -101,7 +77,7 @@ fn reach(t: &mut [u8; 2048], s: &[u8], base: usize, step: usize, b: usize, m: u8
     ensures { λ r. ⌜ (r ≡ reached b m u (strided32 (now (s .entry)) base step)) × (length (now (t .exit)) ≡ 2048) ⌝ }
 {
     let mask = mask_of(m, u);
-    let own = wide32(u);
+    let own = buffer::wide32(u);
     let stamp = u + 1;
     let mut r = 0;
     while r < b {
@@ -159,10 +135,10 @@ fn half(s: &[u8], at: usize) -> u32
     requires { ⌜ at + 4 ≤ length (now s) ⌝ }
     ensures { λ r. ⌜ r ≡ le32 (now (s .entry)) at ⌝ }
 {
-    wide32(s[at])
-        + wide32(s[at + 1]) * 256
-        + wide32(s[at + 2]) * 65536
-        + wide32(s[at + 3]) * 16777216
+    buffer::wide32(s[at])
+        + buffer::wide32(s[at + 1]) * 256
+        + buffer::wide32(s[at + 2]) * 65536
+        + buffer::wide32(s[at + 3]) * 16777216
 }
 
 fn pair(s: &[u8], at: usize) -> u64
@@ -222,30 +198,16 @@ fn checks_at(b: u8, c: u8) -> usize
     36 + 320 * buffer::wide(b) + buffer::wide(c) * buffer::wide(b) * 32
 }
 
-// The first check unit in service of a group, or 3g + 3.
-fn keeper_of(s: &[u8], g: u8) -> u8
-    requires { ⌜ (g < 4) × (36 ≤ length (now s)) ⌝ }
-    ensures { λ r. ⌜ (r ≡ keeper (view (now (s .entry))) g) × (r ≤ 3 * g + 3) ⌝ }
-{
-    let mut j: u8 = 0;
-    while j < 3 {
-        if s[24 + buffer::wide(3 * g + j)] == 1 {
-            return 3 * g + j;
-        }
-        j += 1;
-    }
-    3 * g + 3
-}
-
+// The first check unit in service of each group.
 fn keepers_of(s: &[u8]) -> [u8; 4]
     requires { ⌜ 36 ≤ length (now s) ⌝ }
     ensures { λ r. ⌜ r ≡ entries 4 (keeper (view (now (s .entry)))) ⌝ }
 {
     [
-        keeper_of(s, 0),
-        keeper_of(s, 1),
-        keeper_of(s, 2),
-        keeper_of(s, 3),
+        lookup::keeper(s, 0),
+        lookup::keeper(s, 1),
+        lookup::keeper(s, 2),
+        lookup::keeper(s, 3),
     ]
 }
 

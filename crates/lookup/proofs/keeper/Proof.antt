@@ -1,59 +1,35 @@
 -- `lookup::keeper` meets its contract. Assumes nothing.
-use mathlib.Core.Path.{refl}
 use Prim.Native.Nat.{_+_, _*_, _-_}
-use native.Mathlib.Omega.{arith}
+use mathlib.Core.Path.{ap, refl}
+use lib.Dec.{eqb}
 use borrow.Author.Needs.{needs}
-use Rattle.buffer.specs.LoopTests.{Missing, missing-start, missing-turn, missing-found, missing-end}
 use Rattle.buffer.specs.TestLaws.{is-eq, is-ne}
-use Rattle.lookup.specs.States.{read-at, inService, keeper-found}
+use Rattle.buffer.specs.LoopTests.{Missing, missing-start, missing-turn, missing-found, missing-end}
+use Rattle.buffer.specs.Bytes.{byte}
+use Rattle.model.specs.Layout.{view}
+use Rattle.model.specs.Reads.{keeper}
 use Rattle.lookup.proofs.keeper.Statement.{statement}
 use Rattle.lookup.proofs.keeper.Tie as tie
 
 abbrev Inv-loop : tie.InvT-loop
-Inv-loop s g from j₀ j = Missing (inService s g) 3 j
+Inv-loop s g j₀ j = Missing (λ i. eqb (byte s (24 + (3 * g + i))) 1) 3 j
 
 abbrev μ-loop : tie.MeasureT-loop
-μ-loop s g from j₀ j = 3 - j
+μ-loop s g j₀ j = 3 - j
+
+loop-holds : tie.Need-loop-holds Inv-loop μ-loop
+loop-holds c = missing-start
 
 returns : tie.Need-returns Inv-loop μ-loop
-returns c =
-    let b = c .before in
-    let l = b .before .before .before .loop in
-    let start = b .before .before .before .before .before .before in
-    let found = missing-found (l .inv) (b .before .before .loop-test .taken) (is-eq (read-at (start .args .s .now) _ (24 + 3 * b .before .before .before .before .wide .result + b .before .wide2 .result) (24 + (3 * start .args .g + l .j)) (b .byte-at .ensures) (omega arith)) refl (c .if1 .taken)) in
-    (keeper-found (start .args .s .now) (start .args .g) (l .j) found, omega arith)
+unfolding keeper view
+returns c = (ap (λ j. 3 * c .before .before .before .before .before .before .args .g + j) (missing-found (c .before .before .before .before .loop .inv) (c .before .before .before .loop-test .taken) (is-eq (ap (λ i. byte (c .before .before .before .before .before .before .args .s .now) (24 + i)) (c .before .before .wide .ensures .0)) refl (c .if1 .taken))), search needs)
 
 loop-again : tie.Need-loop-again Inv-loop μ-loop
-loop-again c =
-    let b = c .before in
-    let l = b .before .before .before .loop in
-    let start = b .before .before .before .before .before .before in
-    missing-turn (l .inv) (b .before .before .loop-test .taken) (is-ne (read-at (start .args .s .now) _ (24 + 3 * b .before .before .before .before .wide .result + b .before .wide2 .result) (24 + (3 * start .args .g + l .j)) (b .byte-at .ensures) (omega arith)) refl (c .if1 .left))
+loop-again c = missing-turn (c .before .before .before .before .loop .inv) (c .before .before .before .loop-test .taken) (is-ne (ap (λ i. byte (c .before .before .before .before .before .before .args .s .now) (24 + i)) (c .before .before .wide .ensures .0)) refl (c .if1 .left))
 
 returns-2 : tie.Need-returns-2 Inv-loop μ-loop
-returns-2 c =
-    let start = c .before .before .before .before in
-    (keeper-found (start .args .s .now) (start .args .g) 3 (missing-end (c .before .loop .inv) (c .loop-test .left)), omega arith)
+unfolding keeper view
+returns-2 c = (ap (λ j. 3 * c .before .before .before .args .g + j) (missing-end (c .before .loop .inv) (c .loop-test .left)), search needs)
 
 pub keeper-spec : {M : Type 1} → statement M
-keeper-spec =
-    tie.close
-    (tie.spec
-    Inv-loop
-    μ-loop
-    (λ c κs. search needs)
-    (λ c. search needs)
-    (λ c. search needs)
-    (λ c. missing-start)
-    (λ c κs. search needs)
-    (λ c. search needs)
-    (λ c κs. search needs)
-    (λ c. search needs)
-    (λ c. search needs)
-    returns
-    (λ c. search needs)
-    (λ c. search needs)
-    loop-again
-    (λ c. search needs)
-    (λ c. search needs)
-    returns-2)
+keeper-spec = tie.close (tie.spec Inv-loop μ-loop loop-holds (λ c. search needs) (λ c. search needs) (λ c κs. search needs) (λ c. search needs) (λ c. search needs) (λ c. search needs) (λ c. search needs) returns (λ c. search needs) (λ c. search needs) loop-again (λ c. search needs) (λ c. search needs) returns-2)

@@ -8,10 +8,10 @@ use Rattle.soundness.proofs.keepers_of.Tie as tie
 returns : tie.Need-returns
 unfolding entries
 returns c =
-    let k = c .before .before .before .keeper-of .ensures .0 in
-    let l = c .before .before .keeper-of2 .ensures .0 in
-    let m = c .before .keeper-of3 .ensures .0 in
-    let n = c .keeper-of4 .ensures .0 in
+    let k = c .before .before .before .keeper .ensures .0 in
+    let l = c .before .before .keeper2 .ensures .0 in
+    let m = c .before .keeper3 .ensures .0 in
+    let n = c .keeper4 .ensures .0 in
     λ i. k i ∷ l i ∷ m i ∷ n i ∷ []
 
 pub keepers-of-spec : {M : Type 1} → statement M
