@@ -4,7 +4,7 @@ use mathlib.Core.Path.{_≡_, refl, sym, ap, ap₂, _∙_}
 use mathlib.Core.List.{List, [], _∷_, zipWith}
 use Prim.Native.Nat.{ℕ, zero, suc, _<_}
 use native.Mathlib.Omega.{arith}
-use lib.Bits.{bitXor, xor-comm, xor-self, xor-zero-l, xor-lt}
+use lib.Bits.{bitXor, xor-comm, xor-self, xor-zero-l}
 use lib.ListN.{length, length-map}
 use Rattle.algebra.specs.Xor.{xor-assoc}
 use Rattle.buffer.specs.Bytes.{byte, zeros}
@@ -122,13 +122,6 @@ scale-zeros c n h =
 -- ---- bodies stay bodies
 pub zeros-is : (n : ℕ) → IsBody n (zeros n)
 zeros-is n = record { size = length-zeros n; bytes = λ i. omega (arith, byte-zeros n i) }
-
-pub add-is : (n : ℕ) (x y : List ℕ) → IsBody n x → IsBody n y → IsBody n (addBody x y)
-add-is n x y p q =
-    record {
-      size = length-add n x y (p .size) (q .size);
-      bytes = λ i. rw (byte-add x y i (p .size ∙ sym (q .size))) (xor-lt 8 (byte x i) (byte y i) (p .bytes i) (q .bytes i));
-    }
 
 scale-bytes : (c : ℕ) → c < 16 → (x : List ℕ) → ((i : ℕ) → byte x i < 256) → (i : ℕ) → byte (scaleBody c x) i < 256
 unfolding scaleBody

@@ -1,6 +1,6 @@
 -- The states of units, as the bytes of a store show them. Assumes nothing.
 use Prim.Native.Nat.{ℕ, _+_, _*_, _-_, _<_}
-use mathlib.Core.Path.{_≡_, refl, ap, _∙_}
+use mathlib.Core.Path.{_≡_, refl, ap}
 use mathlib.Core.Bool.{Bool}
 use mathlib.Core.List.{List}
 use native.Mathlib.Omega.{arith}
@@ -11,10 +11,6 @@ use Rattle.buffer.specs.Range.{first}
 use Rattle.buffer.specs.Bytes.{byte}
 use Rattle.model.specs.Layout.{view}
 use Rattle.model.specs.Reads.{stateIn, keeper}
-
--- a byte that code read, at the place that a definition names
-pub read-at : (s : List ℕ) (r at to : ℕ) → r ≡ byte s at → at ≡ to → r ≡ byte s to
-read-at s r at to e p = e ∙ ap (λ i. byte s i) p
 
 -- the states of data units and then check units stand one behind the other
 pub state-byte : (s : List ℕ) (w : ℕ) → byte s (8 + w) ≡ stateIn (view s) w

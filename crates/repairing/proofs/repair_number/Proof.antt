@@ -37,8 +37,8 @@ beyond-requires : tie.Need-beyond-requires
 beyond-requires c κs =
     let good = c .before .before .before .before in
     let start = good .before .before .before .before in
-    let ok = is-yes refl (good .if2 .left) in
     let low : start .args .group < 4 = omega (arith, ltb-false 3 (start .args .group) (good .before .before .if1 .left)) in
+    let ok = is-yes refl (good .if2 .left) in
     (sound-sized (found-sound (start .pre) ok), low, ap (λ i. getD (start .args .survey .outs) i 0) (c .wide .ensures .0) ∙ outs-counted (start .pre) ok (start .args .group) low)
 
 returns-4 : tie.Need-returns-4
