@@ -17,7 +17,7 @@
 #define MAX_LENGTH LHRS_LENGTH(MAX_SLOTS)
 #define MAX_UNITS 16u
 #define RECORD (4u + LHRS_BODY)
-#define ROUNDS 15
+#define ROUNDS 60
 #define BATCH_NANOSECONDS 1000000.0
 
 /* List of crate timing: writes the records and returns their count. */
@@ -304,7 +304,7 @@ static void report(uint32_t slots, uint32_t units, uint32_t level)
 int main(void)
 {
     static const uint32_t slots[] = {4, 64}, units[] = {1, 4, 16}, levels[] = {1, 3};
-    puts("Least of 15 interleaved batches. A line with + is two calls together.");
+    puts("Least of 60 interleaved batches. A line with + is two calls together.");
     puts("At M = 16, grow + shrink goes from 15 units to 16 and back.");
     for (int s = 0; s < 2; s++)
         for (int u = 0; u < 3; u++)
