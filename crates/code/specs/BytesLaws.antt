@@ -4,82 +4,65 @@
 use mathlib.Core.Path.{_≡_, refl, ap, ap₂, _∙_, sym}
 use mathlib.Core.Bool.{true}
 use mathlib.Core.List.{List, [], _∷_, map}
-use Prim.Native.Nat.{ℕ, _+_, _*_, _/_, _%_, _≤_, _<_}
+use Prim.Native.Nat.{ℕ, _+_, _*_, _≤_, _<_}
 use native.Mathlib.Nat.{div-add-mod', le-of-suc-le-suc}
 use native.Mathlib.Omega.{arith}
 use lib.Bits.{xor-zero-l, xor-zero-r}
 use lib.Dec.{lit<}
 use lib.ListN.{length, getD, length-map}
-use Rattle.algebra.specs.Polynomial.{All}
 use Rattle.field.specs.ByteLaws.{scale-one, scale-zero}
 use Rattle.code.specs.Matrix.{matrix, entry, encode, within, different}
 use Rattle.code.specs.MatrixLaws.{column, column-within}
-use Rattle.code.specs.Lists.{four, all-four, each-four, within-head, within-tail, within-at, within-four, within-map, getD-map}
+use Rattle.code.specs.Lists.{four, each-four, within-at, within-four, within-map, getD-map}
 use Rattle.code.specs.Fixing.{fixes}
 use Rattle.code.specs.Weights.{weightsOf, mixed, data-of}
 use Rattle.code.specs.WeightsLaws.{weights-within, rebuilt-has}
 use Rattle.code.specs.Bytes.{encode-bytes}
-use Rattle.code.specs.Halves.{lows-within, highs-within, mixed-high, mixed-low, mixed-bound, encode-mixed, encode-high, encode-low, highs, lows}
+use Rattle.code.specs.Halves.{Half, high, low, mixed-bound, encode-mixed, encode-half}
 
 -- the data bytes rebuilt from the bytes ys at the columns cs
 abbrev pub bytes-of : List ℕ → List ℕ → List ℕ
 bytes-of cs ys = mixed (weightsOf cs 0) ys ∷ mixed (weightsOf cs 1) ys ∷ mixed (weightsOf cs 2) ys ∷ mixed (weightsOf cs 3) ys ∷ []
 
--- ---- the rebuilt bytes have the given bytes
+-- ---- the rebuilt bytes have the given bytes, and four different columns fix four bytes: each half by itself
+module _ (h : Half) (cs : List ℕ) (lc : length cs ≡ 4) (w : within 16 cs ≡ true) (d : different cs ≡ true) where
+  halves-are : (ys : List ℕ) → map (h .of) (bytes-of cs ys) ≡ data-of cs (map (h .of) ys)
+  halves-are ys =
+      λ i. h .summed (weightsOf cs 0) ys (weights-within cs 0) i ∷ h .summed (weightsOf cs 1) ys (weights-within cs 1) i
+      ∷ h .summed (weightsOf cs 2) ys (weights-within cs 2) i ∷ h .summed (weightsOf cs 3) ys (weights-within cs 3) i ∷ []
 
-highs-are : (cs ys : List ℕ) → highs (bytes-of cs ys) ≡ data-of cs (highs ys)
-highs-are cs ys =
-    λ i. mixed-high (weightsOf cs 0) ys (weights-within cs 0) i ∷ mixed-high (weightsOf cs 1) ys (weights-within cs 1) i
-    ∷ mixed-high (weightsOf cs 2) ys (weights-within cs 2) i ∷ mixed-high (weightsOf cs 3) ys (weights-within cs 3) i ∷ []
+  half-has : (ys : List ℕ) → length ys ≡ 4 → within 255 ys ≡ true → (j : ℕ) → j < 4 → encode (map (h .of) (bytes-of cs ys)) (getD cs j 0) ≡ h .of (getD ys j 0)
+  half-has ys ly v j k =
+      ap (λ (l : List ℕ). encode l (getD cs j 0)) (halves-are ys)
+      ∙ rebuilt-has cs lc w d (map (h .of) ys) (length-map ys (h .of) ∙ ly) (h .small ys v) j k ∙ getD-map (h .of) ys j (omega arith)
 
-lows-are : (cs ys : List ℕ) → lows (bytes-of cs ys) ≡ data-of cs (lows ys)
-lows-are cs ys =
-    λ i. mixed-low (weightsOf cs 0) ys (weights-within cs 0) i ∷ mixed-low (weightsOf cs 1) ys (weights-within cs 1) i
-    ∷ mixed-low (weightsOf cs 2) ys (weights-within cs 2) i ∷ mixed-low (weightsOf cs 3) ys (weights-within cs 3) i ∷ []
+  half-fixed : (ds es : List ℕ) → length ds ≡ 4 → length es ≡ 4 → within 255 ds ≡ true → within 255 es ≡ true
+      → ((j : ℕ) → j < 4 → encode-bytes ds (getD cs j 0) ≡ encode-bytes es (getD cs j 0)) → map (h .of) ds ≡ map (h .of) es
+  half-fixed ds es ld le vd ve a =
+      fixes cs lc w d (map (h .of) ds) (map (h .of) es) (length-map ds (h .of) ∙ ld) (length-map es (h .of) ∙ le) (h .small ds vd) (h .small es ve)
+      (λ j k.
+      let c : getD cs j 0 < 17 = omega (arith, within-at 16 cs w j (omega arith)) in
+      sym (encode-half h ds ld (getD cs j 0) c) ∙ ap (h .of) (a j k) ∙ encode-half h es le (getD cs j 0) c)
 
 pub rebuilt-bytes-have : (cs : List ℕ) → length cs ≡ 4 → within 16 cs ≡ true → different cs ≡ true → (ys : List ℕ) → length ys ≡ 4 → within 255 ys ≡ true
     → (j : ℕ) → j < 4 → encode-bytes (bytes-of cs ys) (getD cs j 0) ≡ getD ys j 0
 rebuilt-bytes-have cs lc w d ys ly v j h =
-    let k′ : j < length ys = omega arith in
-    ap₂ (λ (x y : ℕ). x * 16 + y)
-    (ap (λ (l : List ℕ). encode l (getD cs j 0)) (highs-are cs ys)
-    ∙ rebuilt-has cs lc w d (highs ys) (length-map ys (λ (b : ℕ). b / 16) ∙ ly) (highs-within ys v) j h ∙ getD-map (λ (b : ℕ). b / 16) ys j k′)
-    (ap (λ (l : List ℕ). encode l (getD cs j 0)) (lows-are cs ys)
-    ∙ rebuilt-has cs lc w d (lows ys) (length-map ys (λ (b : ℕ). b % 16) ∙ ly) (lows-within ys) j h ∙ getD-map (λ (b : ℕ). b % 16) ys j k′)
-    ∙ div-add-mod' (getD ys j 0) 16
+    ap₂ (λ (x y : ℕ). x * 16 + y) (half-has high cs lc w d ys ly v j h) (half-has low cs lc w d ys ly v j h) ∙ div-add-mod' (getD ys j 0) 16
 
--- ---- four different columns fix four bytes
 joined : List ℕ → List ℕ → List ℕ
 joined [] ls = []
 joined (h ∷ hs) [] = []
 joined (h ∷ hs) (l ∷ ls) = (h * 16 + l) ∷ joined hs ls
 
-joined-halves : (bs : List ℕ) → joined (highs bs) (lows bs) ≡ bs
+joined-halves : (bs : List ℕ) → joined (map (high .of) bs) (map (low .of) bs) ≡ bs
 unfolding joined
 joined-halves [] = refl
 joined-halves (b ∷ bs) = ap₂ (λ (x : ℕ) (l : List ℕ). x ∷ l) (div-add-mod' b 16) (joined-halves bs)
 
-all-map : (P Q : ℕ → Type 0) → ((c : ℕ) → c < 17 → P c → Q c) → (cs : List ℕ) → within 16 cs ≡ true → All P cs → All Q cs
-all-map P Q f [] w a = tt
-all-map P Q f (c ∷ cs) w a = (f c (omega (arith, within-head 16 c cs w)) (a .0), all-map P Q f cs (within-tail 16 c cs w) (a .1))
-
 pub bytes-fixed : (cs : List ℕ) → length cs ≡ 4 → within 16 cs ≡ true → different cs ≡ true → (ds es : List ℕ) → length ds ≡ 4 → length es ≡ 4
-    → within 255 ds ≡ true → within 255 es ≡ true → All (λ c. encode-bytes ds c ≡ encode-bytes es c) cs → ds ≡ es
-bytes-fixed cs lc w d ds es ld le vd ve a = sym (joined-halves ds) ∙ ap₂ joined same-highs same-lows ∙ joined-halves es
-  where
-    same-highs : highs ds ≡ highs es
-    same-highs =
-        fixes cs lc w d (highs ds) (highs es) (length-map ds (λ (b : ℕ). b / 16) ∙ ld) (length-map es (λ (b : ℕ). b / 16) ∙ le)
-        (highs-within ds vd) (highs-within es ve)
-        (all-map (λ c. encode-bytes ds c ≡ encode-bytes es c) (λ c. encode (highs ds) c ≡ encode (highs es) c)
-        (λ c h e. sym (encode-high ds ld c h) ∙ ap (λ (x : ℕ). x / 16) e ∙ encode-high es le c h) cs w a)
-
-    same-lows : lows ds ≡ lows es
-    same-lows =
-        fixes cs lc w d (lows ds) (lows es) (length-map ds (λ (b : ℕ). b % 16) ∙ ld) (length-map es (λ (b : ℕ). b % 16) ∙ le)
-        (lows-within ds) (lows-within es)
-        (all-map (λ c. encode-bytes ds c ≡ encode-bytes es c) (λ c. encode (lows ds) c ≡ encode (lows es) c)
-        (λ c h e. sym (encode-low ds ld c h) ∙ ap (λ (x : ℕ). x % 16) e ∙ encode-low es le c h) cs w a)
+    → within 255 ds ≡ true → within 255 es ≡ true → ((j : ℕ) → j < 4 → encode-bytes ds (getD cs j 0) ≡ encode-bytes es (getD cs j 0)) → ds ≡ es
+bytes-fixed cs lc w d ds es ld le vd ve a =
+    sym (joined-halves ds) ∙ ap₂ joined (half-fixed high cs lc w d ds es ld le vd ve a) (half-fixed low cs lc w d ds es ld le vd ve a) ∙ joined-halves es
 
 -- ---- rebuilding what was encoded gives the data
 pub encode-bytes-bound : (ds : List ℕ) → length ds ≡ 4 → within 255 ds ≡ true → (c : ℕ) → c < 17 → encode-bytes ds c < 256
@@ -95,8 +78,7 @@ pub bytes-back : (cs : List ℕ) → length cs ≡ 4 → within 16 cs ≡ true �
     → bytes-of cs (map (encode-bytes ds) cs) ≡ ds
 bytes-back cs lc w d ds ld v =
     bytes-fixed cs lc w d (bytes-of cs ys) ds refl ld (bytes-of-within cs ys within-ys) v
-    (all-four (λ c. encode-bytes (bytes-of cs ys) c ≡ encode-bytes ds c) cs lc
-    (λ j h. rebuilt-bytes-have cs lc w d ys (length-map cs (encode-bytes ds) ∙ lc) within-ys j h ∙ getD-map (encode-bytes ds) cs j (omega arith)))
+    (λ j h. rebuilt-bytes-have cs lc w d ys (length-map cs (encode-bytes ds) ∙ lc) within-ys j h ∙ getD-map (encode-bytes ds) cs j (omega arith))
   where
     ys : List ℕ
     ys = map (encode-bytes ds) cs

@@ -5,14 +5,14 @@ use mathlib.Core.Bool.{true}
 use mathlib.Core.List.{List, [], _∷_, map}
 use Prim.Native.Nat.{ℕ, _<_}
 use native.Mathlib.Omega.{arith}
-use lib.ListN.{length, length-map}
+use lib.ListN.{length, getD, length-map}
 use Rattle.algebra.specs.Polynomial.{All}
 use Rattle.algebra.specs.Lagrange.{lagrange}
 use Rattle.algebra.specs.Interpolation.{fixed}
 use Rattle.algebra.specs.BinaryField.{below-is}
 use Rattle.field.specs.Gf16Laws.{Symbol, gf16}
 use Rattle.code.specs.Matrix.{encode, within, different}
-use Rattle.code.specs.Lists.{four, within-head, within-tail}
+use Rattle.code.specs.Lists.{four, all-four, within-head, within-tail}
 use Rattle.code.specs.Symbols.{numbers, symbols, numbers-symbols, length-symbols}
 use Rattle.code.specs.Point.{point, places}
 use Rattle.code.specs.PointLaws.{distinct-points, distinct-places}
@@ -39,9 +39,10 @@ fixes-symbols cs lc w d ds es ld le h =
     (same-values ds es ld le cs w h)
 
 pub fixes : (cs : List ℕ) → length cs ≡ 4 → within 16 cs ≡ true → different cs ≡ true → (ds es : List ℕ) → length ds ≡ 4 → length es ≡ 4
-    → within 15 ds ≡ true → within 15 es ≡ true → All (λ c. encode ds c ≡ encode es c) cs → ds ≡ es
+    → within 15 ds ≡ true → within 15 es ≡ true → ((j : ℕ) → j < 4 → encode ds (getD cs j 0) ≡ encode es (getD cs j 0)) → ds ≡ es
 fixes cs lc w d ds es ld le wd we h =
     sym (numbers-symbols ds wd)
     ∙ ap numbers (fixes-symbols cs lc w d (symbols ds wd) (symbols es we) (length-symbols ds wd ∙ ld) (length-symbols es we ∙ le)
-    (subst₂ (λ (x y : List ℕ). All (λ c. encode x c ≡ encode y c) cs) (sym (numbers-symbols ds wd)) (sym (numbers-symbols es we)) h))
+    (subst₂ (λ (x y : List ℕ). All (λ c. encode x c ≡ encode y c) cs) (sym (numbers-symbols ds wd)) (sym (numbers-symbols es we))
+    (all-four (λ c. encode ds c ≡ encode es c) cs lc h)))
     ∙ numbers-symbols es we

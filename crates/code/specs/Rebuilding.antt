@@ -6,8 +6,8 @@ use mathlib.Core.List.{List, [], _∷_}
 use Prim.Native.Nat.{ℕ}
 use lib.ListN.{length}
 use Rattle.algebra.specs.Every.{yes-true}
-use Rattle.code.specs.Matrix.{encode, within, different, accepted, Rebuilds}
-use Rattle.code.specs.Lists.{all-four, both-first, both-second}
+use Rattle.code.specs.Matrix.{within, different, accepted, Rebuilds}
+use Rattle.code.specs.Lists.{both-first, both-second}
 use Rattle.code.specs.Fixing.{fixes}
 use Rattle.code.specs.Weights.{data-of}
 use Rattle.code.specs.WeightsLaws.{data-within, rebuilt-has}
@@ -55,7 +55,7 @@ same cs ys l a n k ds es p q =
     let h = q .granted a in (
       g .0 ∙ sym (h .0),
       fixes cs l (accepted-within cs ys a) (accepted-different cs ys a) ds es (g .1) (h .1) (g .2) (h .2)
-          (all-four (λ c. encode ds c ≡ encode es c) cs l (λ j i. g .3 j i ∙ sym (h .3 j i))),
+          (λ j i. g .3 j i ∙ sym (h .3 j i)),
     )
 
 pub only : (cs ys : List ℕ) → length cs ≡ 4 → (n k : ℕ) (ds es : List ℕ) → Rebuilds cs ys n ds → Rebuilds cs ys k es → (n ≡ k) × (ds ≡ es)

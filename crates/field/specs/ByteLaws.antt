@@ -1,5 +1,5 @@
--- Bytes as pairs of symbols. A reader wants `scale-bound`, `scale-add` and `add-scale` (linear in the byte and in the symbol), and `scale-one`,
--- `scale-zero`, `scale-product` (1 changes nothing, 0 gives 0, one factor after the other is their product). Each is shown for both halves together.
+-- Bytes as pairs of symbols. A reader wants `scale-bound`, `scale-add` and `add-scale` (linear in the byte and in the symbol), and `scale-one`
+-- and `scale-zero` (1 changes nothing, 0 gives 0). Each is shown for both halves together.
 use mathlib.Core.Path.{_≡_, sym, ap₂, _∙_}
 use Prim.Native.Nat.{ℕ, _+_, _*_, _/_, _%_, _<_}
 use native.Mathlib.Nat.{mod-lt, div-add-mod'}

@@ -4,3 +4,4 @@ pub mod Gf16Laws
 pub mod Table
 pub mod Byte
 pub mod ByteLaws
+pub mod Primitive

@@ -28,7 +28,7 @@ unfolding layOut
 runs-as-ledger s l e b cs xs laid typed r =
     let zero : layOutNumber s b ≡ 0 = sym (plain-number 0 (layOutNumber s b) (ap (λ (o : Outcome). o .answer) laid)) in
     let start : l ≡ layOut s b .store = ap (λ (o : Outcome). o .store) laid in
-    let holds = outlives s b zero cs typed in (
-      run-answers r ∙ ap (λ (x : List ℕ). answersIn x cs) start ∙ holds .histories .answered,
-      run-end r ∙ ap (λ (x : List ℕ). finalIn x cs) start ∙ holds .histories .pictured,
-    )
+    let holds = outlives s b zero cs typed in
+    let answered = run-answers r ∙ ap (λ (x : List ℕ). answersIn x cs) start in
+    let ended = run-end r ∙ ap (λ (x : List ℕ). finalIn x cs) start in
+    (answered ∙ holds .histories .answered, ended ∙ holds .histories .pictured, answered, ended, holds)
