@@ -87,7 +87,7 @@ pub fn put32(s: &mut [u8], x: u32)
     s[3] = (x % 256) as u8;
 }
 
-// Copies as many bytes as both have.
+// Copies bytes into a slice of the same length.
 pub fn copy(into: &mut [u8], from: &[u8])
     requires { ⌜ length (now into) ≡ length (now from) ⌝ }
     ensures { λ _. ⌜ now (into .exit) ≡ now (from .entry) ⌝ }

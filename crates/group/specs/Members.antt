@@ -23,11 +23,11 @@ beyond d c = ltb (checks c) (outs d c)
 unfoldable pub serves : (ℕ → ℕ) → (ℕ → ℕ) → ℕ → Bool
 serves d c m = pick (ltb m 4) (not (eqb (d m) 2)) (eqb (c (m - 4)) 1)
 
--- the first member from a on for which the test holds, or 7
+-- the first member from a on, below 7, for which the test holds; where there is none the larger of a and 7
 unfoldable pub next : (ℕ → Bool) → ℕ → ℕ
 next on a = a + first (7 - a) (λ k. on (a + k))
 
--- the first four members for which the test holds, in number order: data units, then check units
+-- the first four members for which the test holds, in number order: data units, then check units; it is used only where there are four
 unfoldable pub firstFour : (ℕ → Bool) → List ℕ
 firstFour on =
     let a : ℕ = next on 0 in

@@ -94,8 +94,8 @@ pub fn state(s: &[u8], w: u8) -> u8
     buffer::byte_at(s, 8 + buffer::wide(w))
 }
 
-// The first of n keys, one every step bytes from base on, that is the given one; n where there is none. All are looked at, from the last one down: no
-// branch depends on where the key is.
+// The first of n keys, one every step bytes from base on, that is the given one; n where there is none. All are looked at, from the last one down:
+// nothing depends on where the key is, and the compiler needs no branch for it.
 fn find(s: &[u8], base: usize, step: usize, n: u8, key: u32) -> u8
     requires { ⌜ Within (now s) base step n ⌝ }
     ensures { λ r. ⌜ (r ≡ first n (λ i. eqb (strided32 (now (s .entry)) base step i) key)) × (r ≤ n) ⌝ }

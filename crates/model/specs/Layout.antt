@@ -11,10 +11,11 @@ use Rattle.group.specs.Widths.{slotBytes, checkBytes}
 abbrev pub version : ℕ
 version = 1
 
--- version, length, b, M, K and the states of 16 data units and 12 check units; and the whole store, 36 + 704b
+-- version, length, b, M, K and the states of 16 data units and 12 check units
 abbrev pub headerBytes : ℕ
 headerBytes = 36
 
+-- the whole store: 36 + 704b
 abbrev pub storeBytes : ℕ → ℕ
 storeBytes b = headerBytes + (16 * slotBytes + 12 * checkBytes) * b
 

@@ -51,10 +51,12 @@ placeIn s k =
 
 -- ---- what a granted call hands back, and the store that it leaves
 
+-- the bytes that a granted call hands back; of a refused one nothing is used
 unfoldable pub givenIn : List ℕ → Call → List ℕ
 givenIn s c =
     byKind c (λ k x. []) (λ k. []) (λ k out. bodyIn (view s) k) (λ k. part (placeIn s k .at) (placeIn s k .size) s) (λ out. listingIn (view s)) [] []
 
+-- the bytes of the store after a granted call
 unfoldable pub grantedIn : List ℕ → Call → List ℕ
 grantedIn s (teach k x) = bytes (written (view s) (homeIn (view s) k) (fillIn (view s) (homeIn (view s) k)) (slotOf k x))
 grantedIn s (correct k x) = bytes (written (view s) (homeIn (view s) k) (rankIn (view s) (homeIn (view s) k) k) (slotOf k x))

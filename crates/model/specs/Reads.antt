@@ -18,7 +18,7 @@ use Rattle.model.specs.Layout.{Store, unitsIn, keyOf}
 unfoldable pub homeIn : Store → ℕ → ℕ
 homeIn v k = unitOf (unitsIn v) k
 
--- the records of a unit: the ranks before the first slot with key 0; and the rank of a key among them
+-- the records of a unit: the ranks before the first slot with key 0; and the rank of a key among them, or their number where it is not there
 unfoldable pub fillIn : Store → ℕ → ℕ
 fillIn v u = first (v .size) (λ r. eqb (keyOf (v .slot u r)) 0)
 
@@ -43,7 +43,8 @@ servesIn v g m = serves (λ p. v .dstate (4 * g + p)) (λ j. v .cstate (3 * g + 
 unfoldable pub holds : Store → ℕ → ℕ → ℕ → List ℕ
 holds v g r m = pick (ltb m 4) (drop keyBytes (v .slot (4 * g + m) r)) (drop keysBytes (v .check (3 * g + (m - 4)) r))
 
--- the first check unit in service of a group
+-- the first check unit in service of a group; 3g + 3, which is none of the group's, where there is none: no call looks there, since data units
+-- out are then beyond recovery
 unfoldable pub keeper : Store → ℕ → ℕ
 keeper v g = 3 * g + first 3 (λ j. eqb (v .cstate (3 * g + j)) 1)
 
@@ -51,6 +52,7 @@ keeper v g = 3 * g + first 3 (λ j. eqb (v .cstate (3 * g + j)) 1)
 unfoldable pub listedKey : Store → ℕ → ℕ → List ℕ
 listedKey v u r = pick (eqb (v .dstate u) 2) (part (keyBytes * (u % 4)) keyBytes (v .check (keeper v (u / 4)) r)) (take keyBytes (v .slot u r))
 
+-- how many records a unit has by these keys; and the rank of a key among them, or their number where it is not there
 unfoldable pub listedFill : Store → ℕ → ℕ
 listedFill v u = first (v .size) (λ r. eqb (keyOf (listedKey v u r)) 0)
 

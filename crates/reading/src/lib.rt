@@ -18,10 +18,10 @@ ghost use Rattle.reading.specs.Found.{Verdict};
 ghost use Rattle.reading.specs.Listing.{Counted, Learned};
 
 // The verdict on a read: its number, and where that is 0 the unit and the rank of the key.
-pub struct Found {
-    pub number: u8,
-    pub unit: u8,
-    pub rank: u8,
+struct Found {
+    number: u8,
+    unit: u8,
+    rank: u8,
 }
 
 fn refused(number: u8) -> Found

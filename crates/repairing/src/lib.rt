@@ -165,7 +165,7 @@ fn repair_number(s: &[u8], survey: soundness::Survey, group: u32) -> u8
     0 // no row holds
 }
 
-// Repairs a group: its units that are out are rebuilt and put in service. The group is judged as the number it is.
+// Repairs a group: its units that are out are rebuilt and put in service.
 pub fn repair(s: &mut [u8], group: u32) -> u8
     ensures { λ r. ⌜ outcome (plain r) (now (s .exit)) ≡ perform (now (s .entry)) (Call.repair group) ⌝ }
 {

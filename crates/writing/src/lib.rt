@@ -57,7 +57,7 @@ fn key_of(slot: &[u8]) -> [u8; 4]
 
 // Slot r of unit u becomes these bytes, and each check unit in service of its group follows. They come by value: the compiler knows that they stand
 // apart from the store.
-pub fn write_slot(s: &mut [u8], u: u8, r: u8, slot: [u8; 20], table: &[u8; 256])
+fn write_slot(s: &mut [u8], u: u8, r: u8, slot: [u8; 20], table: &[u8; 256])
     requires { ⌜ SlotIn (now s) u r × (now table ≡ products) ⌝ }
     ensures { λ _. ⌜ now (s .exit) ≡ bytes (written (view (now (s .entry))) u r slot) ⌝ }
 {
@@ -68,7 +68,7 @@ pub fn write_slot(s: &mut [u8], u: u8, r: u8, slot: [u8; 20], table: &[u8; 256])
 }
 
 // The record of rank last moves into rank r of unit u, and its own slot becomes empty.
-pub fn erase_at(s: &mut [u8], u: u8, r: u8, last: u8, table: &[u8; 256])
+fn erase_at(s: &mut [u8], u: u8, r: u8, last: u8, table: &[u8; 256])
     requires { ⌜ SlotIn (now s) u r × SlotIn (now s) u last × (now table ≡ products) ⌝ }
     ensures { λ _. ⌜ now (s .exit) ≡ bytes (erased (view (now (s .entry))) u r last) ⌝ }
 {
@@ -119,7 +119,7 @@ fn unit_at(b: u8, w: u8) -> usize
 }
 
 // The bytes of unit w become zero, and its state 2.
-pub fn clear_unit(s: &mut [u8], w: u8)
+fn clear_unit(s: &mut [u8], w: u8)
     requires { ⌜ Long (now s) × (w < 28) ⌝ }
     ensures { λ _. ⌜ now (s .exit) ≡ bytes (unitLost (view (now (s .entry))) w) ⌝ }
 {
