@@ -92,3 +92,15 @@ splice-next at n m x y s h e =
   where
     both : length (take at s ++ x) ≡ at + n
     both = simp (length-append, length-take) (omega arith)
+
+-- ---- a part as code lends it, from `at` to `at + n`: its bytes, its length, and the whole when the part is back
+pub part-lent : (s : List ℕ) (at n to : ℕ) → at ≡ to → take (at + n - at) (drop at s) ≡ part to n s
+unfolding part
+part-lent s at n to e = let w : at + n - at ≡ n = omega arith in rw (w, e)
+
+pub length-lent : (o : List ℕ) (at n : ℕ) → at + n ≤ length o → length (take (at + n - at) (drop at o)) ≡ n
+length-lent o at n h = simp (length-take, length-drop) (omega arith)
+
+pub put-lent : (o new : List ℕ) (at n : ℕ) → take at o ++ (new ++ drop (at + n - at) (drop at o)) ≡ splice at n new o
+unfolding splice
+put-lent o new at n = let w : at + n - at ≡ n = omega arith in rw w

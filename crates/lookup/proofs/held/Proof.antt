@@ -4,7 +4,7 @@ use native.Mathlib.Omega.{arith}
 use borrow.Author.Needs.{needs}
 use Rattle.buffer.specs.Bytes.{byte}
 use Rattle.lookup.specs.Slots.{heldAt, held-fits, held-part}
-use Rattle.lookup.proofs.Lent.{part-lent}
+use Rattle.buffer.specs.SpliceLaws.{part-lent}
 use Rattle.lookup.proofs.held.Statement.{statement}
 use Rattle.lookup.proofs.held.Tie as tie
 

@@ -11,7 +11,8 @@ use Rattle.model.specs.Reads.{listedKey}
 use Rattle.buffer.specs.Strided.{strided32}
 use Rattle.lookup.specs.Keys.{Lists, place-near, lists-key}
 use Rattle.lookup.specs.Slots.{recipe-keys, out-key-long, body-rebuilt, slot-rebuilt, slot-none}
-use Rattle.lookup.proofs.Lent.{part-lent, body-room, two-parts}
+use Rattle.buffer.specs.SpliceLaws.{part-lent}
+use Rattle.lookup.proofs.Lent.{body-room, two-parts}
 use Rattle.lookup.proofs.rebuild_slot.Statement.{statement}
 use Rattle.lookup.proofs.rebuild_slot.Tie as tie
 

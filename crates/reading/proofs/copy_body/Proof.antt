@@ -8,7 +8,7 @@ use Rattle.model.specs.Layout.{slotAt}
 use Rattle.lookup.specs.Sized.{slot-fits}
 use Rattle.lookup.specs.States.{state-byte}
 use Rattle.lookup.specs.Slots.{body-own, body-out}
-use Rattle.lookup.proofs.Lent.{part-lent}
+use Rattle.buffer.specs.SpliceLaws.{part-lent}
 use Rattle.reading.proofs.copy_body.Statement.{statement}
 use Rattle.reading.proofs.copy_body.Tie as tie
 

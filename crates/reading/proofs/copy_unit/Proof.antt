@@ -8,7 +8,7 @@ use Rattle.model.specs.Layout.{slotAt}
 use Rattle.lookup.specs.Sized.{slots-fit}
 use Rattle.lookup.specs.States.{state-byte}
 use Rattle.lookup.specs.Slots.{own-slots}
-use Rattle.lookup.proofs.Lent.{part-lent}
+use Rattle.buffer.specs.SpliceLaws.{part-lent}
 use Rattle.reading.proofs.copy_unit.Statement.{statement}
 use Rattle.reading.proofs.copy_unit.Tie as tie
 

@@ -10,7 +10,7 @@ use Rattle.group.specs.Widths.{slotBytes}
 use Rattle.model.specs.Layout.{view}
 use Rattle.model.specs.Reads.{wholeSlot}
 use Rattle.lookup.specs.Slots.{length-whole}
-use Rattle.lookup.proofs.Lent.{length-lent, put-lent}
+use Rattle.buffer.specs.SpliceLaws.{length-lent, put-lent}
 use Rattle.reading.proofs.Lists.{slots-wide, filled-whole}
 use Rattle.reading.proofs.rebuild_unit.Statement.{statement}
 use Rattle.reading.proofs.rebuild_unit.Tie as tie

@@ -11,7 +11,7 @@ use Rattle.model.specs.Layout.{view}
 use Rattle.model.specs.Reads.{wholeSlot}
 use Rattle.lookup.specs.Keys.{listed-fill-small}
 use Rattle.lookup.specs.Groups.{whole-unit}
-use Rattle.lookup.proofs.Lent.{length-lent, put-lent}
+use Rattle.buffer.specs.SpliceLaws.{length-lent, put-lent}
 use Rattle.reading.proofs.Lists.{fill-at, keeper-at, records, records-long, records-fit, listing-is}
 use Rattle.reading.proofs.write_records.Statement.{statement}
 use Rattle.reading.proofs.write_records.Tie as tie
