@@ -48,15 +48,6 @@ static void require(uint8_t number, uint8_t expected, const char *what)
     }
 }
 
-/* The data unit of a key: linear hashing. */
-static uint32_t unit_of(uint32_t units, uint32_t key)
-{
-    uint32_t power = 1;
-    while (2 * power <= units)
-        power *= 2;
-    return key % (2 * power) < units ? key % (2 * power) : key % power;
-}
-
 /* Lays out, raises to the level, and grows; the first group gets all its check units. */
 static void build(struct hall *hall, uint32_t slots, uint32_t units, uint32_t level)
 {
@@ -88,7 +79,7 @@ static void fill(struct hall *hall, uint32_t records)
     uint32_t key = 1;
     for (; left > 0; key++) {
         uint8_t body[LHRS_BODY];
-        uint32_t unit = unit_of(hall->units, key);
+        uint32_t unit = plain_unit(hall->units, key);
         if (counts[unit] == records)
             continue;
         fill_body(body, key);
@@ -101,7 +92,7 @@ static void fill(struct hall *hall, uint32_t records)
     hall->count = records;
     for (uint32_t i = 0; i < records; i++)
         fill_body(hall->bodies[i], ~i);
-    while (unit_of(hall->units, key) != 0)
+    while (plain_unit(hall->units, key) != 0)
         key++;
     hall->absent = key;
 }

@@ -104,8 +104,7 @@ static uint32_t fill_of(const uint8_t *store, uint32_t unit)
     return rank;
 }
 
-/* The data unit of a key: linear hashing. */
-static uint32_t unit_of(uint32_t units, uint32_t key)
+uint32_t plain_unit(uint32_t units, uint32_t key)
 {
     uint32_t power = 1;
     while (2 * power <= units)
@@ -140,7 +139,7 @@ static int keys_hold(const uint8_t *store, uint32_t unit)
                 return 0;
             continue;
         }
-        if (unit_of(store[6], key) != unit)
+        if (plain_unit(store[6], key) != unit)
             return 0;
         for (uint32_t before = 0; before < rank; before++)
             if (key_at(store, unit, before) == key)

@@ -1,4 +1,4 @@
-/* The soundness test of bench/plain.c. */
+/* What bench/plain.c has: a soundness test, and linear hashing. */
 #ifndef PLAIN_H
 #define PLAIN_H
 
@@ -6,5 +6,8 @@
 
 /* Whether a block of bytes holds a sound store. */
 int plain_sound(const uint8_t *store, size_t len);
+
+/* The data unit of a key among so many units. */
+uint32_t plain_unit(uint32_t units, uint32_t key);
 
 #endif

@@ -4,8 +4,8 @@ use reference::generate::lines::input;
 use reference::hallrun::run;
 use std::collections::HashSet;
 
-const STORED_INPUT: &[u8] = include_bytes!("../../hallrun/stdin");
-const STORED_OUTPUT: &str = include_str!("../../hallrun/stdout");
+const STORED_INPUT: &[u8] = include_bytes!("../../../crates/hallrun/stdin");
+const STORED_OUTPUT: &str = include_str!("../../../crates/hallrun/stdout");
 
 #[test]
 fn example() {
