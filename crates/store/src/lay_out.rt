@@ -37,44 +37,18 @@ fn header(b: u32) -> [u8; 36]
     ensures { λ r. ⌜ r ≡ frontOf b 1 1 ++ ((1 ∷ zeros 15) ++ (1 ∷ zeros 11)) ⌝ }
 {
     let size = 36 + 704 * b;
-    [
-        1,
-        (size / 16777216 % 256) as u8,
-        (size / 65536 % 256) as u8,
-        (size / 256 % 256) as u8,
-        (size % 256) as u8,
-        b as u8,
-        1,
-        1,
-        1,
-        0,
-        0,
-        0,
-        0,
-        0,
-        0,
-        0,
-        0,
-        0,
-        0,
-        0,
-        0,
-        0,
-        0,
-        0,
-        1,
-        0,
-        0,
-        0,
-        0,
-        0,
-        0,
-        0,
-        0,
-        0,
-        0,
-        0,
-    ]
+    let mut head = [0u8; 36];
+    head[0] = 1;
+    head[1] = (size / 16777216 % 256) as u8;
+    head[2] = (size / 65536 % 256) as u8;
+    head[3] = (size / 256 % 256) as u8;
+    head[4] = (size % 256) as u8;
+    head[5] = b as u8;
+    head[6] = 1;
+    head[7] = 1;
+    head[8] = 1;
+    head[24] = 1;
+    head
 }
 
 // Lays out an empty store with b ranks to a unit. Bytes behind it are not touched.
