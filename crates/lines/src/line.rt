@@ -1,6 +1,7 @@
 // A line that hallrun reads: a letter and its arguments.
 ghost use mathlib.Core.Path.{_≡_};
 ghost use Prim.Native.Nat.{_≤_};
+ghost use Rattle.buffer.specs.Bytes.{zeros};
 ghost use Rattle.lines.specs.Line.{line, parsed, unreadable, digitsOf, hasBody, lengthOf};
 use crate::digits::number;
 use crate::digits::read_body;
@@ -41,14 +42,21 @@ fn length_of(c: u8) -> usize
     if has_body(c) { 2 + n + 33 } else { 2 + n }
 }
 
+// A line without a body.
+fn bodiless(letter: u8, number: u32) -> Line
+    ensures { λ r. ⌜ line (r .letter) (r .number) (r .body) ≡ line letter number (zeros 16) ⌝ }
+{
+    Line {
+        letter,
+        number,
+        body: [0u8; 16],
+    }
+}
+
 fn unread() -> Line
     ensures { λ r. ⌜ line (r .letter) (r .number) (r .body) ≡ unreadable ⌝ }
 {
-    Line {
-        letter: 0,
-        number: 0,
-        body: [0u8; 16],
-    }
+    bodiless(0, 0)
 }
 
 // Reads a line; its end is not part of it.
@@ -64,11 +72,7 @@ pub fn parse(l: &[u8]) -> Line
         return unread();
     }
     if n == 0 {
-        return Line {
-            letter,
-            number: 0,
-            body: [0u8; 16],
-        };
+        return bodiless(letter, 0);
     }
     if l[1] != 32 {
         return unread();
@@ -78,11 +82,7 @@ pub fn parse(l: &[u8]) -> Line
         return unread();
     }
     if !has_body(letter) {
-        return Line {
-            letter,
-            number: d.value,
-            body: [0u8; 16],
-        };
+        return bodiless(letter, d.value);
     }
     if l[10] != 32 {
         return unread();

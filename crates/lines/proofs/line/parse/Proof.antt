@@ -2,7 +2,6 @@
 use mathlib.Core.Path.{sym, _∙_}
 use native.Mathlib.Omega.{arith}
 use borrow.Author.Needs.{needs}
-use Rattle.buffer.specs.Bytes.{zeros}
 use Rattle.buffer.specs.TestLaws.{is-yes, is-no}
 use Rattle.lines.proofs.Parsing.{
   Argued,
@@ -44,8 +43,9 @@ returns-2 c =
     ∙ sym (misfit _ _ _ (c .before .before .before .before .before .byte-at .ensures) (c .before .before .before .before .digits-of .ensures .0) (λ e. c .before .if2 .taken (e ∙ sym (c .before .before .length-of .ensures))))
 
 returns-3 : tie.Need-returns-3
-unfolding zeros
-returns-3 c = bare _ _ _ (c .before .before .before .before .before .byte-at .ensures) (c .before .before .before .before .digits-of .ensures .0) (c .if3 .taken) (c .before .if2 .left ∙ c .before .before .length-of .ensures)
+returns-3 c =
+    let i = c .before in
+    c .bodiless .ensures ∙ bare _ _ _ (i .before .before .before .before .before .byte-at .ensures) (i .before .before .before .before .digits-of .ensures .0) (i .if3 .taken) (i .before .if2 .left ∙ i .before .before .length-of .ensures)
 
 shared-slice-read-if4 : tie.Need-shared-slice-read-if4
 shared-slice-read-if4 c = omega (arith, room (argued (c .before)))
@@ -60,10 +60,10 @@ returns-5 : tie.Need-returns-5
 returns-5 c = c .unread4 .ensures ∙ sym (no-number (argued (c .before .before .before .before .before .before)) (not-ok (c .before .before .before .number .ensures) (c .before .if5 .taken)))
 
 returns-6 : tie.Need-returns-6
-unfolding zeros
 returns-6 c =
-    let n = c .before .before .before .before in
-    numbered (argued (n .before .before .before)) (n .before .if4 .left) (ok (n .number .ensures) (c .before .before .if5 .left)) (is-no (c .before .has-body .ensures) (c .if6 .taken))
+    let i = c .before in
+    let n = i .before .before .before .before in
+    c .bodiless2 .ensures ∙ numbered (argued (n .before .before .before)) (n .before .if4 .left) (ok (n .number .ensures) (i .before .before .if5 .left)) (is-no (i .before .has-body .ensures) (i .if6 .taken))
 
 shared-slice-read-if7 : tie.Need-shared-slice-read-if7
 shared-slice-read-if7 c = omega (arith, body-length (argued (c .before .before .before .before .before .before .before .before)) (is-yes (c .before .before .has-body .ensures) (c .before .if6 .left)))
@@ -107,6 +107,7 @@ parse-spec =
     (λ c κs. search needs)
     (λ c κs. search needs)
     returns-2
+    (λ c κs. search needs)
     returns-3
     shared-slice-read-if4
     (λ c κs. search needs)
@@ -114,6 +115,7 @@ parse-spec =
     number-requires
     (λ c κs. search needs)
     returns-5
+    (λ c κs. search needs)
     (λ c κs. search needs)
     returns-6
     shared-slice-read-if7
