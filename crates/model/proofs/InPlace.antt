@@ -1,5 +1,5 @@
--- Demand 1 for reading in place: the part is the 16 bytes of a body inside the store, or empty exactly where read, given a buffer that fits, would
--- refuse or the key's unit is out. Assumes nothing.
+-- Demand 1 for reading in place: the part is the 16 bytes of a body inside the store, the one that read, given a buffer that fits, hands back, or it
+-- is empty, exactly where that read would refuse or the key's unit is out. Assumes nothing.
 use Prim.Native.Nat.{ℕ, suc, _+_, _*_, _≤_, _<_}
 use mathlib.Core.Path.{_≡_, refl, sym, ap, _∙_}
 use mathlib.Core.List.{List}
@@ -7,21 +7,23 @@ use mathlib.Core.Bool.{Bool, true, false, not, _&&_}
 use native.Mathlib.Omega.{arith}
 use native.Mathlib.Nat.{mul-le-mul-right}
 use lib.Dec.{eqb, leb}
-use lib.ListN.{length, take}
-use lib.Seq.{getD-take}
-use borrow.Author.Tests.{eqb-true, leb-true, leb-false, not-true, not-false}
+use lib.ListN.{length, take, drop}
+use lib.Seq.{getD-take, take-all}
+use borrow.Author.Tests.{eqb-true, eq-eqb, ne-eqb, leb-true, leb-false, not-true, not-false}
 use Rattle.buffer.specs.Choice.{pick}
 use Rattle.buffer.specs.ChoiceLaws.{by-test, pick-true, pick-false}
-use Rattle.buffer.specs.TestLaws.{and-first, and-second}
+use Rattle.buffer.specs.TestLaws.{and-true, and-first, and-second}
 use Rattle.buffer.specs.Range.{first}
 use Rattle.buffer.specs.RangeLaws.{first-ext, first-le}
 use Rattle.buffer.specs.Bytes.{byte, be32, zeros, part}
 use Rattle.buffer.specs.ByteLaws.{length-zeros, be32-part}
-use Rattle.buffer.specs.SpliceLaws.{length-part}
-use Rattle.group.specs.Widths.{keyBytes, bodyBytes}
+use Rattle.buffer.specs.SpliceLaws.{length-part, part-part}
+use Rattle.group.specs.Widths.{keyBytes, bodyBytes, slotBytes}
+use Rattle.group.specs.CheckRecordLaws.{length-body}
 use Rattle.model.specs.UnitLaws.{unit-below}
 use Rattle.model.specs.Layout.{Store, view, version, storeBytes, slotAt, unitsIn, keyOf}
-use Rattle.model.specs.Reads.{homeIn, fillIn, rankIn, listedKey, listedFill, listedRank}
+use Rattle.model.specs.LayoutLaws.{view-shaped}
+use Rattle.model.specs.Reads.{homeIn, fillIn, rankIn, listedKey, listedFill, listedRank, wholeSlot, bodyIn}
 use Rattle.model.specs.Sound.{sound, ranges}
 use Rattle.model.specs.Numbers.{read, readInPlace, refusalsIn, numberIn}
 use Rattle.model.specs.RowLaws.{Free, first-free}
@@ -38,6 +40,11 @@ same-length s k x y e = rw e
 key-first : (x : List ℕ) → keyOf (take keyBytes x) ≡ keyOf x
 unfolding keyOf part
 key-first x = be32-part 0 keyBytes x 0 (omega arith)
+
+-- the body in a slot of a store's bytes
+pub slot-body : (x : List ℕ) (u r : ℕ) → part (slotAt (view x .size) u r + keyBytes) bodyBytes x ≡ part keyBytes bodyBytes (view x .slot u r)
+unfolding view
+slot-body x u r = sym (part-part (slotAt (view x .size) u r) slotBytes keyBytes bodyBytes x (omega arith))
 
 -- ---- what soundness says of the bytes
 
@@ -113,9 +120,25 @@ module _ (s : List ℕ) (k : ℕ) (zero : numberIn s (read k (zeros bodyBytes)) 
     unfolding fillIn
     fill-most = first-le (v .size) (λ r. eqb (keyOf (v .slot u r)) 0)
 
+    in-unit : rankIn v u k < v .size
+    in-unit = omega (arith, found, own-rank, own-fill, fill-most)
+
     body-length : length (part (slotAt (v .size) u (rankIn v u k) + keyBytes) bodyBytes s) ≡ bodyBytes
-    body-length = length-part (slotAt (v .size) u (rankIn v u k) + keyBytes) bodyBytes s
-        (inside s is-sound u (rankIn v u k) (home-low s is-sound k) (omega (arith, found, own-rank, own-fill, fill-most)))
+    body-length = length-part (slotAt (v .size) u (rankIn v u k) + keyBytes) bodyBytes s (inside s is-sound u (rankIn v u k) (home-low s is-sound k) in-unit)
+
+    -- it is the key's body
+    body-there : part (slotAt (v .size) u (rankIn v u k) + keyBytes) bodyBytes s ≡ bodyIn v k
+    unfolding bodyIn wholeSlot part
+    body-there =
+        let slot : List ℕ = v .slot u (rankIn v u k) in
+        let long : length slot ≡ slotBytes = view-shaped s (bounds s is-sound .2) .slot u (rankIn v u k) (home-low s is-sound k) in-unit in
+        slot-body s u (rankIn v u k)
+        ∙ take-all bodyBytes (drop keyBytes slot) (omega (arith, length-body bodyBytes slot long))
+        ∙ sym (ap (λ (r : ℕ). drop keyBytes (wholeSlot v u r)) own-rank ∙ ap (drop keyBytes) (pick-false kept _ slot))
+
+    part-there : givenIn s (readInPlace k) ≡ bodyIn v k
+    unfolding givenIn placeIn
+    part-there = ap (λ (p : Place). part (p .at) (p .size) s) (pick-true (and-true (eq-eqb (numberIn s (read k (zeros bodyBytes))) 0 zero) (ap not kept)) _ _) ∙ body-there
 
 -- ---- the part
 
@@ -146,8 +169,17 @@ module _ (s : List ℕ) (k : ℕ) where
       (λ _ e. ap (λ (p : Place). length (partAt s p)) (pick-false refl _ _) ∙ ap length (part-none s) ∙ sym (pick-false refl bodyBytes 0))
       refl
 
+  -- read into any buffer that fits
+  as-zeros : (out : List ℕ) → length out ≡ bodyBytes → numberIn s (read k out) ≡ numberIn s (read k (zeros bodyBytes))
+  as-zeros out fits = same-length s k out (zeros bodyBytes) (fits ∙ sym (length-zeros bodyBytes))
+
+  read-gives : (out : List ℕ) → givenIn s (read k out) ≡ bodyIn (view s) k
+  unfolding givenIn
+  read-gives out = refl
+
   pub in-place : InPlace s k
   in-place = record {
     untouched = in-place-store s k;
-    exactly = λ out fits. rw (same-length s k out (zeros bodyBytes) (fits ∙ sym (length-zeros bodyBytes))) part-length;
+    exactly = λ out fits. rw (as-zeros out fits) part-length;
+    same = λ out fits zero kept. part-there s k (sym (as-zeros out fits) ∙ zero) (ne-eqb (view s .dstate (homeIn (view s) k)) 2 kept) ∙ sym (read-gives out);
   }

@@ -37,12 +37,14 @@ pub record Misused (s : List ℕ) : Type 0 where
   pub group-not-in-place : (g : ℕ) → g ≤ 3 → sound s ≡ true → unitsIn (view s) ≤ 4 * g → RefusedWith s 3 (repair g ∷ [])
   pub short : (x : List ℕ) → sound s ≡ true → lostIn (view s) ≡ false → length x < slotBytes * totalIn (view s) → RefusedWith s 7 (list x ∷ [])
 
--- reading in place, in any bytes: the store is as it was, and the part is the 16 bytes of a body, or empty exactly where read, given a buffer that
--- fits, would refuse or the key's unit is out
+-- reading in place, in any bytes: the store is as it was, and the part is the 16 bytes of a body, the one that read, given a buffer that fits, hands
+-- back, or it is empty, exactly where that read would refuse or the key's unit is out
 pub record InPlace (s : List ℕ) (k : ℕ) : Type 0 where
   pub untouched : perform s (readInPlace k) .store ≡ s
   pub exactly : (out : List ℕ) → length out ≡ bodyBytes
       → length (givenIn s (readInPlace k)) ≡ pick (eqb (numberIn s (read k out)) 0 && not (eqb (view s .dstate (homeIn (view s) k)) 2)) bodyBytes 0
+  pub same : (out : List ℕ) → length out ≡ bodyBytes → numberIn s (read k out) ≡ 0 → view s .dstate (homeIn (view s) k) ≢ 2
+      → givenIn s (readInPlace k) ≡ givenIn s (read k out)
 
 -- lay out, of any bytes and any number
 pub record LayoutRefuses (s : List ℕ) (b : ℕ) : Type 0 where

@@ -14,4 +14,5 @@ pub mod ChangeLaws
 pub mod Perform
 pub mod PerformLaws
 pub mod Demand1
+pub mod MadeAnew
 pub mod history

@@ -54,6 +54,18 @@ part-body s p slot at e f =
     let w : at + 20 - (at + 4) ≡ 16 = omega arith in
     rw (w, f) (sym (ap (λ (q : Place). part (q .at) (q .size) s) e))
 
+-- where it starts: the place of the part, counted from the start of the store at (block, o); nothing is said of an empty part
+pub start-empty : {A : Type 0} (p : Place) → p ≡ record { at = 0; size = 0 } → p .size ≡ bodyBytes → A
+start-empty p e h =
+    let none : p .size ≡ 0 = ap (λ (q : Place). q .size) e in
+    absurd (omega arith)
+
+pub start-body : (block o : ℕ) (p : Place) (slot at : ℕ) → p ≡ record { at = slot + keyBytes; size = bodyBytes } → at ≡ slot → _≡_ {A = ℕ × ℕ} (block, at + 4 + o) (block, o + p .at)
+start-body block o p slot at e f =
+    let there : p .at ≡ slot + keyBytes = ap (λ (q : Place). q .at) e in
+    let same : at + 4 + o ≡ o + p .at = omega arith in
+    ap (λ (n : ℕ). (block, n)) same
+
 module _ (s : List ℕ) (k : ℕ) where
   -- refused as read into a buffer that fits
   pub nowhere : (n : ℕ) → n ≡ numberIn s (Call.read k (zeros bodyBytes)) → (n ≡ 0 → ⊥) → placeIn s k ≡ record { at = 0; size = 0 }

@@ -3,6 +3,7 @@ ghost use mathlib.Core.Path.{_≡_};
 ghost use mathlib.Core.List.{_++_};
 ghost use Prim.Native.Nat.{_+_, _*_, _/_, _≤_, _<_};
 ghost use lib.ListN.{length, drop, getD};
+ghost use denote.Ref.{ptr};
 ghost use Rattle.buffer.specs.Bytes.{byte, part};
 ghost use Rattle.buffer.specs.Range.{sum};
 ghost use Rattle.buffer.specs.Table.{tab};
@@ -97,9 +98,11 @@ pub fn read(s: &[u8], key: u32, out: &mut [u8]) -> u8
 }
 
 // The body of a key as the part of the store that holds it; empty where a read is refused or the key's unit is out.
+// A pointer is a block and a place in it: `start` says that a body is handed back where it stands in the store, not another stretch of equal bytes.
 pub fn read_in_place(s: &[u8], key: u32) -> &[u8]
     ensures answer { λ r. ⌜ outcome (lent (now r)) (now (s .entry)) ≡ perform (now (s .entry)) (Call.readInPlace key) ⌝ }
     ensures place { λ r. ⌜ now r ≡ part (placeIn (now (s .entry)) key .at) (placeIn (now (s .entry)) key .size) (now (s .entry)) ⌝ }
+    ensures start { λ r. ⌜ (placeIn (now (s .entry)) key .size ≡ bodyBytes → ptr r ≡ (ptr (s .entry) .0, ptr (s .entry) .1 + placeIn (now (s .entry)) key .at)) ⌝ }
 {
     let place = look_up(s, soundness::survey_of(s), key, 16);
     if place.number != 0 {

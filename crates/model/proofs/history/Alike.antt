@@ -83,6 +83,22 @@ listed-first p x a = part-part 0 keysBytes (keyBytes * p) keyBytes x (omega arit
 pub listed-like : {x y : List ℕ} → LikeCheck x y → (p : ℕ) → p < 4 → part (keyBytes * p) keyBytes x ≡ part (keyBytes * p) keyBytes y
 listed-like {x} {y} h p a = sym (listed-first p x a) ∙ ap (part (keyBytes * p) keyBytes) (h .keys) ∙ listed-first p y a
 
+-- ---- a store of the right sizes is alike to itself
+
+pub alike-refl : (v : Store) → Shaped v → Alike v v
+alike-refl v h = record {
+  front = refl;
+  whole = h .front;
+  sized = h .size;
+  size = refl;
+  dstate = λ u l. refl;
+  cstate = λ c l. refl;
+  slot = λ u r l m. slot-refl (v .slot u r) (h .slot u r l m);
+  check = λ c r l m. record { keys = refl; left = h .check c r l m; right = h .check c r l m };
+  idle = λ c r l m e. refl;
+  rest = refl;
+}
+
 -- ---- the parts have the sizes that the layout gives them, and are read back from the bytes
 
 module _ (v w : Store) (a : Alike v w) where

@@ -16,6 +16,7 @@ use Rattle.group.specs.Widths.{slotBytes, checkBytes}
 use Rattle.group.specs.CheckRecord.{checkRecord}
 use Rattle.model.specs.Units.{splitPointer, moves, touched, broughtUp, emptied}
 use Rattle.model.specs.Layout.{Store, levelIn, keyOf}
+use Rattle.model.specs.LayoutLaws.{Shaped}
 use Rattle.model.specs.Reads.{fillIn}
 use Rattle.model.specs.Changes.{keep, rows, recordsIn, dealt, grownState, grown, merged, shrunkState, shrunk}
 use Rattle.model.proofs.history.Alike.{LikeSlot, LikeCheck, Alike, pick-both, no-slot, no-check, key-like, level-alike, fill-alike, fill-le}
@@ -87,6 +88,24 @@ module _ (v w : Store) (a : Alike v w) (m : ℕ) (hm : m < 16) (hn : splitPointe
   unfolding grownState
   grown-state c l = rw (level-alike v w a, a .cstate c l)
 
+  abbrev anew-grown : Store → ℕ → ℕ → List ℕ
+  anew-grown s c r = checkRecord (c % 3) (λ p. dealt s m (4 * (c / 3) + p) r)
+
+  grown-check : (c r : ℕ) → c < 12 → r < v .size → LikeCheck (grown v m .check c r) (grown w m .check c r)
+  unfolding grown
+  grown-check c r l q = rw (← (grown-state c l))
+      (pick-both LikeCheck (touched m (c / 3) && eqb (grownState v m c) 1) (anew-grown v c r) (anew-grown w c r) (v .check c r) (w .check c r)
+      (λ _. anew-like (c % 3) (λ p. dealt v m (4 * (c / 3) + p) r) (λ p. dealt w m (4 * (c / 3) + p) r) (λ p i. dealt-like (4 * (c / 3) + p) r (omega arith) q))
+      (λ _. a .check c r l q))
+
+  pub grown-shaped : Shaped (grown v m)
+  grown-shaped = record {
+    front = unfold grown in units-whole (suc m);
+    size = unfold grown in units-sized (suc m);
+    slot = λ u r l q. unfold grown in dealt-like u r l q .left;
+    check = λ c r l q. grown-check c r l (unfold grown in q) .left;
+  }
+
   module _ (within : (c : ℕ) → c < 12 → eqb (v .cstate c) 1 ≡ true → ltb (c % 3) (levelIn v) ≡ true) where
     -- a check unit that is not in service after the grow was not before
     grown-idle : (c : ℕ) → c < 12 → eqb (grownState v m c) 1 ≡ false → eqb (v .cstate c) 1 ≡ false
@@ -107,19 +126,13 @@ module _ (v w : Store) (a : Alike v w) (m : ℕ) (hm : m < 16) (hn : splitPointe
       dstate = λ u l. ap (pick (eqb u m) 1) (a .dstate u l);
       cstate = grown-state;
       slot = dealt-like;
-      check = λ c r l q. rw (← (grown-state c l))
-          (pick-both LikeCheck (touched m (c / 3) && eqb (grownState v m c) 1) (made v c r) (made w c r) (v .check c r) (w .check c r)
-          (λ _. anew-like (c % 3) (λ p. dealt v m (4 * (c / 3) + p) r) (λ p. dealt w m (4 * (c / 3) + p) r) (λ p i. dealt-like (4 * (c / 3) + p) r (omega arith) q))
-          (λ _. a .check c r l q));
+      check = grown-check;
       idle = λ c r l q e.
-          pick-false (and-false-second (touched m (c / 3)) e) (made v c r) (v .check c r)
+          pick-false (and-false-second (touched m (c / 3)) e) (anew-grown v c r) (v .check c r)
           ∙ a .idle c r l q (grown-idle c l e)
-          ∙ sym (pick-false (and-false-second (touched m (c / 3)) (ap (λ (n : ℕ). eqb n 1) (sym (grown-state c l)) ∙ e)) (made w c r) (w .check c r));
+          ∙ sym (pick-false (and-false-second (touched m (c / 3)) (ap (λ (n : ℕ). eqb n 1) (sym (grown-state c l)) ∙ e)) (anew-grown w c r) (w .check c r));
       rest = a .rest;
     }
-      where
-        made : Store → ℕ → ℕ → List ℕ
-        made s c r = checkRecord (c % 3) (λ p. dealt s m (4 * (c / 3) + p) r)
 
   -- ---- shrink
 

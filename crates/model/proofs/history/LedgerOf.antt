@@ -28,7 +28,7 @@ use Rattle.model.specs.history.Typed.{Bytes}
 use Rattle.model.proofs.history.Records.{Good}
 use Rattle.model.proofs.history.Picture.{Valid}
 use Rattle.model.proofs.history.States.{placed-unit, placed-check}
-use Rattle.model.proofs.history.SoundSays.{ranged, Stateful, data-states, group-number, check-states, listed-own, listed-differ}
+use Rattle.model.proofs.history.SoundSays.{ranged, units-some, units-few, Stateful, data-states, group-number, check-states, listed-own, listed-differ}
 
 -- a record of a key alone
 abbrev pub keyRecord : ℕ → Rec
@@ -116,14 +116,6 @@ module _ (s : List ℕ) (b : Bytes s) (h : sound s ≡ true) where
 
   abbrev l : Ledger
   l = ledgerOf (view s)
-
-  units-some : 1 ≤ unitsIn v
-  unfolding unitsIn view
-  units-some = rw (getD-take 8 s 6 0 (omega arith)) (ranged s h .some)
-
-  units-few : unitsIn v ≤ 16
-  unfolding unitsIn view
-  units-few = rw (getD-take 8 s 6 0 (omega arith)) (ranged s h .few)
 
   level-most : levelIn v ≤ 3
   unfolding levelIn view
@@ -213,7 +205,7 @@ module _ (s : List ℕ) (b : Bytes s) (h : sound s ≡ true) where
   -- ---- records
 
   unit-low : (u : ℕ) → readable v u ≡ true → u < 16
-  unit-low u e = omega (arith, ltb-true u (unitsIn v) (and-first (ltb u (unitsIn v)) (keysKnown v u) e), units-few)
+  unit-low u e = omega (arith, ltb-true u (unitsIn v) (and-first (ltb u (unitsIn v)) (keysKnown v u) e), units-few s h)
 
   known : (u : ℕ) → readable v u ≡ true → keysKnown v u ≡ true
   known u e = and-second (ltb u (unitsIn v)) (keysKnown v u) e
@@ -248,8 +240,8 @@ module _ (s : List ℕ) (b : Bytes s) (h : sound s ≡ true) where
   pub ledger-valid : Valid (ledgerOf (view s))
   unfolding ledgerOf recordAt
   ledger-valid = record {
-    some = units-some;
-    few = units-few;
+    some = units-some s h;
+    few = units-few s h;
     least = unfold view in ranged s h .least;
     most = unfold view in ranged s h .most;
     topped = level-most;
@@ -268,7 +260,7 @@ module _ (s : List ℕ) (b : Bytes s) (h : sound s ≡ true) where
     none = λ u a. pick-false (and-false-first (le-ltb u (unitsIn v) a) (keysKnown v u)) (listedRecords v u) [];
     capped = λ g. by-pick (λ (n : ℕ). n ≤ levelIn v) (ltb g 4) (checksIn v g) 0 (λ e. checks-capped g (ltb-true g 4 e)) (λ e. omega arith);
     manned = λ g a.
-        let i : g < 4 = omega (arith, units-few) in
+        let i : g < 4 = omega (arith, units-few s h) in
         rw (pick-true (lt-ltb g 4 i)) (leb-true 1 (checksIn v g) (and-first (leb 1 (checksIn v g)) (leb (checksIn v g) (levelIn v)) (allowed g i a)));
     unmanned = λ g a. by-pick (λ (n : ℕ). n ≡ 0) (ltb g 4) (checksIn v g) 0 (λ e. absent g (ltb-true g 4 e) a) (λ e. refl);
     calm = out-calm;

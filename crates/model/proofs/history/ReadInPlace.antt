@@ -13,8 +13,7 @@ use Rattle.buffer.specs.Choice.{pick}
 use Rattle.buffer.specs.ChoiceLaws.{by-test, pick-true, pick-false}
 use Rattle.buffer.specs.TestLaws.{and-first, and-second}
 use Rattle.buffer.specs.Bytes.{zeros, part}
-use Rattle.buffer.specs.SpliceLaws.{part-part}
-use Rattle.group.specs.Widths.{keyBytes, bodyBytes, slotBytes}
+use Rattle.group.specs.Widths.{keyBytes, bodyBytes}
 use Rattle.model.specs.Layout.{Store, view, slotAt}
 use Rattle.model.specs.Reads.{homeIn, rankIn}
 use Rattle.model.specs.Numbers.{read, readInPlace, refusalsIn, numberIn}
@@ -23,21 +22,14 @@ use Rattle.model.specs.history.Ledger.{Ledger, home, recordAt, rankOf, i
 use Rattle.model.specs.history.Picture.{picture}
 use Rattle.model.specs.history.Table.{refusals, number}
 use Rattle.model.specs.history.Answers.{bodyOf, given}
+use Rattle.model.proofs.Refusals.{part-none}
+use Rattle.model.proofs.InPlace.{slot-body}
 use Rattle.model.proofs.history.Records.{drop-record}
 use Rattle.model.proofs.history.Picture.{Valid}
 use Rattle.model.proofs.history.States.{state-in}
 use Rattle.model.proofs.history.Seen.{there, home-seen, home-lt, home-low, dstate-out, rank-seen, slot-seen}
 use Rattle.model.proofs.history.Simulation.{Simulated, number-agrees}
 use Rattle.model.proofs.history.Read.{found, read-simulated}
-
--- the body in a slot of a store's bytes
-slot-body : (x : List ℕ) (u r : ℕ) → part (slotAt (view x .size) u r + keyBytes) bodyBytes x ≡ part keyBytes bodyBytes (view x .slot u r)
-unfolding view
-slot-body x u r = sym (part-part (slotAt (view x .size) u r) slotBytes keyBytes bodyBytes x (omega arith))
-
-part-none : (x : List ℕ) → part 0 0 x ≡ []
-unfolding part
-part-none x = refl
 
 -- the part at a place that is picked
 abbrev partAt : List ℕ → Place → List ℕ

@@ -15,6 +15,7 @@ use Rattle.buffer.specs.Bytes.{byte, be32, zeros, part}
 use Rattle.group.specs.Widths.{keyBytes, slotBytes, checkBytes}
 use Rattle.model.specs.Units.{unitOf}
 use Rattle.model.specs.Layout.{Store, view, version, storeBytes, unitsIn, levelIn, keyOf}
+use Rattle.model.specs.StoreLaws.{units-of}
 use Rattle.model.specs.Reads.{fillIn, listedKey, listedFill}
 use Rattle.model.specs.Sound.{same, ranges, unitsPlaced, checksIn, checksAllowed, groupsPlaced, zeroed, keysKnown, keysPlaced, listsAgree, sound}
 
@@ -132,6 +133,12 @@ module _ (s : List ℕ) (h : sound s ≡ true) where
         topped = leb-true (byte s 7) 3 (and-second (t0 && t1 && t2 && t3 && t4 && t5 && t6) t7 e7);
         long = leb-true (storeBytes (byte s 5)) (length s) (and-second (t0 && t1 && t2 && t3 && t4 && t5 && t6 && t7) t8 (clauses .ranges));
       }
+
+  pub units-some : 1 ≤ unitsIn v
+  units-some = rw (← (units-of s)) (ranged .some)
+
+  pub units-few : unitsIn v ≤ 16
+  units-few = rw (← (units-of s)) (ranged .few)
 
   -- ---- states
 

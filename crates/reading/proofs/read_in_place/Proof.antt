@@ -12,7 +12,7 @@ use Rattle.model.specs.Perform.{placeIn}
 use Rattle.lookup.specs.Sized.{slot-fits}
 use Rattle.lookup.specs.States.{state-byte}
 use Rattle.reading.specs.Rows.{read-rows}
-use Rattle.reading.proofs.Answers.{nowhere, out-unit, stands, part-empty, part-body, lent-part}
+use Rattle.reading.proofs.Answers.{nowhere, out-unit, stands, part-empty, part-body, start-empty, start-body, lent-part}
 use Rattle.reading.proofs.read_in_place.Statement.{statement}
 use Rattle.reading.proofs.read_in_place.Tie as tie
 
@@ -27,8 +27,9 @@ returns c =
     let s = start .args .s .now in
     let key = start .args .key in
     let number = look .look-up .ensures .given ∙ read-rows s _ _ _ (zeros bodyBytes) (look .before .survey-of .ensures .tested) (sym (length-zeros bodyBytes)) in
-    let place = part-empty s (placeIn s key) (nowhere s key (look .look-up .result .number) number (test .if1 .taken)) in
-    (lent-part s key [] place, place)
+    let none = nowhere s key (look .look-up .result .number) number (test .if1 .taken) in
+    let place = part-empty s (placeIn s key) none in
+    (lent-part s key [] place, (place, start-empty (placeIn s key) none))
 
 returns-2 : tie.Need-returns-2
 returns-2 c =
@@ -40,8 +41,9 @@ returns-2 c =
     let key = start .args .key in
     let unit = look .look-up .result .unit in
     let placed = look .look-up .ensures .placed (test .if1 .left) in
-    let place = part-empty s (placeIn s key) (out-unit s key unit (placed .home) (state-byte s unit ∙ sym (out .before .state .ensures) ∙ out .if2 .taken)) in
-    (lent-part s key [] place, place)
+    let none = out-unit s key unit (placed .home) (state-byte s unit ∙ sym (out .before .state .ensures) ∙ out .if2 .taken) in
+    let place = part-empty s (placeIn s key) none in
+    (lent-part s key [] place, (place, start-empty (placeIn s key) none))
 
 shared-slice-read-slot-at : tie.Need-shared-slice-read-slot-at
 shared-slice-read-slot-at c =
@@ -69,8 +71,9 @@ returns-3 c =
     let placed = look .look-up .ensures .placed (test .if1 .left) in
     let number = sym (test .if1 .left) ∙ look .look-up .ensures .given ∙ read-rows s _ _ _ (zeros bodyBytes) (look .before .survey-of .ensures .tested) (sym (length-zeros bodyBytes)) in
     let serves : (byte s (8 + unit) ≡ 2 → ⊥) = λ h. out .if2 .left (out .before .state .ensures ∙ sym (state-byte s unit) ∙ h) in
-    let place = part-body s (placeIn s key) (slotAt (byte s 5) unit rank) (at .slot-at .result) (stands s key unit rank number (placed .home) (placed .found) serves) (at .slot-at .ensures .0) in
-    (lent-part s key _ place, place)
+    let there = stands s key unit rank number (placed .home) (placed .found) serves in
+    let place = part-body s (placeIn s key) (slotAt (byte s 5) unit rank) (at .slot-at .result) there (at .slot-at .ensures .0) in
+    (lent-part s key _ place, (place, λ _. start-body (start .args .s .ptr .0) (start .args .s .ptr .1) (placeIn s key) (slotAt (byte s 5) unit rank) (at .slot-at .result) there (at .slot-at .ensures .0)))
 
 pub read-in-place-spec : {M : Type 1} → statement M
 read-in-place-spec =
