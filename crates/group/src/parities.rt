@@ -5,10 +5,10 @@ ghost use lib.Bits.{bitXor};
 ghost use lib.ListN.{length};
 ghost use Rattle.field.specs.Byte.{scale};
 ghost use Rattle.field.specs.Table.{products};
 ghost use Rattle.group.specs.Widths.{bodyBytes};
 ghost use Rattle.group.specs.Parity.{coefficient, parity};
 ghost use Rattle.group.specs.Four.{fourBodies};
-ghost use Rattle.splitting.specs.Steps.{scaledRow};
+ghost use Rattle.group.specs.ScaledRow.{scaledRow};
 
 // The products of every byte with a symbol.
 fn fill_row(row: &mut [u8], w: u8, table: &[u8; 256])
