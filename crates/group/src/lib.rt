@@ -19,6 +19,13 @@ ghost use Rattle.group.specs.Members.{checks, serves, next, firstFour};
 ghost use Rattle.group.specs.Rebuilding.{weighed};
 ghost use Rattle.group.specs.Four.{fourBodies};
 
+// The table of products, for the layer above; it is taken once and lent.
+pub fn table() -> [u8; 256]
+    ensures { λ r. ⌜ r ≡ products ⌝ }
+{
+    code::table()
+}
+
 // The coefficient of the data unit at a place in the check unit at a check place.
 pub fn coefficient(place: u8, check: u8) -> u8
     requires { ⌜ (place < 4) × (check < 3) ⌝ }
@@ -47,7 +54,7 @@ fn times(table: &[u8; 256], symbol: u8, b: u8) -> u8
     if symbol == 1 {
         return b;
     }
-    field::scale_in(table, symbol, b)
+    code::scale_in(table, symbol, b)
 }
 
 // Adds a body, times a symbol, to a parity.

@@ -17,7 +17,7 @@ fn fill_row(row: &mut [u8], w: u8, table: &[u8; 256])
 {
     let mut i = 0;
     while i < row.len() {
-        row[i] = field::scale_in(table, w, i as u8);
+        row[i] = code::scale_in(table, w, i as u8);
         i += 1;
     }
 }
@@ -27,7 +27,7 @@ pub fn scaled_row(w: u8) -> [u8; 256]
     requires { ⌜ w < 16 ⌝ }
     ensures { λ r. ⌜ r ≡ scaledRow w ⌝ }
 {
-    let table = field::table();
+    let table = code::table();
     let mut row = [0u8; 256];
     fill_row(&mut row, w, &table);
     row
