@@ -2,7 +2,7 @@
 -- for each kind, which holds at the start, is handed on by a turn, and gives the list at the end. Assumes nothing.
 use mathlib.Core.Path.{_≡_, refl, sym, ap, _∙_}
 use mathlib.Core.List.{List, [], _∷_, _++_, append-assoc, append-nil}
-use Prim.Native.Nat.{ℕ, zero, suc, _+_, _≤_, _<_}
+use Prim.Native.Nat.{ℕ, zero, suc, _+_, _*_, _≤_, _<_}
 use native.Mathlib.Nat.{le-of-suc-le-suc, not-suc-le-zero}
 use native.Mathlib.Numerals.{add-one}
 use native.Mathlib.Omega.{arith}
@@ -13,7 +13,7 @@ use Rattle.buffer.specs.RangeLaws.{length-entries, iter-none, iter-more}
 use Rattle.buffer.specs.Bytes.{splice}
 use Rattle.buffer.specs.SpliceLaws.{length-splice}
 use Rattle.buffer.specs.Table.{tab}
-use Rattle.buffer.specs.TableLaws.{tab-more}
+use Rattle.buffer.specs.TableLaws.{Wide, tab-more, length-tab}
 
 -- ---- from the front, an entry a turn
 -- l with its first n entries replaced by f's
@@ -119,3 +119,11 @@ pub appending-end : {f : ℕ → List ℕ} {n : ℕ} {o₀ o : List ℕ} {i at :
 appending-end {f} {n} {o₀} {o} {i} {at} g h =
     let same : i ≡ n = omega arith in
     g .bytes ∙ rw (g .place, same)
+
+-- pieces of w bytes each: where the next goes, and the whole output where they fill it
+module _ {f : ℕ → List ℕ} {n : ℕ} {o₀ o : List ℕ} {i at : ℕ} (g : Appending f n o₀ o i at) where
+  pub appended-at : (w : ℕ) → Wide n w f → at ≡ w * i
+  appended-at w h = g .place ∙ length-tab i w f (λ k l. h k (omega (arith, g .within)))
+
+  pub appended-all : n ≤ i → length o₀ ≡ length (tab n f) → o ≡ tab n f
+  appended-all l e = appending-end g l ∙ ap (λ x. tab n f ++ x) (drop-of-length-le o₀ {i = length (tab n f)} (omega arith)) ∙ append-nil (tab n f)

@@ -4,6 +4,7 @@ pub mod BodyLaws
 pub mod Four
 pub mod Parity
 pub mod ParityLaws
+pub mod ScaledRow
 pub mod CheckRecord
 pub mod CheckRecordLaws
 pub mod FollowLaws

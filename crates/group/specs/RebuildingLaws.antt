@@ -1,6 +1,6 @@
 -- THE LAW OF REBUILDING: where each member in service holds its body, or its parity, and four members serve, every data unit's body is rebuilt
--- from the first four of them. It is shown byte by byte from the code's law that any four different columns give back the data.
--- Assumes nothing.
+-- from the first four of them (`rebuilds`). It is shown byte by byte from the code's law that any four different columns give back the data.
+-- Whatever the four hold, right or wrong, the rebuilt bodies have it by the matrix (`rebuilt-has`). Assumes nothing.
 use mathlib.Core.Path.{_≡_, refl, sym, ap, _∙_}
 use mathlib.Core.Bool.{Bool, true}
 use mathlib.Core.List.{List, [], _∷_, map}
@@ -13,16 +13,15 @@ use Rattle.buffer.specs.Bytes.{byte}
 use Rattle.buffer.specs.ByteLaws.{bytes-ext}
 use Rattle.buffer.specs.ChoiceLaws.{by-test}
 use Rattle.buffer.specs.Range.{count}
-use Rattle.buffer.specs.RangeLaws.{below-four}
 use Rattle.code.specs.Matrix.{within, different}
 use Rattle.code.specs.Lists.{four, within-four}
 use Rattle.code.specs.Weights.{weightsOf, mixed}
 use Rattle.code.specs.Bytes.{encode-bytes}
-use Rattle.code.specs.BytesLaws.{byte-back, encode-data}
+use Rattle.code.specs.BytesLaws.{bytes-of, rebuilt-bytes-have, bytes-of-within, byte-back, encode-data}
 use Rattle.group.specs.BodyLaws.{IsBody}
 use Rattle.group.specs.Parity.{parity}
 use Rattle.group.specs.ParityLaws.{length-parity}
-use Rattle.group.specs.WeighedLaws.{across, length-weighed, byte-weighed, byte-parity}
+use Rattle.group.specs.WeighedLaws.{across, across-at, length-weighed, byte-weighed, byte-parity}
 use Rattle.group.specs.Members.{firstFour}
 use Rattle.group.specs.MembersLaws.{Members, first-four}
 use Rattle.group.specs.Rebuilding.{weighed, rebuilt}
@@ -55,6 +54,11 @@ members-different {on} {cs} m =
     (m .long)
     m
 
+-- ---- byte k of four bodies
+across-within : {n : ℕ} (f : ℕ → List ℕ) → ((p : ℕ) → p < 4 → IsBody n (f p)) → (k : ℕ) → within 255 (across f k) ≡ true
+across-within f is k =
+    within-four 255 (byte (f 0) k) (byte (f 1) k) (byte (f 2) k) (byte (f 3) k) (omega (arith, is 0 (omega arith) .bytes k)) (omega (arith, is 1 (omega arith) .bytes k)) (omega (arith, is 2 (omega arith) .bytes k)) (omega (arith, is 3 (omega arith) .bytes k))
+
 -- ---- rebuilding
 module _ (n : ℕ) (on : ℕ → Bool) (hold f : ℕ → List ℕ) (is : (p : ℕ) → p < 4 → IsBody n (f p))
     (data-holds : (p : ℕ) → p < 4 → on p ≡ true → hold p ≡ f p)
@@ -68,13 +72,6 @@ module _ (n : ℕ) (on : ℕ → Bool) (hold f : ℕ → List ℕ) (is : (p : �
     size : length (hold m) ≡ n
     coded : (k : ℕ) → k < n → byte (hold m) k ≡ encode-bytes (across f k) m
 
-  across-within : (k : ℕ) → within 255 (across f k) ≡ true
-  across-within k =
-      within-four 255 (byte (f 0) k) (byte (f 1) k) (byte (f 2) k) (byte (f 3) k) (omega (arith, is 0 (omega arith) .bytes k)) (omega (arith, is 1 (omega arith) .bytes k)) (omega (arith, is 2 (omega arith) .bytes k)) (omega (arith, is 3 (omega arith) .bytes k))
-
-  across-at : (k p : ℕ) → p < 4 → getD (across f k) p 0 ≡ byte (f p) k
-  across-at k = below-four (λ p. getD (across f k) p 0 ≡ byte (f p) k) refl refl refl refl
-
   across-long : (k : ℕ) → length (across f k) ≡ 4
   across-long k = refl
 
@@ -82,7 +79,7 @@ module _ (n : ℕ) (on : ℕ → Bool) (hold f : ℕ → List ℕ) (is : (p : �
   data-member m l s =
       record {
         size = ap length (data-holds m l s) ∙ sizes m l;
-        coded = λ k q. ap (λ x. byte x k) (data-holds m l s) ∙ sym (encode-data (across f k) (across-long k) (across-within k) m l ∙ across-at k m l);
+        coded = λ k q. ap (λ x. byte x k) (data-holds m l s) ∙ sym (encode-data (across f k) (across-long k) (across-within f is k) m l ∙ across-at f k m l);
       }
 
   check-member : (j : ℕ) → j < 3 → on (4 + j) ≡ true → Holds (4 + j)
@@ -132,11 +129,78 @@ module _ (n : ℕ) (on : ℕ → Bool) (hold f : ℕ → List ℕ) (is : (p : �
       at k q =
           byte-weighed n ws ws-long held long k q
           ∙ ap (mixed ws) (same k q ∙ listed (encode-bytes (across f k)) cs (four-members .long))
-          ∙ byte-back cs (four-members .long) (members-within four-members) (members-different four-members) (across f k) (across-long k) (across-within k) p l
-          ∙ across-at k p l
+          ∙ byte-back cs (four-members .long) (members-within four-members) (members-different four-members) (across f k) (across-long k) (across-within f is k) p l
+          ∙ across-at f k p l
         where
           same : (k : ℕ) (q : k < n)
               → byte (held 0) k ∷ byte (held 1) k ∷ byte (held 2) k ∷ byte (held 3) k ∷ []
               ≡ encode-bytes (across f k) (getD cs 0 0) ∷ encode-bytes (across f k) (getD cs 1 0) ∷ encode-bytes (across f k) (getD cs 2 0) ∷ encode-bytes (across f k) (getD cs 3 0) ∷ []
           same k q = λ i.
               kept 0 (omega arith) .coded k q i ∷ kept 1 (omega arith) .coded k q i ∷ kept 2 (omega arith) .coded k q i ∷ kept 3 (omega arith) .coded k q i ∷ []
+
+-- ---- judged by the matrix alone
+-- x is what member m of a group with these bodies has to hold: a data unit its body, a check unit its parity
+pub record Has (bodies : ℕ → List ℕ) (m : ℕ) (x : List ℕ) : Type 0 where
+  pub body : m < 4 → bodies m ≡ x
+  pub check : 4 ≤ m → parity (m - 4) bodies ≡ x
+
+module _ (n : ℕ) (on : ℕ → Bool) (hold : ℕ → List ℕ) (enough : 4 ≤ count 7 on)
+    (is : (i : ℕ) → i < 4 → IsBody n (hold (getD (firstFour on) i 0))) where
+  abbrev columns : List ℕ
+  columns = firstFour on
+
+  abbrev given : ℕ → List ℕ
+  given = λ i. hold (getD columns i 0)
+
+  abbrev bodies : ℕ → List ℕ
+  bodies = rebuilt on hold
+
+  chosen : Members on columns
+  chosen = first-four on enough
+
+  given-long : (i : ℕ) → i < 4 → length (given i) ≡ n
+  given-long i l = is i l .size
+
+  given-within : (k : ℕ) → within 255 (across given k) ≡ true
+  given-within = across-within given is
+
+  bodies-long : (p : ℕ) → length (bodies p) ≡ n
+  unfolding rebuilt
+  bodies-long p = length-weighed n (weightsOf columns p) given given-long
+
+  bodies-byte : (k : ℕ) → k < n → (p : ℕ) → byte (bodies p) k ≡ mixed (weightsOf columns p) (across given k)
+  unfolding rebuilt
+  bodies-byte k l p = byte-weighed n (weightsOf columns p) (unfold weightsOf in refl) given given-long k l
+
+  bodies-across : (k : ℕ) → k < n → across bodies k ≡ bytes-of columns (across given k)
+  bodies-across k l = λ i. bodies-byte k l 0 i ∷ bodies-byte k l 1 i ∷ bodies-byte k l 2 i ∷ bodies-byte k l 3 i ∷ []
+
+  bodies-within : (k : ℕ) → k < n → within 255 (across bodies k) ≡ true
+  bodies-within k l = ap (within 255) (bodies-across k l) ∙ bytes-of-within columns (across given k) (given-within k)
+
+  -- the rebuilt bytes, at the column of one of the four, are the bytes that it holds
+  coded : (i : ℕ) → i < 4 → (k : ℕ) → k < n → encode-bytes (across bodies k) (getD columns i 0) ≡ byte (given i) k
+  coded i l k q =
+      ap (λ (ds : List ℕ). encode-bytes ds (getD columns i 0)) (bodies-across k q)
+      ∙ rebuilt-bytes-have columns (chosen .long) (members-within chosen) (members-different chosen) (across given k) refl (given-within k) i l
+      ∙ across-at given k i l
+
+  body-has : (i : ℕ) → i < 4 → getD columns i 0 < 4 → bodies (getD columns i 0) ≡ given i
+  body-has i l m =
+      bytes-ext (bodies (getD columns i 0)) (given i) (bodies-long (getD columns i 0) ∙ sym (given-long i l)) (λ k q.
+      let r : k < n = rw (bodies-long (getD columns i 0)) at q in
+      sym (encode-data (across bodies k) refl (bodies-within k r) (getD columns i 0) m ∙ across-at bodies k (getD columns i 0) m) ∙ coded i l k r)
+
+  check-has : (i : ℕ) → i < 4 → 4 ≤ getD columns i 0 → parity (getD columns i 0 - 4) bodies ≡ given i
+  check-has i l m =
+      let j : ℕ = getD columns i 0 - 4 in
+      let low : j < 3 = omega (arith, chosen .low i l) in
+      let same : 4 + j ≡ getD columns i 0 = omega arith in
+      let long : length (parity j bodies) ≡ n = length-parity n j bodies (λ p _. bodies-long p) in
+      bytes-ext (parity j bodies) (given i) (long ∙ sym (given-long i l)) (λ k q.
+      let r : k < n = rw long at q in
+      byte-parity n j low bodies (λ p _. bodies-long p) k r ∙ ap (encode-bytes (across bodies k)) same ∙ coded i l k r)
+
+  -- whatever the first four members in service hold, right or wrong, a group with the rebuilt bodies has just that at each of the four
+  pub rebuilt-has : (i : ℕ) → i < 4 → Has (rebuilt on hold) (getD (firstFour on) i 0) (hold (getD (firstFour on) i 0))
+  rebuilt-has i l = record { body = body-has i l; check = check-has i l }

@@ -27,6 +27,9 @@ use Rattle.group.specs.Rebuilding.{weighed}
 abbrev pub across : (ℕ → List ℕ) → ℕ → List ℕ
 across bodies k = byte (bodies 0) k ∷ byte (bodies 1) k ∷ byte (bodies 2) k ∷ byte (bodies 3) k ∷ []
 
+pub across-at : (bodies : ℕ → List ℕ) (k p : ℕ) → p < 4 → getD (across bodies k) p 0 ≡ byte (bodies p) k
+across-at bodies k = below-four (λ p. getD (across bodies k) p 0 ≡ byte (bodies p) k) refl refl refl refl
+
 regroup : (a b c d : ℕ) → bitXor (bitXor (bitXor a b) c) d ≡ bitXor a (bitXor b (bitXor c (bitXor d 0)))
 regroup a b c d = xor-assoc (bitXor a b) c d ∙ xor-assoc a b (bitXor c d) ∙ ap (λ x. bitXor a (bitXor b (bitXor c x))) (sym (xor-zero-r d))
 

@@ -1,5 +1,7 @@
 // Layer 3, group: the four data units of a group and its check units. Bodies, parity and check records of one rank, who is in service, and rebuilding.
 // The product table is taken once by the caller and lent.
+pub mod parities;
+
 ghost use mathlib.Core.Path.{_≡_};
 ghost use mathlib.Core.Bool.{true};
 ghost use Prim.Native.Nat.{_+_, _≤_, _<_};
@@ -16,6 +18,13 @@ ghost use Rattle.group.specs.CheckRecord.{patched};
 ghost use Rattle.group.specs.Members.{checks, serves, next, firstFour};
 ghost use Rattle.group.specs.Rebuilding.{weighed};
 ghost use Rattle.group.specs.Four.{fourBodies};
+
+// The table of products, for the layer above; it is taken once and lent.
+pub fn table() -> [u8; 256]
+    ensures { λ r. ⌜ r ≡ products ⌝ }
+{
+    code::table()
+}
 
 // The coefficient of the data unit at a place in the check unit at a check place.
 pub fn coefficient(place: u8, check: u8) -> u8
@@ -45,7 +54,7 @@ fn times(table: &[u8; 256], symbol: u8, b: u8) -> u8
     if symbol == 1 {
         return b;
     }
-    field::scale_in(table, symbol, b)
+    code::scale_in(table, symbol, b)
 }
 
 // Adds a body, times a symbol, to a parity.

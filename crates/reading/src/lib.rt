@@ -75,7 +75,7 @@ fn copy_body(s: &[u8], u: u8, r: u8, out: &mut [u8])
     ensures { λ _. ⌜ now (out .exit) ≡ drop keyBytes (wholeSlot (view (now (s .entry))) u r) ⌝ }
 {
     if lookup::state(s, u) == 2 {
-        let table = field::table();
+        let table = group::table();
         let members = lookup::members(s, u / 4);
         let weights = lookup::weights(s, u, members, &table);
         lookup::rebuild_body(out, s, u / 4, r, members, weights, &table);
@@ -231,7 +231,7 @@ pub fn list(s: &[u8], out: &mut [u8]) -> Listing
     }
     let fills = survey.fills;
     let keepers = survey.keepers;
-    let table = field::table();
+    let table = group::table();
     write_records(s, fills, keepers, out, &table);
     verdict
 }

@@ -135,7 +135,7 @@ fn repair_group(s: &mut [u8], g: u8, keeper: u8)
     requires { ⌜ Repairable (now s) g × (keeper ≡ keeperIn (view (now s)) g) ⌝ }
     ensures { λ _. ⌜ now (s .exit) ≡ bytes (repaired (view (now (s .entry))) g) ⌝ }
 {
-    let table = field::table();
+    let table = group::table();
     rebuild_units(s, g, keeper, &table);
     make_units(s, g, &table);
     serve_units(s, g);

@@ -7,6 +7,5 @@ pub mod MergeLoop
 pub mod Added
 pub mod Removed
 pub mod Rows
-pub mod ParitySums
 pub mod Ranks
 pub mod RankLoop

@@ -7,9 +7,7 @@ use lib.Dec.{eqb, ltb, leb}
 use lib.ListN.{set}
 use Rattle.buffer.specs.Choice.{pick}
 use Rattle.buffer.specs.Bytes.{byte, zeros}
-use Rattle.buffer.specs.Loops.{entries}
 use Rattle.buffer.specs.Table.{upd}
-use Rattle.field.specs.Byte.{scale}
 use Rattle.group.specs.Widths.{slotBytes, checkBytes}
 use Rattle.group.specs.CheckRecord.{checkRecord}
 use Rattle.model.specs.Units.{splitPointer, touched}
@@ -17,10 +15,6 @@ use Rattle.model.specs.Layout.{Store, view}
 use Rattle.model.specs.LayoutLaws.{Long}
 use Rattle.model.specs.StoreLaws.{withFront, withDstates, withCstates, withSlots, withChecks}
 use Rattle.lookup.specs.Sized.{Sized}
-
--- the products of every byte with the symbol w
-unfoldable pub scaledRow : ℕ → List ℕ
-scaledRow w = entries 256 (scale w)
 
 -- rank r of group g
 pub record RankIn (s : List ℕ) (g r : ℕ) : Type 0 where

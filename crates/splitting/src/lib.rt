@@ -1,7 +1,6 @@
 // Growing and shrinking a store by a unit, and raising its level.
 pub mod dealing;
 pub mod making;
-pub mod parities;
 pub mod states;
 
 ghost use mathlib.Core.Path.{_≡_};

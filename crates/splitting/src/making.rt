@@ -1,5 +1,4 @@
 // Check units made anew from the data, and cleared.
-use crate::parities;
 ghost use mathlib.Core.Path.{_≡_};
 ghost use mathlib.Core.List.{_++_};
 ghost use Prim.Native.Nat.{_+_, _*_, _<_};
@@ -7,11 +6,12 @@ ghost use lib.ListN.{length, take, drop};
 ghost use Rattle.buffer.specs.Table.{tab};
 ghost use Rattle.group.specs.Widths.{keyBytes, keysBytes, bodyBytes};
 ghost use Rattle.group.specs.Parity.{parity};
+ghost use Rattle.group.specs.ScaledRow.{scaledRow};
 ghost use Rattle.model.specs.Units.{splitPointer};
 ghost use Rattle.model.specs.Layout.{bytes, view};
 ghost use Rattle.model.specs.LayoutLaws.{Long};
 ghost use Rattle.model.specs.StoreLaws.{CheckIn};
-ghost use Rattle.splitting.specs.Steps.{RankIn, scaledRow, putCheck, rankMade, remade, wiped, isUnit, inGroup, ofFirst, ofBoth};
+ghost use Rattle.splitting.specs.Steps.{RankIn, putCheck, rankMade, remade, wiped, isUnit, inGroup, ofFirst, ofBoth};
 
 // The four keys of rank r of group g, one behind the other.
 fn copy_keys(keys: &mut [u8], s: &[u8], g: u8, r: u8)
@@ -48,7 +48,7 @@ fn fill_parities(
     let b = lookup::slot_at(size, 4 * g + 1, r);
     let c = lookup::slot_at(size, 4 * g + 2, r);
     let d = lookup::slot_at(size, 4 * g + 3, r);
-    parities::fill(
+    group::parities::fill(
         x,
         y,
         z,
@@ -110,8 +110,8 @@ pub fn make_groups(s: &mut [u8], n: u8, m: u8)
     requires { ⌜ Long (now s) × (n ≡ splitPointer m) × (n < m) × (m < 16) ⌝ }
     ensures { λ _. ⌜ now (s .exit) ≡ bytes (remade (ofBoth m) (view (now (s .entry)))) ⌝ }
 {
-    let eights = parities::scaled_row(8);
-    let sevens = parities::scaled_row(7);
+    let eights = group::parities::scaled_row(8);
+    let sevens = group::parities::scaled_row(7);
     make_group(s, m / 4, &eights, &sevens);
     if n / 4 != m / 4 {
         make_group(s, n / 4, &eights, &sevens);

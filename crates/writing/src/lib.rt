@@ -104,7 +104,7 @@ fn write_record(s: &mut [u8], u: u8, r: u8, key: u32, body: &[u8])
     requires { ⌜ SlotIn (now s) u r × (length (now body) ≡ 16) ⌝ }
     ensures { λ _. ⌜ now (s .exit) ≡ bytes (written (view (now (s .entry))) u r (slotOf key (now (body .entry)))) ⌝ }
 {
-    let table = field::table();
+    let table = group::table();
     write_slot(s, u, r, slot_of(key, body), &table);
 }
 
@@ -254,7 +254,7 @@ pub fn erase(s: &mut [u8], key: u32) -> u8
     if missing {
         return 6;
     }
-    let table = field::table();
+    let table = group::table();
     erase_at(s, home.unit, home.rank, home.fill - 1, &table);
     0
 }

@@ -7,10 +7,9 @@ use native.Mathlib.Nat.{add-sub-cancel-left}
 use lib.ListN.{take}
 use Rattle.buffer.specs.Bytes.{part, splice}
 use Rattle.buffer.specs.TableLaws.{length-tab}
-use Rattle.buffer.specs.LoopWrites.{Appending, appending-start, appending-turn}
+use Rattle.buffer.specs.LoopWrites.{Appending, appending-start, appending-turn, appended-at, appended-all}
 use Rattle.group.specs.Widths.{keyBytes}
 use Rattle.model.specs.Layout.{view}
-use Rattle.splitting.proofs.ParitySums.{appended-at, appended-all}
 use Rattle.splitting.proofs.Ranks.{slot-parts, rank-slot, key-wide}
 use Rattle.splitting.proofs.making.copy_keys.Statement.{statement}
 use Rattle.splitting.proofs.making.copy_keys.Tie as tie

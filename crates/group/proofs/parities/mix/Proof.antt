@@ -1,9 +1,9 @@
--- `splitting::parities::mix` meets its contract. Assumes nothing.
+-- `group::parities::mix` meets its contract. Assumes nothing.
 use borrow.Author.Needs.{needs}
 use lib.Bits.{bitXor, xor-lt}
-use Rattle.splitting.proofs.ParitySums.{mixed, row-byte}
-use Rattle.splitting.proofs.parities.mix.Statement.{statement}
-use Rattle.splitting.proofs.parities.mix.Tie as tie
+use Rattle.group.proofs.ParitySums.{mixed, row-byte}
+use Rattle.group.proofs.parities.mix.Statement.{statement}
+use Rattle.group.proofs.parities.mix.Tie as tie
 
 returns : tie.Need-returns
 returns c =

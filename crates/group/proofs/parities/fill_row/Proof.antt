@@ -1,13 +1,13 @@
--- `splitting::parities::fill_row` meets its contract. Assumes nothing.
+-- `group::parities::fill_row` meets its contract. Assumes nothing.
 use borrow.Author.Needs.{needs}
 use Prim.Native.Nat.{_-_}
 use mathlib.Core.Path.{ap, _∙_}
 use Rattle.buffer.specs.Loops.{entries}
 use Rattle.buffer.specs.LoopWrites.{Filling, filling-start, filling-turn, filling-end}
 use Rattle.field.specs.Byte.{scale}
-use Rattle.splitting.specs.Steps.{scaledRow}
-use Rattle.splitting.proofs.parities.fill_row.Statement.{statement}
-use Rattle.splitting.proofs.parities.fill_row.Tie as tie
+use Rattle.group.specs.ScaledRow.{scaledRow}
+use Rattle.group.proofs.parities.fill_row.Statement.{statement}
+use Rattle.group.proofs.parities.fill_row.Tie as tie
 
 abbrev Inv-loop : tie.InvT-loop
 Inv-loop row₀ w table i₀ row i = Filling (scale w) row₀ row i

@@ -1,13 +1,14 @@
--- `splitting::parities::fill` meets its contract. Assumes nothing.
+-- `group::parities::fill` meets its contract. Assumes nothing.
 use borrow.Author.Needs.{needs}
 use Prim.Native.Nat.{_-_}
+use native.Mathlib.Omega.{arith}
 use Rattle.buffer.specs.Bytes.{byte}
 use Rattle.buffer.specs.LoopWrites.{Filling, filling-start, filling-turn}
 use Rattle.group.specs.Parity.{parity}
 use Rattle.group.specs.Four.{fourBodies}
-use Rattle.splitting.proofs.ParitySums.{place-zero, place-one, place-two, parity-filled}
-use Rattle.splitting.proofs.parities.fill.Statement.{statement}
-use Rattle.splitting.proofs.parities.fill.Tie as tie
+use Rattle.group.proofs.ParitySums.{parity-place, parity-filled}
+use Rattle.group.proofs.parities.fill.Statement.{statement}
+use Rattle.group.proofs.parities.fill.Tie as tie
 
 abbrev Inv-loop : tie.InvT-loop
 Inv-loop x₀ y₀ z₀ a b c d eights sevens i₀ x y z i =
@@ -20,6 +21,7 @@ loop-holds : tie.Need-loop-holds Inv-loop μ-loop
 loop-holds c = (filling-start, filling-start, filling-start)
 
 loop-again : tie.Need-loop-again Inv-loop μ-loop
+unfolding fourBodies
 loop-again c =
     let m2 = c .before in
     let m1 = m2 .before in
@@ -27,10 +29,11 @@ loop-again c =
     let l = x .before in
     let e = l .before .before .before .before .before .before .before .before in
     let p = e .pre in
-    let a = e .args in (
-      filling-turn _ (l .loop .inv .0) (search needs) (place-zero (a .a .now) (a .b .now) (a .c .now) (a .d .now) (p .3) (p .4) (p .5) (p .6) (l .loop .i) _ (x .loop-test .taken) (m1 .mix .ensures)),
-      filling-turn _ (l .loop .inv .1) (search needs) (place-one (a .a .now) (a .b .now) (a .c .now) (a .d .now) (p .3) (p .4) (p .5) (p .6) (l .loop .i) _ (x .loop-test .taken) (m2 .mix2 .ensures)),
-      filling-turn _ (l .loop .inv .2) (search needs) (place-two (a .a .now) (a .b .now) (a .c .now) (a .d .now) (p .3) (p .4) (p .5) (p .6) (l .loop .i) _ (x .loop-test .taken) (c .mix3 .ensures)),
+    let a = e .args in
+    let place = parity-place (a .a .now) (a .b .now) (a .c .now) (a .d .now) (p .3) (p .4) (p .5) (p .6) (l .loop .i) (x .loop-test .taken) in (
+      filling-turn _ (l .loop .inv .0) (search needs) (place 0 _ (omega arith) (m1 .mix .ensures)),
+      filling-turn _ (l .loop .inv .1) (search needs) (place 1 _ (omega arith) (m2 .mix2 .ensures)),
+      filling-turn _ (l .loop .inv .2) (search needs) (place 2 _ (omega arith) (c .mix3 .ensures)),
     )
 
 returns : tie.Need-returns Inv-loop μ-loop

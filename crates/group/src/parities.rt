@@ -5,10 +5,10 @@ ghost use lib.Bits.{bitXor};
 ghost use lib.ListN.{length};
 ghost use Rattle.field.specs.Byte.{scale};
 ghost use Rattle.field.specs.Table.{products};
 ghost use Rattle.group.specs.Widths.{bodyBytes};
 ghost use Rattle.group.specs.Parity.{coefficient, parity};
 ghost use Rattle.group.specs.Four.{fourBodies};
-ghost use Rattle.splitting.specs.Steps.{scaledRow};
+ghost use Rattle.group.specs.ScaledRow.{scaledRow};
 
 // The products of every byte with a symbol.
 fn fill_row(row: &mut [u8], w: u8, table: &[u8; 256])
@@ -17,7 +17,7 @@ fn fill_row(row: &mut [u8], w: u8, table: &[u8; 256])
 {
     let mut i = 0;
     while i < row.len() {
-        row[i] = field::scale_in(table, w, i as u8);
+        row[i] = code::scale_in(table, w, i as u8);
         i += 1;
     }
 }
@@ -27,7 +27,7 @@ pub fn scaled_row(w: u8) -> [u8; 256]
     requires { ⌜ w < 16 ⌝ }
     ensures { λ r. ⌜ r ≡ scaledRow w ⌝ }
 {
-    let table = field::table();
+    let table = code::table();
     let mut row = [0u8; 256];
     fill_row(&mut row, w, &table);
     row
