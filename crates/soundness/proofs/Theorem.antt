@@ -23,8 +23,8 @@ use Rattle.soundness.proofs.Joined.{second, unless, and-assoc}
 use Rattle.soundness.proofs.Endings.{keeper-before}
 use Rattle.soundness.proofs.Listed.{check-key}
 use Rattle.soundness.proofs.Good.{keysGood}
-use Rattle.soundness.proofs.Units.{Unit, good-unit, unit-good}
-use Rattle.soundness.proofs.Checks.{checkKey, Check, good-check, check-good}
+use Rattle.soundness.proofs.UnitClauses.{Unit, good-unit, unit-good}
+use Rattle.soundness.proofs.CheckClauses.{checkKey, Check, good-check, check-good}
 
 -- ---- M and K, and the states
 module _ (s : List ℕ) where
