@@ -6,7 +6,7 @@ use mathlib.Core.List.{List}
 use native.Mathlib.Omega.{arith}
 use native.Mathlib.Nat.{mul-le-mul}
 use lib.Dec.{eqb}
-use lib.ListN.{length, take}
+use lib.ListN.{length}
 use borrow.Author.Tests.{eq-eqb, ne-eqb, eqb-false}
 use Rattle.buffer.specs.ChoiceLaws.{pick-true, pick-false}
 use Rattle.buffer.specs.Range.{first}
@@ -17,6 +17,7 @@ use Rattle.buffer.specs.ByteLaws.{be32-part}
 use Rattle.buffer.specs.SpliceLaws.{part-part}
 use Rattle.group.specs.Widths.{keyBytes, slotBytes, checkBytes}
 use Rattle.model.specs.Layout.{view, slotAt, checkAt, keyOf}
+use Rattle.model.specs.LayoutLaws.{key-first}
 use Rattle.model.specs.Reads.{fillIn, rankIn, keeper, listedKey, listedFill, listedRank}
 use Rattle.lookup.specs.Sized.{Sized, slot-fits, check-fits}
 
@@ -139,14 +140,10 @@ module _ {s : List ℕ} {u base step : ℕ} (lists : Lists s u base step) where
   listed-rank-found n r key en er = er ∙ rw en (first-ext (listedFill (view s) u) _ _ (λ k l. ap (λ x. eqb x key) (lists-key lists k)))
 
 -- ---- a unit in service lists its own keys
-key-take : (x : List ℕ) → keyOf (take keyBytes x) ≡ keyOf x
-unfolding keyOf
-key-take x = unfold part in be32-part 0 keyBytes x 0 (omega arith)
-
 module _ (s : List ℕ) (u : ℕ) (serves : byte s (8 + u) ≡ 2 → ⊥) where
   own-key : (r : ℕ) → keyOf (view s .slot u r) ≡ keyOf (listedKey (view s) u r)
   unfolding listedKey view
-  own-key r = sym (key-take _) ∙ ap keyOf (sym (pick-false (ne-eqb (byte s (8 + u)) 2 serves) _ _))
+  own-key r = sym (key-first _) ∙ ap keyOf (sym (pick-false (ne-eqb (byte s (8 + u)) 2 serves) _ _))
 
   pub own-fill : fillIn (view s) u ≡ listedFill (view s) u
   unfolding fillIn listedFill

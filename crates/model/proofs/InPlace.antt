@@ -16,11 +16,12 @@ use Rattle.buffer.specs.TestLaws.{and-first, and-second}
 use Rattle.buffer.specs.Range.{first}
 use Rattle.buffer.specs.RangeLaws.{first-ext, first-le}
 use Rattle.buffer.specs.Bytes.{byte, be32, zeros, part}
-use Rattle.buffer.specs.ByteLaws.{length-zeros, be32-part}
+use Rattle.buffer.specs.ByteLaws.{length-zeros}
 use Rattle.buffer.specs.SpliceLaws.{length-part}
 use Rattle.group.specs.Widths.{keyBytes, bodyBytes}
 use Rattle.model.specs.UnitLaws.{unit-below}
 use Rattle.model.specs.Layout.{Store, view, version, storeBytes, slotAt, unitsIn, keyOf}
+use Rattle.model.specs.LayoutLaws.{key-first}
 use Rattle.model.specs.Reads.{homeIn, fillIn, rankIn, listedKey, listedFill, listedRank}
 use Rattle.model.specs.Sound.{sound, ranges}
 use Rattle.model.specs.Numbers.{read, readInPlace, refusalsIn, numberIn}
@@ -33,11 +34,6 @@ use Rattle.model.proofs.Refusals.{in-place-store, part-none}
 same-length : (s : List ℕ) (k : ℕ) (x y : List ℕ) → length x ≡ length y → numberIn s (read k x) ≡ numberIn s (read k y)
 unfolding numberIn refusalsIn
 same-length s k x y e = rw e
-
--- the key of a slot stands in its first four bytes
-key-first : (x : List ℕ) → keyOf (take keyBytes x) ≡ keyOf x
-unfolding keyOf part
-key-first x = be32-part 0 keyBytes x 0 (omega arith)
 
 -- ---- what soundness says of the bytes
 

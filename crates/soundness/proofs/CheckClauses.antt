@@ -9,7 +9,7 @@ use lib.ListN.{length}
 use borrow.Author.Tests.{eqb-true, eqb-false, eq-eqb}
 use Rattle.buffer.specs.Choice.{pick}
 use Rattle.buffer.specs.ChoiceLaws.{by-test}
-use Rattle.buffer.specs.TestLaws.{and-true, and-first, and-second}
+use Rattle.buffer.specs.TestLaws.{and-true, and-first, and-second, or-else}
 use Rattle.buffer.specs.RangeLaws.{below-four, all-true, all-holds}
 use Rattle.buffer.specs.Bytes.{byte, be32, zeros}
 use Rattle.model.specs.Layout.{view, checkAt}
@@ -18,7 +18,6 @@ use Rattle.model.specs.Sound.{same}
 use Rattle.buffer.specs.Strided.{strided32}
 use Rattle.soundness.specs.Keys.{samePair, sameLists}
 use Rattle.soundness.specs.Pieces.{Ranged, zeroBetween, checkGood}
-use Rattle.soundness.proofs.Joined.{unless}
 use Rattle.soundness.proofs.Places.{row-within}
 use Rattle.soundness.proofs.Zeros.{zero-range, range-zero, check-zero, zero-checks}
 
@@ -107,6 +106,6 @@ module _ (s : List ℕ) (ok : Ranged s) (c : ℕ) (low : c < 12) where
       eqb (byte s (24 + c)) 1 ≡ t
       → pick t (eqb (keeper (view s) (c / 3)) c || sameLists s (checkAt (byte s 5) (keeper (view s) (c / 3)) 0) (checkAt (byte s 5) c 0) (byte s 5)) (zeroBetween s (checkAt (byte s 5) c 0) (checkAt (byte s 5) c 0 + 32 * byte s 5)) ≡ true)
       (eqb (byte s (24 + c)) 1)
-      (λ _ e. unless (eqb (keeper (view s) (c / 3)) c) _ (λ _. unfold Four in lists-holds s _ _ (byte s 5) (λ r l p k. sym (g .lists (eqb-true _ _ e) r l p k))))
+      (λ _ e. or-else (eqb (keeper (view s) (c / 3)) c) _ (λ _. unfold Four in lists-holds s _ _ (byte s 5) (λ r l p k. sym (g .lists (eqb-true _ _ e) r l p k))))
       (λ _ e. range-zero s _ _ (omega arith) fits (zero-checks s c fits (λ r l. rw e at (g .zero r l))))
       refl

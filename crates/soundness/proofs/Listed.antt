@@ -3,20 +3,15 @@ use mathlib.Core.Path.{_≡_, ap, _∙_, fun-ext}
 use mathlib.Core.List.{List}
 use Prim.Native.Nat.{ℕ, _+_, _*_, _/_, _%_, _<_}
 use native.Mathlib.Omega.{arith}
-use lib.ListN.{take}
 use borrow.Author.Tests.{eq-eqb, ne-eqb}
 use Rattle.buffer.specs.ChoiceLaws.{pick-true, pick-false}
 use Rattle.buffer.specs.Bytes.{byte, be32, part}
 use Rattle.buffer.specs.ByteLaws.{be32-part}
 use Rattle.model.specs.Layout.{view, keyOf, slotAt, checkAt}
+use Rattle.model.specs.LayoutLaws.{key-first}
 use Rattle.model.specs.Reads.{keeper, listedKey}
 use Rattle.buffer.specs.Strided.{strided32}
 use Rattle.soundness.specs.Pieces.{dataKeys, columnAt, columnKeys}
-
--- the key of a list's first four bytes
-key-take : (x : List ℕ) → keyOf (take 4 x) ≡ keyOf x
-unfolding keyOf
-key-take x = unfold part in be32-part 0 4 x 0 (omega arith)
 
 module _ (s : List ℕ) where
   -- a slot's key
@@ -38,7 +33,7 @@ module _ (s : List ℕ) where
   -- the keys listed for a unit: its own, or, where it is out, those of the first check unit in service
   pub listed-own : (u : ℕ) → (byte s (8 + u) ≡ 2 → ⊥) → (λ r. keyOf (listedKey (view s) u r)) ≡ dataKeys s u
   unfolding listedKey view
-  listed-own u h = fun-ext (λ r. ap keyOf (pick-false (ne-eqb (byte s (8 + u)) 2 h) _ _) ∙ key-take (view s .slot u r) ∙ slot-key u r)
+  listed-own u h = fun-ext (λ r. ap keyOf (pick-false (ne-eqb (byte s (8 + u)) 2 h) _ _) ∙ key-first (view s .slot u r) ∙ slot-key u r)
 
   pub listed-out : (u : ℕ) → byte s (8 + u) ≡ 2 → (λ r. keyOf (listedKey (view s) u r)) ≡ columnKeys s u
   unfolding listedKey view columnKeys columnAt

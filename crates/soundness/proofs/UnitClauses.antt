@@ -9,7 +9,7 @@ use lib.ListN.{length}
 use borrow.Author.Tests.{eqb-true, eq-eqb, ne-eqb, ltb-false, le-ltb, leb-true}
 use Rattle.buffer.specs.Choice.{pick}
 use Rattle.buffer.specs.ChoiceLaws.{by-test, pick-true, pick-false}
-use Rattle.buffer.specs.TestLaws.{and-true, and-first, and-second, and-false-first, same-test}
+use Rattle.buffer.specs.TestLaws.{and-true, and-first, and-second, and-false-first, or-else, or-other, same-test}
 use Rattle.buffer.specs.Range.{all, first}
 use Rattle.buffer.specs.RangeLaws.{all-true, all-holds, first-ext, first-none, first-misses}
 use Rattle.buffer.specs.Bytes.{byte, be32, zeros}
@@ -20,7 +20,7 @@ use Rattle.buffer.specs.Strided.{strided32}
 use Rattle.soundness.specs.Keys.{fillOf, ownAndNew, reached, sameKeys, noKeys}
 use Rattle.soundness.specs.Pieces.{Ranged, placed, zeroBetween, dataKeys, columnKeys, unkept, dataFill, columnFill, lostFill, served, lost, absent, unitGood, unitFill}
 use Rattle.soundness.specs.Survey.{keysLost, knownFill}
-use Rattle.soundness.proofs.Joined.{or-right, or-left, either, behind, second, unless, once}
+use Rattle.soundness.proofs.Joined.{or-right, or-left, either, behind, once}
 use Rattle.soundness.proofs.Places.{row-within}
 use Rattle.soundness.proofs.Listed.{slot-key, listed-own, listed-out}
 use Rattle.soundness.proofs.Zeros.{Zero, zero-range, range-zero, slot-zero, zero-slots}
@@ -174,7 +174,7 @@ module _ (s : List ℕ) (ok : Ranged s) (u : ℕ) (low : u < 16) where
               (let w : fillIn (view s) u ≤ r = ltb-false r (fillIn (view s) u) e in omega (arith, fill-in s u)) l);
           keys = rw (known-served s u state, own) (parts-good (byte s 5) (byte s 6) u (dataKeys s u) f (data-zero s u (fillOf (byte s 5) (dataKeys s u)) z));
           lists = λ e r l.
-              sym (eqb-true _ _ (all-true (byte s 5) (λ r. eqb (dataKeys s u r) (columnKeys s u r)) (second (unkept s (u / 4)) _ e c) r l))
+              sym (eqb-true _ _ (all-true (byte s 5) (λ r. eqb (dataKeys s u r) (columnKeys s u r)) (or-other (unkept s (u / 4)) _ e c) r l))
               ∙ sym (ap (λ f. f r) own);
         }
 
@@ -200,7 +200,7 @@ module _ (s : List ℕ) (ok : Ranged s) (u : ℕ) (low : u < 16) where
         (and-true
         (front-reached (byte s 5) (byte s 6) u (dataKeys s u) (ok .few) (k .0))
         (rw (reached-fill (byte s 5) (byte s 6) u (dataKeys s u) (k .0)) (range-zero s _ _ (omega (arith, fill-le (byte s 5) (byte s 6) u (dataKeys s u))) fits z)))
-        (unless (unkept s (u / 4)) _ (λ e.
+        (or-else (unkept s (u / 4)) _ (λ e.
         all-holds (byte s 5) (λ r. eqb (dataKeys s u r) (columnKeys s u r)) (λ r l. eq-eqb _ _ (sym (ap (λ f. f r) own) ∙ sym (g .lists e r l)))))
 
     served-fill : served s u ≡ true → dataFill s u ≡ knownFill (view s) u
@@ -224,7 +224,7 @@ module _ (s : List ℕ) (ok : Ranged s) (u : ℕ) (low : u < 16) where
         record {
           zero = blank z;
           keys = rw (known-out s u state, listed) (once (unkept s (u / 4)) _ (λ e.
-              let both = second (unkept s (u / 4)) _ e k in
+              let both = or-other (unkept s (u / 4)) _ e k in
               let f = reached-front (byte s 5) (byte s 6) u (columnKeys s u) (and-first (leb n 64) _ both) in
               parts-good (byte s 5) (byte s 6) u (columnKeys s u) f
               (rw (reached-fill (byte s 5) (byte s 6) u (columnKeys s u) f) at (no-keys-true n (byte s 5) (columnKeys s u) (and-second (leb n 64) _ both)))));
@@ -236,7 +236,7 @@ module _ (s : List ℕ) (ok : Ranged s) (u : ℕ) (low : u < 16) where
     unit-lost g =
         and-true
         (unblank (λ e. absurd (omega arith)) g)
-        (unless (unkept s (u / 4)) _ (λ e.
+        (or-else (unkept s (u / 4)) _ (λ e.
         let k = good-parts (byte s 5) (byte s 6) u (columnKeys s u) (rw (known-out s u state, listed, e) at (g .keys)) in
         and-true
         (front-reached (byte s 5) (byte s 6) u (columnKeys s u) (ok .few) (k .0))
@@ -250,7 +250,7 @@ module _ (s : List ℕ) (ok : Ranged s) (u : ℕ) (low : u < 16) where
         (unkept s (u / 4))
         (λ e. pick-true e 0 (columnFill s u) ∙ unfold knownFill in sym (pick-true (lost-out s u state ∙ e) 0 (listedFill (view s) u)))
         (λ e.
-        let both = second (unkept s (u / 4)) _ e (and-second (zeroBetween s (slotAt (byte s 5) u 0) (slotAt (byte s 5) u 0 + 20 * byte s 5)) _ h) in
+        let both = or-other (unkept s (u / 4)) _ e (and-second (zeroBetween s (slotAt (byte s 5) u 0) (slotAt (byte s 5) u 0 + 20 * byte s 5)) _ h) in
         pick-false e 0 (columnFill s u)
         ∙ reached-fill (byte s 5) (byte s 6) u (columnKeys s u) (reached-front (byte s 5) (byte s 6) u (columnKeys s u) (and-first (leb (columnFill s u) 64) _ both))
         ∙ fill-known s u (lost-out s u state ∙ e) listed)
@@ -269,7 +269,7 @@ module _ (s : List ℕ) (ok : Ranged s) (u : ℕ) (low : u < 16) where
           zero = blank z;
           keys = rw (known-absent s u state);
           lists = λ e r l.
-              no-keys-true 0 (byte s 5) (columnKeys s u) (second (unkept s (u / 4)) _ e k) r (omega arith) l
+              no-keys-true 0 (byte s 5) (columnKeys s u) (or-other (unkept s (u / 4)) _ e k) r (omega arith) l
               ∙ sym (ap (λ f. f r) none ∙ data-zero s u 0 (whole z) r (omega arith) l);
         }
 
@@ -277,7 +277,7 @@ module _ (s : List ℕ) (ok : Ranged s) (u : ℕ) (low : u < 16) where
     unfolding absent
     unit-absent g =
         let z = unblank (λ e. absurd (omega arith)) g in
-        and-true z (unless (unkept s (u / 4)) _ (λ e.
+        and-true z (or-else (unkept s (u / 4)) _ (λ e.
         no-keys-holds 0 (byte s 5) (columnKeys s u) (λ r _ l. g .lists e r l ∙ ap (λ f. f r) none ∙ data-zero s u 0 (whole z) r (omega arith) l)))
 
     absent-fill : absent s u ≡ true → 0 ≡ knownFill (view s) u
