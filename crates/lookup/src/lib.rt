@@ -15,8 +15,8 @@ ghost use Rattle.model.specs.Units.{powerBelow, splitPointer, unitOf};
 ghost use Rattle.model.specs.Layout.{view, slotAt, checkAt, keyOf};
 ghost use Rattle.model.specs.Reads.{stateIn, outsIn, beyondIn, servesIn, holds, keeper, listedFill, listedRank, wholeSlot, lostIn};
 ghost use Rattle.lookup.specs.Sized.{Sized};
-ghost use Rattle.buffer.specs.Strided.{strided32};
-ghost use Rattle.lookup.specs.Keys.{Within, keysAt, Known, Lists};
+ghost use Rattle.buffer.specs.Strided.{strided32, Within};
+ghost use Rattle.lookup.specs.Keys.{keysAt, Known, Lists};
 ghost use Rattle.lookup.specs.Groups.{Recoverable};
 ghost use Rattle.lookup.specs.Slots.{heldAt, Recipe};
 

@@ -18,7 +18,7 @@ use Rattle.model.specs.Reads.{fillIn, keeper, listedKey, listedFill}
 use Rattle.model.specs.Sound.{same, ranges, unitsPlaced, groupsPlaced, zeroed, keysKnown, keysPlaced, listsAgree, sound}
 use Rattle.buffer.specs.Strided.{strided32}
 use Rattle.soundness.specs.Keys.{fillOf, isNew, ownAndNew}
-use Rattle.soundness.specs.Pieces.{Ranged, placed, groupPlaced, columnAt, columnKeys, unkept, unitGood, checkGood, pieces}
+use Rattle.soundness.specs.Pieces.{Ranged, placed, groupPlaced, columnKeys, unkept, unitGood, checkGood, pieces}
 use Rattle.soundness.proofs.Joined.{and-assoc}
 use Rattle.soundness.proofs.Endings.{keeper-before}
 use Rattle.soundness.proofs.Listed.{check-key}
@@ -91,7 +91,7 @@ ranged s h =
 module _ (s : List ℕ) where
   -- a place of a group, and the unit that stands there
   place-column : (g p r : ℕ) → g < 4 → p < 4 → columnKeys s (4 * g + p) r ≡ checkKey s (keeper (view s) g) p r
-  unfolding columnKeys columnAt
+  unfolding columnKeys
   place-column g p r h k =
       let e : (4 * g + p) / 4 ≡ g = omega arith in
       let f : (4 * g + p) % 4 ≡ p = omega arith in

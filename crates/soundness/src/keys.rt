@@ -5,8 +5,8 @@ ghost use lib.Bits.{bitAnd};
 ghost use lib.Dec.{eqb};
 ghost use lib.ListN.{length};
 ghost use Rattle.model.specs.Units.{unitOf};
-ghost use Rattle.buffer.specs.Strided.{strided32};
-ghost use Rattle.soundness.specs.Keys.{Within, placeOf, isNew, reached, sameKeys, noKeys, le32, samePair, sameLists};
+ghost use Rattle.buffer.specs.Strided.{strided32, Within};
+ghost use Rattle.soundness.specs.Keys.{placeOf, isNew, reached, sameKeys, noKeys, le32, samePair, sameLists};
 
 fn wide64(x: u32) -> u64
     ensures { λ r. ⌜ (r ≡ x) × (r < 4294967296) ⌝ }

@@ -20,18 +20,19 @@ pub fn zero_between(s: &[u8], at: usize, end: usize) -> bool
     buffer::is_zero(&s[at..end])
 }
 
+// The first slot of data unit u, and the first record of check unit c: all b of them lie within the store.
 fn slots_at(b: u8, u: u8) -> usize
     requires { ⌜ u < 16 ⌝ }
     ensures { λ r. ⌜ (r ≡ slotAt b u 0) × (r + 20 * b ≤ 36 + 320 * b) ⌝ }
 {
-    36 + buffer::wide(u) * buffer::wide(b) * 20
+    lookup::slot_at(b, u, 0)
 }
 
 pub fn checks_at(b: u8, c: u8) -> usize
     requires { ⌜ c < 12 ⌝ }
     ensures { λ r. ⌜ (r ≡ checkAt b c 0) × (r + 32 * b ≤ 36 + 704 * b) ⌝ }
 {
-    36 + 320 * buffer::wide(b) + buffer::wide(c) * buffer::wide(b) * 32
+    lookup::check_at(b, c, 0)
 }
 
 // In service: its keys, zeros behind them, and the keys listed for it.

@@ -21,7 +21,7 @@ loop-holds : tie.Need-loop-holds Inv-loop μ-loop
 loop-holds c = passing-start
 
 key-requires : tie.Need-key-requires Inv-loop μ-loop
-key-requires c κs = c .before .before .before .pre .reach (c .before .loop .q) (c .loop-test .taken)
+key-requires c κs = c .before .before .before .pre .fits (c .before .loop .q) (c .loop-test .taken)
 
 returns : tie.Need-returns Inv-loop μ-loop
 unfolding isNew

@@ -21,7 +21,7 @@ loop-holds : tie.Need-loop-holds Inv-loop μ-loop
 loop-holds c = behind-start (c .before .pre .1)
 
 key-requires : tie.Need-key-requires Inv-loop μ-loop
-key-requires c κs = c .before .before .before .pre .0 .reach (c .before .loop .r) (c .loop-test .taken)
+key-requires c κs = c .before .before .before .pre .0 .fits (c .before .loop .r) (c .loop-test .taken)
 
 returns : tie.Need-returns Inv-loop μ-loop
 unfolding noKeys

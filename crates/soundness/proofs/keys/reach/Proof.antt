@@ -6,7 +6,7 @@ use native.Mathlib.Omega.{arith}
 use lib.Bits.{bitAnd}
 use borrow.Author.Needs.{needs}
 use Rattle.buffer.specs.TestLaws.{is-eq, is-ne, is-no, is-yes}
-use Rattle.buffer.specs.Strided.{strided32}
+use Rattle.buffer.specs.Strided.{strided32, within-fewer}
 use Rattle.soundness.specs.Keys.{placeOf, isNew}
 use Rattle.soundness.proofs.Reaching.{Reaching, reaching-start, reaching-turn, reaching-new, own-new, not-own, not-new, reaching-stop, reaching-full, reaching-fail}
 use Rattle.soundness.proofs.keys.reach.Statement.{statement}
@@ -22,7 +22,7 @@ loop-holds : tie.Need-loop-holds Inv-loop μ-loop
 loop-holds c = reaching-start (c .before .before .before .pre .4)
 
 key-requires : tie.Need-key-requires Inv-loop μ-loop
-key-requires c κs = c .before .before .before .before .before .pre .0 .reach (c .before .loop .r) (c .loop-test .taken)
+key-requires c κs = c .before .before .before .before .before .pre .0 .fits (c .before .loop .r) (c .loop-test .taken)
 
 returns : tie.Need-returns Inv-loop μ-loop
 returns c =
@@ -41,7 +41,7 @@ returns-2 c =
     (reaching-fail (turn .inv) (c .before .before .before .loop-test .taken) some (not-own (given .m) (given .u) keys (turn .r) other), turn .inv .sized)
 
 is-new-requires : tie.Need-is-new-requires Inv-loop μ-loop
-is-new-requires c κs = record { reach = λ q l. c .before .before .before .before .before .before .before .before .before .before .before .pre .0 .reach q (omega arith); few = omega arith }
+is-new-requires c κs = within-fewer (c .before .before .before .before .before .before .before .before .before .before .before .pre .0) (omega arith)
 
 returns-3 : tie.Need-returns-3 Inv-loop μ-loop
 returns-3 c =

@@ -19,10 +19,10 @@ loop-holds : tie.Need-loop-holds Inv-loop μ-loop
 loop-holds c = passing-start
 
 key-requires : tie.Need-key-requires Inv-loop μ-loop
-key-requires c κs = c .before .before .before .pre .0 .reach (c .before .loop .r) (c .loop-test .taken)
+key-requires c κs = c .before .before .before .pre .0 .fits (c .before .loop .r) (c .loop-test .taken)
 
 key-requires-2 : tie.Need-key-requires-2 Inv-loop μ-loop
-key-requires-2 c κs = c .before .before .before .before .pre .1 .reach (c .before .before .loop .r) (c .before .loop-test .taken)
+key-requires-2 c κs = c .before .before .before .before .pre .1 .fits (c .before .before .loop .r) (c .before .loop-test .taken)
 
 returns : tie.Need-returns Inv-loop μ-loop
 unfolding sameKeys

@@ -31,7 +31,7 @@ returns-2 c =
     rw (is-yes zero (c .before .if1 .left), is-unkept s (u / 4) (start .pre .1 .found) (c .if2 .taken))
 
 no-keys-requires : tie.Need-no-keys-requires
-no-keys-requires c κs = (within-column (c .before .checks-at .result) (c .wide2 .result) (search needs) (search needs) (search needs), search needs)
+no-keys-requires c κs = (within-column (c .before .checks-at .result) (c .wide2 .result) (search needs) (search needs), search needs)
 
 returns-3 : tie.Need-returns-3
 unfolding absent

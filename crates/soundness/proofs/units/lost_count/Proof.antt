@@ -34,7 +34,7 @@ returns-2 c =
 reach-requires : tie.Need-reach-requires
 reach-requires c κs =
     let asked = c .before .before .before .before .before .before .before .before .before .before .before .pre in
-    (within-column (c .before .before .checks-at .result) (c .before .wide2 .result) (search needs) (search needs) (search needs), asked .0 .some, asked .0 .most, asked .2, asked .3)
+    (within-column (c .before .before .checks-at .result) (c .before .wide2 .result) (search needs) (search needs), asked .0 .some, asked .0 .most, asked .2, asked .3)
 
 returns-3 : tie.Need-returns-3
 unfolding lost pick
@@ -64,7 +64,7 @@ no-keys-requires c κs =
     let at = to .checks-at .result in
     let p = found .before .before .wide2 .result in
     let l = reached-le (place .before .wide .result) (byte s 6) (start .args .u) (strided32 s (at + 4 * p) 32) (found .reach .ensures .0) (c .if3 .left) in
-    (within-column at p (search needs) (search needs) (search needs), l)
+    (within-column at p (search needs) (search needs), l)
 
 returns-4 : tie.Need-returns-4
 unfolding lost pick

@@ -19,7 +19,7 @@ use Rattle.soundness.proofs.units.served_count.Tie as tie
 reach-requires : tie.Need-reach-requires
 reach-requires c κs =
     let asked = c .before .before .before .before .before .before .pre in
-    (within-slots (search needs) (search needs), asked .0 .some, asked .0 .most, asked .2, asked .3)
+    (within-slots (search needs), asked .0 .some, asked .0 .most, asked .2, asked .3)
 
 returns : tie.Need-returns
 unfolding served pick
@@ -55,7 +55,7 @@ returns-2 c =
     (rw (is-le fill refl (some .if1 .left), is-no zero (c .if2 .taken)), found .reach .ensures .1)
 
 same-column-requires : tie.Need-same-column-requires
-same-column-requires c κs = (within-slots (search needs) (search needs), within-column (c .before .checks-at .result) (c .wide2 .result) (search needs) (search needs) (search needs))
+same-column-requires c κs = (within-slots (search needs), within-column (c .before .checks-at .result) (c .wide2 .result) (search needs) (search needs))
 
 returns-3 : tie.Need-returns-3
 unfolding served pick
