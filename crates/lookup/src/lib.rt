@@ -68,13 +68,6 @@ pub fn split_pointer(m: u8) -> u8
     m - power_below(m)
 }
 
-fn low(x: u32) -> u8
-    requires { ⌜ x < 256 ⌝ }
-    ensures { λ r. ⌜ r ≡ x ⌝ }
-{
-    x as u8
-}
-
 // The unit of a key among m units.
 pub fn unit_of(m: u8, key: u32) -> u8
     requires { ⌜ 1 ≤ m ⌝ }
@@ -82,9 +75,9 @@ pub fn unit_of(m: u8, key: u32) -> u8
 {
     let p = buffer::wide32(power_below(m));
     if key % p + p < buffer::wide32(m) {
-        return low(key % (2 * p));
+        return buffer::narrow(key % (2 * p));
     }
-    low(key % p)
+    buffer::narrow(key % p)
 }
 
 // The state of a unit: 0 to 15 data, 16 + 3g + j check.

@@ -11,12 +11,6 @@ ghost use Rattle.model.specs.Reads.{keeper, outsIn};
 ghost use Rattle.model.specs.Sound.{ranges, checksIn};
 ghost use Rattle.soundness.specs.Pieces.{Ranged, placed, groupPlaced};
 
-fn index(x: u32) -> usize
-    ensures { λ r. ⌜ r ≡ x ⌝ }
-{
-    x as usize
-}
-
 pub fn ranges_hold(s: &[u8]) -> bool
     ensures { λ r. ⌜ r ≡ ranges (now (s .entry)) ⌝ }
 {
@@ -25,7 +19,7 @@ pub fn ranges_hold(s: &[u8]) -> bool
     }
     let b = buffer::byte_at(s, 5);
     let length = 36 + 704 * buffer::wide(b);
-    if index(buffer::get32(s, 1)) != length {
+    if buffer::index(buffer::get32(s, 1)) != length {
         return false;
     }
     if b < 1 {
