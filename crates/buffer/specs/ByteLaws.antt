@@ -74,6 +74,13 @@ be32-left x y i h = be32-ext (x ++ y) i x i (λ k l. byte-left x y (i + k) (omeg
 pub be32-part : (at n : ℕ) (s : List ℕ) (i : ℕ) → i + 4 ≤ n → be32 (part at n s) i ≡ be32 s (at + i)
 be32-part at n s i h = be32-ext (part at n s) i s (at + i) (λ k l. byte-part at n s (i + k) (omega arith) ∙ ap (λ j. byte s j) (sym (add-assoc at i k)))
 
+-- ---- the lowest byte of a number, and what stands above it
+pub low-byte : (x a q : ℕ) → a < 256 → x ≡ a + q * 256 → x % 256 ≡ a
+low-byte x a q h e = omega arith
+
+pub above-byte : (x a q : ℕ) → a < 256 → x ≡ a + q * 256 → x / 256 ≡ q
+above-byte x a q h e = omega arith
+
 -- ---- a number as four bytes, and back
 pub length-bytes32 : (x : ℕ) → length (bytes32 x) ≡ 4
 unfolding bytes32
@@ -93,9 +100,6 @@ be32-bytes32 x h =
     omega (arith, top, halves x, quarters x)
 
 -- four bytes are the bytes of their number
-low : (a q : ℕ) → a < 256 → (q * 256 + a) % 256 ≡ a
-low a q h = omega arith
-
 split : (a b c d x : ℕ) → b < 256 → c < 256 → d < 256 → x ≡ a * 16777216 + b * 65536 + c * 256 + d
     → (x / 16777216 ≡ a) × (x / 65536 ≡ a * 256 + b) × (x / 256 ≡ (a * 256 + b) * 256 + c) × (x ≡ ((a * 256 + b) * 256 + c) * 256 + d)
 split a b c d x hb hc hd e = (omega arith, omega arith, omega arith, omega arith)
@@ -113,9 +117,9 @@ bytes32-be32 s at l h =
     below-four
     (λ i. byte (bytes32 x) i ≡ byte (part at 4 s) i)
     (ap (λ n. n % 256) (e .0) ∙ small a (h at) ∙ ap (λ j. byte s j) (sym (add-zero at)) ∙ sym (byte-part at 4 s 0 (omega arith)))
-    (ap (λ n. n % 256) (e .1) ∙ low b a (h (at + 1)) ∙ sym (byte-part at 4 s 1 (omega arith)))
-    (ap (λ n. n % 256) (e .2) ∙ low c (a * 256 + b) (h (at + 2)) ∙ sym (byte-part at 4 s 2 (omega arith)))
-    (ap (λ n. n % 256) (e .3) ∙ low d ((a * 256 + b) * 256 + c) (h (at + 3)) ∙ sym (byte-part at 4 s 3 (omega arith)))
+    (ap (λ n. n % 256) (e .1) ∙ low-byte (a * 256 + b) b a (h (at + 1)) (omega arith) ∙ sym (byte-part at 4 s 1 (omega arith)))
+    (ap (λ n. n % 256) (e .2) ∙ low-byte ((a * 256 + b) * 256 + c) c (a * 256 + b) (h (at + 2)) (omega arith) ∙ sym (byte-part at 4 s 2 (omega arith)))
+    (ap (λ n. n % 256) (e .3) ∙ low-byte (((a * 256 + b) * 256 + c) * 256 + d) d ((a * 256 + b) * 256 + c) (h (at + 3)) (omega arith) ∙ sym (byte-part at 4 s 3 (omega arith)))
     i
     q)
   where

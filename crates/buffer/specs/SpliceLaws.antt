@@ -71,11 +71,7 @@ pub part-append : (at n m : ℕ) (s : List ℕ) → part at n s ++ part (at + n)
 unfolding part
 part-append at n m s = rw (← drop-drop n at s) (sym (take-add n m (drop at s)))
 
--- ---- a list cut at a part of it
-cut : (at n : ℕ) (s : List ℕ) → s ≡ take at s ++ (part at n s ++ drop n (drop at s))
-unfolding part
-cut at n s = sym (rw (take-append-drop n (drop at s)) (take-append-drop at s))
-
+-- ---- a part before a splice, and a splice behind one
 pub part-splice-before : (at n o m : ℕ) (new s : List ℕ) → at ≤ length s → o + m ≤ at → part o m (splice at n new s) ≡ part o m s
 unfolding splice
 part-splice-before at n o m new s h l =

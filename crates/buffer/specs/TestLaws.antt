@@ -1,6 +1,6 @@
--- Tests of numbers, and tests joined by "and". Assumes nothing.
+-- Tests of numbers, and tests joined by "and" or by "or". Assumes nothing.
 use mathlib.Core.Path.{_≡_, refl, sym, _∙_}
-use mathlib.Core.Bool.{Bool, true, false, not, _&&_, true≢false}
+use mathlib.Core.Bool.{Bool, true, false, not, _&&_, _||_, true≢false}
 use Prim.Native.Nat.{ℕ, suc, _≤_, _<_}
 use native.Mathlib.Omega.{arith}
 use lib.Bits.{bitOr, or-add-and, and-le-l, and-le-r}
@@ -76,6 +76,15 @@ by-both P v u q r h k =
     (eqb v u)
     (λ d. by-test P (eqb q r) (λ e. h (eqb-true v u d) (eqb-true q r e)) (λ e. k (λ _ f. eqb-false q r e f)))
     (λ d. k (λ f _. eqb-false v u d f))
+
+-- ---- or
+-- the second test counts only where the first fails
+pub or-else : (s t : Bool) → (s ≡ false → t ≡ true) → (s || t) ≡ true
+or-else true t h = refl
+or-else false t h = h refl
+
+pub or-other : (s t : Bool) → s ≡ false → (s || t) ≡ true → t ≡ true
+or-other s t e h = rw e at h
 
 -- ---- two numbers joined by "or" are 0 where both are
 pub or-zero : (a b : ℕ) → eqb (bitOr a b) 0 ≡ (eqb a 0 && eqb b 0)

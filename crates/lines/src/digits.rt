@@ -31,19 +31,6 @@ pub fn digit_byte(v: u8) -> u8
     if v < 10 { 48 + v } else { 55 + v }
 }
 
-fn wide(x: u8) -> u32
-    ensures { λ r. ⌜ r ≡ x ⌝ }
-{
-    x as u32
-}
-
-fn narrow(x: u32) -> u8
-    requires { ⌜ x < 256 ⌝ }
-    ensures { λ r. ⌜ r ≡ x ⌝ }
-{
-    x as u8
-}
-
 pub struct Digits {
     pub ok: bool,
     pub value: u32,
@@ -64,7 +51,7 @@ pub fn number(l: &[u8], at: usize, n: usize) -> Digits
                 value: 0,
             };
         }
-        value = value * 16 + wide(d);
+        value = value * 16 + buffer::wide32(d);
         i += 1;
     }
     Digits { ok: true, value }
@@ -90,7 +77,7 @@ pub fn read_body(l: &[u8], at: usize) -> Body
                 bytes: [0u8; 16],
             };
         }
-        bytes[i] = narrow(d.value);
+        bytes[i] = buffer::narrow(d.value);
         i += 1;
     }
     Body { ok: true, bytes }

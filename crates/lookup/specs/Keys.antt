@@ -4,34 +4,20 @@ use Prim.Native.Nat.{ℕ, _+_, _*_, _/_, _%_, _≤_, _<_}
 use mathlib.Core.Path.{_≡_, sym, ap, _∙_}
 use mathlib.Core.List.{List}
 use native.Mathlib.Omega.{arith}
-use native.Mathlib.Nat.{mul-le-mul}
 use lib.Dec.{eqb}
-use lib.ListN.{length, take}
 use borrow.Author.Tests.{eq-eqb, ne-eqb, eqb-false}
 use Rattle.buffer.specs.ChoiceLaws.{pick-true, pick-false}
 use Rattle.buffer.specs.Range.{first}
 use Rattle.buffer.specs.RangeLaws.{first-ext, first-le, first-misses}
 use Rattle.buffer.specs.Bytes.{byte, be32, part}
-use Rattle.buffer.specs.Strided.{strided32}
+use Rattle.buffer.specs.Strided.{strided32, Within}
 use Rattle.buffer.specs.ByteLaws.{be32-part}
 use Rattle.buffer.specs.SpliceLaws.{part-part}
 use Rattle.group.specs.Widths.{keyBytes, slotBytes, checkBytes}
 use Rattle.model.specs.Layout.{view, slotAt, checkAt, keyOf}
+use Rattle.model.specs.LayoutLaws.{key-first}
 use Rattle.model.specs.Reads.{fillIn, rankIn, keeper, listedKey, listedFill, listedRank}
 use Rattle.lookup.specs.Sized.{Sized, slot-fits, check-fits}
-
--- n keys lie within the slice
-pub record Within (s : List ℕ) (base step n : ℕ) : Type 0 where
-  pub near : base < 3000000
-  pub narrow : step ≤ 32
-  pub fits : (i : ℕ) → i < n → base + step * i + 4 ≤ length s
-
-pub within-fewer : {s : List ℕ} {base step n m : ℕ} → Within s base step n → m ≤ n → Within s base step m
-within-fewer h l = record { near = h .near; narrow = h .narrow; fits = λ i k. h .fits i (omega arith) }
-
--- no place of a key is far
-pub place-near : {s : List ℕ} {base step n : ℕ} → Within s base step n → (i : ℕ) → i ≤ 255 → base + step * i < 3008160
-place-near {s} {base} {step} h i l = let p : step * i ≤ 32 * 255 = mul-le-mul (h .narrow) l in omega (arith, h .near)
 
 -- ---- the key of a slot
 pub slot-key : (s : List ℕ) (u r : ℕ) → be32 s (slotAt (byte s 5) u r) ≡ keyOf (view s .slot u r)
@@ -48,22 +34,12 @@ unit-key s u r =
     let e : slotAt (byte s 5) u 0 + slotBytes * r ≡ slotAt (byte s 5) u r = omega arith in
     ap (be32 s) e ∙ slot-key s u r
 
-pub unit-within : {s : List ℕ} → Sized s → (u n at : ℕ) → u < 16 → n ≤ byte s 5 → at ≡ slotAt (byte s 5) u 0 → at < 3000000 → Within s at slotBytes n
-unit-within {s} h u n at l k e b =
-    record {
-      near = b;
-      narrow = omega arith;
-      fits = λ i m. omega (arith, slot-fits h u i l (omega arith));
-    }
+pub unit-within : {s : List ℕ} → Sized s → (u n at : ℕ) → u < 16 → n ≤ byte s 5 → at ≡ slotAt (byte s 5) u 0 → Within s at slotBytes n
+unit-within {s} h u n at l k e = record { fits = λ i m. omega (arith, slot-fits h u i l (omega arith)) }
 
 -- ---- the keys of a unit that is out, as a list
-pub out-within : {s : List ℕ} → Sized s → (c p n at : ℕ) → c < 12 → p < 4 → n ≤ byte s 5 → at ≡ checkAt (byte s 5) c 0 + 4 * p → at < 3000000 → Within s at checkBytes n
-out-within {s} h c p n at l q k e b =
-    record {
-      near = b;
-      narrow = omega arith;
-      fits = λ i m. omega (arith, check-fits h c i l (omega arith));
-    }
+pub out-within : {s : List ℕ} → Sized s → (c p n at : ℕ) → c < 12 → p < 4 → n ≤ byte s 5 → at ≡ checkAt (byte s 5) c 0 + 4 * p → Within s at checkBytes n
+out-within {s} h c p n at l q k e = record { fits = λ i m. omega (arith, check-fits h c i l (omega arith)) }
 
 -- where the keys of unit u stand while it is out: in the first check unit in service of its group, the others every 32 bytes behind the first
 abbrev pub keysAt : List ℕ → ℕ → ℕ
@@ -104,24 +80,18 @@ out-bytes s u r i h place =
     ∙ sym (pick-true (eq-eqb (byte s (8 + u)) 2 h) _ _)
 
 module _ {s : List ℕ} {u : ℕ} (known : Known s u) where
-  pub keys-near : {at : ℕ} → byte s (8 + u) ≡ 2 → at ≡ keysAt s u → at < 3000000
-  keys-near h e =
-      let c : keeper (view s) (u / 4) ≤ 12 = omega (arith, known .listed h, known .unit) in
-      let p : keeper (view s) (u / 4) * byte s 5 ≤ 12 * 64 = mul-le-mul c (known .sized .ranks) in
-      omega (arith, known .sized .ranks)
-
-  pub lists-own : (at : ℕ) → (byte s (8 + u) ≡ 2 → ⊥) → at ≡ slotAt (byte s 5) u 0 → at < 3000000 → Lists s u at slotBytes
-  lists-own at h e b =
+  pub lists-own : (at : ℕ) → (byte s (8 + u) ≡ 2 → ⊥) → at ≡ slotAt (byte s 5) u 0 → Lists s u at slotBytes
+  lists-own at h e =
       record {
         bytes = λ r. own-bytes s u r (at + slotBytes * r) h (omega arith);
-        within = unit-within (known .sized) u (byte s 5) at (known .unit) (omega arith) e b;
+        within = unit-within (known .sized) u (byte s 5) at (known .unit) (omega arith) e;
       }
 
-  pub lists-out : (at : ℕ) → byte s (8 + u) ≡ 2 → at ≡ keysAt s u → at < 3000000 → Lists s u at checkBytes
-  lists-out at h e b =
+  pub lists-out : (at : ℕ) → byte s (8 + u) ≡ 2 → at ≡ keysAt s u → Lists s u at checkBytes
+  lists-out at h e =
       record {
         bytes = λ r. out-bytes s u r (at + checkBytes * r) h (omega arith);
-        within = out-within (known .sized) (keeper (view s) (u / 4)) (u % 4) (byte s 5) at (omega (arith, known .listed h, known .unit)) (omega arith) (omega arith) e b;
+        within = out-within (known .sized) (keeper (view s) (u / 4)) (u % 4) (byte s 5) at (omega (arith, known .listed h, known .unit)) (omega arith) (omega arith) e;
       }
 
 -- ---- a search through the keys finds what the definitions say
@@ -139,14 +109,10 @@ module _ {s : List ℕ} {u base step : ℕ} (lists : Lists s u base step) where
   listed-rank-found n r key en er = er ∙ rw en (first-ext (listedFill (view s) u) _ _ (λ k l. ap (λ x. eqb x key) (lists-key lists k)))
 
 -- ---- a unit in service lists its own keys
-key-take : (x : List ℕ) → keyOf (take keyBytes x) ≡ keyOf x
-unfolding keyOf
-key-take x = unfold part in be32-part 0 keyBytes x 0 (omega arith)
-
 module _ (s : List ℕ) (u : ℕ) (serves : byte s (8 + u) ≡ 2 → ⊥) where
   own-key : (r : ℕ) → keyOf (view s .slot u r) ≡ keyOf (listedKey (view s) u r)
   unfolding listedKey view
-  own-key r = sym (key-take _) ∙ ap keyOf (sym (pick-false (ne-eqb (byte s (8 + u)) 2 serves) _ _))
+  own-key r = sym (key-first _) ∙ ap keyOf (sym (pick-false (ne-eqb (byte s (8 + u)) 2 serves) _ _))
 
   pub own-fill : fillIn (view s) u ≡ listedFill (view s) u
   unfolding fillIn listedFill

@@ -1,11 +1,10 @@
 -- What a look into a store may rely on: the ranges of its header, and that the slice is long enough. Every sound store has it.
 -- Assumes nothing.
-use Prim.Native.Nat.{ℕ, suc, _+_, _*_, _/_, _%_, _≤_, _<_}
+use Prim.Native.Nat.{ℕ, _+_, _*_, _/_, _%_, _≤_, _<_}
 use mathlib.Core.Path.{_≡_}
 use mathlib.Core.Bool.{Bool, true, false, _&&_, _||_}
 use mathlib.Core.List.{List}
 use native.Mathlib.Omega.{arith}
-use native.Mathlib.Nat.{mul-le-mul-right}
 use lib.Dec.{eqb, ltb, leb}
 use lib.ListN.{length}
 use borrow.Author.Tests.{eqb-true, leb-true}
@@ -17,6 +16,7 @@ use Rattle.buffer.specs.RangeLaws.{all-true}
 use Rattle.buffer.specs.Bytes.{byte, be32}
 use Rattle.group.specs.Widths.{slotBytes, checkBytes}
 use Rattle.model.specs.Layout.{Store, view, version, storeBytes, unitsIn, levelIn, slotAt, checkAt}
+use Rattle.model.specs.StoreLaws.{slot-within, slots-within, check-within}
 use Rattle.model.specs.Sound.{sound, ranges, unitsPlaced, groupsPlaced, zeroed, keysPlaced, listsAgree, checksIn, checksAllowed}
 
 pub record Sized (s : List ℕ) : Type 0 where
@@ -28,23 +28,14 @@ pub record Sized (s : List ℕ) : Type 0 where
   pub checks : (c : ℕ) → c < 12 → byte s (24 + c) ≤ 2  -- states of check units
 
 -- ---- a slot and a check record lie within the slice
-pub slot-room : {s : List ℕ} → Sized s → (u r : ℕ) → u < 16 → r < byte s 5 → slotAt (byte s 5) u r + slotBytes ≤ 36 + 16 * slotBytes * byte s 5
-slot-room {s} h u r l m =
-    let p : suc u * byte s 5 ≤ 16 * byte s 5 = mul-le-mul-right (byte s 5) l in
-    omega arith
-
 pub slot-fits : {s : List ℕ} → Sized s → (u r : ℕ) → u < 16 → r < byte s 5 → slotAt (byte s 5) u r + slotBytes ≤ length s
-slot-fits {s} h u r l m = omega (arith, slot-room h u r l m, h .long)
+slot-fits {s} h u r l m = slot-within (byte s 5) u r (length s) l m (h .long)
 
 pub slots-fit : {s : List ℕ} → Sized s → (u n : ℕ) → u < 16 → n ≤ byte s 5 → slotAt (byte s 5) u 0 + slotBytes * n ≤ length s
-slots-fit {s} h u n l m =
-    let p : suc u * byte s 5 ≤ 16 * byte s 5 = mul-le-mul-right (byte s 5) l in
-    omega (arith, h .long)
+slots-fit {s} h u n l m = slots-within (byte s 5) u 0 n (length s) l (omega arith) (h .long)
 
 pub check-fits : {s : List ℕ} → Sized s → (c r : ℕ) → c < 12 → r < byte s 5 → checkAt (byte s 5) c r + checkBytes ≤ length s
-check-fits {s} h c r l m =
-    let p : suc c * byte s 5 ≤ 12 * byte s 5 = mul-le-mul-right (byte s 5) l in
-    omega (arith, h .long)
+check-fits {s} h c r l m = check-within (byte s 5) c r (length s) l m (h .long)
 
 -- ---- a sound store
 either : (n : ℕ) → (eqb n 1 || eqb n 2) ≡ true → n ≤ 2

@@ -28,7 +28,7 @@ use Rattle.group.specs.WeighedLaws.{length-weighed, weighed-ext}
 use Rattle.model.specs.Layout.{view, slotAt, checkAt, keyOf}
 use Rattle.model.specs.Reads.{servesIn, holds, keeper, listedKey, listedFill, wholeSlot}
 use Rattle.lookup.specs.Sized.{Sized, slot-fits, check-fits}
-use Rattle.lookup.specs.Keys.{Lists, keysAt, keys-near, lists-out, listed-has-key}
+use Rattle.lookup.specs.Keys.{Lists, keysAt, lists-out, listed-has-key}
 use Rattle.lookup.specs.Groups.{Recoverable, recoverable-known, group-four}
 
 -- ---- where a member of group g holds the body or the parity of rank r
@@ -88,7 +88,7 @@ weighed-held ws a b c d f p q r t = weighed-ext ws (fourBodies a b c d) f (below
 module _ {s : List ℕ} {u : ℕ} {members weights : List ℕ} (recipe : Recipe s u members weights) where
   -- the keys of the unit, from their first on
   pub recipe-keys : {keys : ℕ} → keys ≡ keysAt s u → Lists s u keys checkBytes
-  recipe-keys {keys} e = lists-out (recoverable-known (recipe .unit)) keys (recipe .out) e (keys-near (recoverable-known (recipe .unit)) (recipe .out) e)
+  recipe-keys {keys} e = lists-out (recoverable-known (recipe .unit)) keys (recipe .out) e
 
   pub body-rebuilt : (r : ℕ) (bodies : ℕ → List ℕ) → ((i : ℕ) → i < 4 → bodies i ≡ holds (view s) (u / 4) r (getD members i 0))
       → weighed weights bodies ≡ rebuilt (servesIn (view s) (u / 4)) (holds (view s) (u / 4) r) (u % 4)

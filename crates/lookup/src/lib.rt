@@ -15,8 +15,8 @@ ghost use Rattle.model.specs.Units.{powerBelow, splitPointer, unitOf};
 ghost use Rattle.model.specs.Layout.{view, slotAt, checkAt, keyOf};
 ghost use Rattle.model.specs.Reads.{stateIn, outsIn, beyondIn, servesIn, holds, keeper, listedFill, listedRank, wholeSlot, lostIn};
 ghost use Rattle.lookup.specs.Sized.{Sized};
-ghost use Rattle.buffer.specs.Strided.{strided32};
-ghost use Rattle.lookup.specs.Keys.{Within, keysAt, Known, Lists};
+ghost use Rattle.buffer.specs.Strided.{strided32, Within};
+ghost use Rattle.lookup.specs.Keys.{keysAt, Known, Lists};
 ghost use Rattle.lookup.specs.Groups.{Recoverable};
 ghost use Rattle.lookup.specs.Slots.{heldAt, Recipe};
 
@@ -68,13 +68,6 @@ pub fn split_pointer(m: u8) -> u8
     m - power_below(m)
 }
 
-fn low(x: u32) -> u8
-    requires { ⌜ x < 256 ⌝ }
-    ensures { λ r. ⌜ r ≡ x ⌝ }
-{
-    x as u8
-}
-
 // The unit of a key among m units.
 pub fn unit_of(m: u8, key: u32) -> u8
     requires { ⌜ 1 ≤ m ⌝ }
@@ -82,9 +75,9 @@ pub fn unit_of(m: u8, key: u32) -> u8
 {
     let p = buffer::wide32(power_below(m));
     if key % p + p < buffer::wide32(m) {
-        return low(key % (2 * p));
+        return buffer::narrow(key % (2 * p));
     }
-    low(key % p)
+    buffer::narrow(key % p)
 }
 
 // The state of a unit: 0 to 15 data, 16 + 3g + j check.

@@ -16,13 +16,13 @@ use Rattle.buffer.specs.TestLaws.{and-true, and-first, and-second}
 use Rattle.buffer.specs.Range.{first}
 use Rattle.buffer.specs.RangeLaws.{first-ext, first-le}
 use Rattle.buffer.specs.Bytes.{byte, be32, zeros, part}
-use Rattle.buffer.specs.ByteLaws.{length-zeros, be32-part}
+use Rattle.buffer.specs.ByteLaws.{length-zeros}
 use Rattle.buffer.specs.SpliceLaws.{length-part, part-part}
 use Rattle.group.specs.Widths.{keyBytes, bodyBytes, slotBytes}
 use Rattle.group.specs.CheckRecordLaws.{length-body}
 use Rattle.model.specs.UnitLaws.{unit-below}
 use Rattle.model.specs.Layout.{Store, view, version, storeBytes, slotAt, unitsIn, keyOf}
-use Rattle.model.specs.LayoutLaws.{view-shaped}
+use Rattle.model.specs.LayoutLaws.{view-shaped, key-first}
 use Rattle.model.specs.Reads.{homeIn, fillIn, rankIn, listedKey, listedFill, listedRank, wholeSlot, bodyIn}
 use Rattle.model.specs.Sound.{sound, ranges}
 use Rattle.model.specs.Numbers.{read, readInPlace, refusalsIn, numberIn}
@@ -35,11 +35,6 @@ use Rattle.model.proofs.Refusals.{in-place-store, part-none}
 same-length : (s : List ℕ) (k : ℕ) (x y : List ℕ) → length x ≡ length y → numberIn s (read k x) ≡ numberIn s (read k y)
 unfolding numberIn refusalsIn
 same-length s k x y e = rw e
-
--- the key of a slot stands in its first four bytes
-key-first : (x : List ℕ) → keyOf (take keyBytes x) ≡ keyOf x
-unfolding keyOf part
-key-first x = be32-part 0 keyBytes x 0 (omega arith)
 
 -- the body in a slot of a store's bytes
 pub slot-body : (x : List ℕ) (u r : ℕ) → part (slotAt (view x .size) u r + keyBytes) bodyBytes x ≡ part keyBytes bodyBytes (view x .slot u r)

@@ -10,10 +10,15 @@ use lib.Seq.{take-at, drop-cons, drop-drop, length-take-le, getD-take}
 use Rattle.buffer.specs.Bytes.{byte, part}
 use Rattle.buffer.specs.Table.{tab}
 use Rattle.buffer.specs.SpliceLaws.{length-part, part-left, part-right, part-whole, part-append, drop-right}
-use Rattle.buffer.specs.ByteLaws.{byte-left, byte-right}
+use Rattle.buffer.specs.ByteLaws.{byte-left, byte-right, be32-part}
 use Rattle.buffer.specs.TableLaws.{Wide, tab-ext, length-tab, part-tab, byte-ones}
-use Rattle.group.specs.Widths.{slotBytes, checkBytes}
-use Rattle.model.specs.Layout.{Store, bytes, view, storeBytes, slotAt, checkAt}
+use Rattle.group.specs.Widths.{keyBytes, slotBytes, checkBytes}
+use Rattle.model.specs.Layout.{Store, bytes, view, storeBytes, slotAt, checkAt, keyOf}
+
+-- the key of a record stands in its first bytes
+pub key-first : (x : List ℕ) → keyOf (take keyBytes x) ≡ keyOf x
+unfolding keyOf part
+key-first x = be32-part 0 keyBytes x 0 (omega arith)
 
 -- the parts have the sizes that the layout gives them
 pub record Shaped (s : Store) : Type 0 where

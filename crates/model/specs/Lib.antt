@@ -7,6 +7,7 @@ pub mod RunLaws
 pub mod RunTurns
 pub mod Reads
 pub mod Sound
+pub mod SoundLaws
 pub mod Numbers
 pub mod RowLaws
 pub mod Changes

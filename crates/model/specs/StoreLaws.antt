@@ -16,7 +16,7 @@ use Rattle.buffer.specs.Table.{tab, upd}
 use Rattle.buffer.specs.TableLaws.{tab-ext, tab-one, tab-zeros, splice-chunk, upd-map}
 use Rattle.group.specs.Widths.{slotBytes, checkBytes}
 use Rattle.model.specs.Layout.{Store, bytes, view, storeBytes, unitsIn, levelIn, slotAt, checkAt, changed}
-use Rattle.model.specs.LayoutLaws.{Shaped, Same, bytes-ext, bytes-view, view-shaped, length-bytes, byte-front, view-cstate, slot-read, check-read, len-ds, len-cs, len-slots, len-checks}
+use Rattle.model.specs.LayoutLaws.{Shaped, bytes-ext, bytes-view, view-shaped, length-bytes, byte-front, view-cstate, slot-read, check-read, len-ds, len-cs, len-slots, len-checks}
 use Rattle.model.specs.RunLaws.{upd2, run, run-one, run-unit, splice-run}
 
 -- the same store with other slots, and with other check records
@@ -35,10 +35,6 @@ withDstates s f = record { front = s .front; dstate = f; cstate = s .cstate; siz
 
 unfoldable pub withCstates : Store → (ℕ → ℕ) → Store
 withCstates s f = record { front = s .front; dstate = s .dstate; cstate = f; size = s .size; slot = s .slot; check = s .check; rest = s .rest }
-
--- a store is the same as itself
-pub same-refl : (s : Store) → Same s s
-same-refl s = record { front = refl; size = refl; dstate = λ u l. refl; cstate = λ c l. refl; slot = λ u r l m. refl; check = λ c r l m. refl; rest = refl }
 
 -- other slots, or other check records, of the same widths; and two such stores that have the same ones
 module _ (s : Store) (f : ℕ → ℕ → List ℕ) where

@@ -15,9 +15,10 @@ use Rattle.buffer.specs.Bytes.{byte}
 use Rattle.group.specs.Members.{outs}
 use Rattle.model.specs.Layout.{view, slotAt, checkAt}
 use Rattle.model.specs.Reads.{keeper, outsIn}
+use Rattle.lookup.specs.Keys.{keysAt}
 use Rattle.buffer.specs.Strided.{strided32}
 use Rattle.soundness.specs.Keys.{fillOf, reached, sameKeys, noKeys, sameLists}
-use Rattle.soundness.specs.Pieces.{Kept, zeroBetween, dataKeys, columnKeys, columnAt, unkept, dataFill, columnFill}
+use Rattle.soundness.specs.Pieces.{Kept, zeroBetween, dataKeys, columnKeys, unkept, dataFill, columnFill}
 use Rattle.soundness.proofs.Places.{data-list, column-list}
 
 -- where the keys are good they reach no further than the list
@@ -67,7 +68,7 @@ module _ (s : List ℕ) (u : ℕ) {w : ℕ} (width : w ≡ byte s 5) where
   unfolding dataFill
   data-fill e f = f ∙ ap₂ (λ b key. reached b (byte s 6) u key) width (data-list s u e)
 
-  pub column-fill : {to n : ℕ} → to ≡ columnAt s u → n ≡ reached w (byte s 6) u (strided32 s to 32) → n ≡ columnFill s u
+  pub column-fill : {to n : ℕ} → to ≡ keysAt s u → n ≡ reached w (byte s 6) u (strided32 s to 32) → n ≡ columnFill s u
   unfolding columnFill
   column-fill e f = f ∙ ap₂ (λ b key. reached b (byte s 6) u key) width (column-list s u e)
 
@@ -83,11 +84,11 @@ module _ (s : List ℕ) (u : ℕ) {w : ℕ} (width : w ≡ byte s 5) where
       → r ≡ zeroBetween s (slotAt (byte s 5) u 0 + 20 * dataFill s u) (slotAt (byte s 5) u 0 + 20 * byte s 5)
   rest-zero e f h = h ∙ ap₂ (zeroBetween s) (ap₂ (λ a k. a + 20 * k) e f) (end e)
 
-  pub column-same : {at to : ℕ} {r : Bool} → at ≡ slotAt (byte s 5) u 0 → to ≡ columnAt s u → r ≡ sameKeys w (strided32 s at 20) (strided32 s to 32)
+  pub column-same : {at to : ℕ} {r : Bool} → at ≡ slotAt (byte s 5) u 0 → to ≡ keysAt s u → r ≡ sameKeys w (strided32 s at 20) (strided32 s to 32)
       → r ≡ sameKeys (byte s 5) (dataKeys s u) (columnKeys s u)
   column-same e f h = h ∙ ap₂ (sameKeys w) (data-list s u e) (column-list s u f) ∙ ap (λ b. sameKeys b (dataKeys s u) (columnKeys s u)) width
 
-  pub column-none : {to n k : ℕ} {r : Bool} → to ≡ columnAt s u → n ≡ k → r ≡ noKeys n w (strided32 s to 32) → r ≡ noKeys k (byte s 5) (columnKeys s u)
+  pub column-none : {to n k : ℕ} {r : Bool} → to ≡ keysAt s u → n ≡ k → r ≡ noKeys n w (strided32 s to 32) → r ≡ noKeys k (byte s 5) (columnKeys s u)
   column-none {to} {k = k} e f h = h ∙ ap₂ (λ i b. noKeys i b (strided32 s to 32)) f width ∙ ap (noKeys k (byte s 5)) (column-list s u e)
 
 -- ---- and of a check unit

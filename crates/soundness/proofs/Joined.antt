@@ -2,14 +2,7 @@
 use mathlib.Core.Path.{_≡_, refl}
 use mathlib.Core.Bool.{Bool, true, false, not, _&&_, _||_}
 
--- "n, or else x"
-pub second : (n x : Bool) → n ≡ false → (n || x) ≡ true → x ≡ true
-second n x e h = rw e at h
-
-pub unless : (n x : Bool) → (n ≡ false → x ≡ true) → (n || x) ≡ true
-unless true x h = refl
-unless false x h = h refl
-
+-- "n, or else x", where n is denied twice
 pub once : (n x : Bool) → (n ≡ false → x ≡ true) → (not (not n) || x) ≡ true
 once true x h = refl
 once false x h = h refl

@@ -8,7 +8,7 @@ pub mod Endings
 pub mod Listed
 pub mod Zeros
 pub mod Good
-pub mod Units
-pub mod Checks
+pub mod UnitClauses
+pub mod CheckClauses
 pub mod Theorem
 pub mod Surveys

@@ -16,7 +16,7 @@ use Rattle.model.specs.Reads.{keeper, outsIn}
 use Rattle.model.specs.Sound.{ranges}
 use Rattle.soundness.specs.Pieces.{placed, groupPlaced, unitGood, unitFill, unitCount, checkGood, pieces}
 use Rattle.soundness.specs.Survey.{knownFill, Counted, Nothing, Surveyed}
-use Rattle.soundness.proofs.Units.{fill-small, good-fill}
+use Rattle.soundness.proofs.UnitClauses.{fill-small, good-fill}
 use Rattle.soundness.proofs.Theorem.{ranged, pieces-sound}
 
 -- what is handed on, and that nothing is

@@ -9,7 +9,7 @@ use lib.ListN.{length}
 use lib.Seq.{getD-take}
 use borrow.Author.Tests.{eqb-true, eqb-false, eq-eqb, ne-eqb, ltb-true, ltb-false, leb-true, not-false}
 use Rattle.buffer.specs.ChoiceLaws.{by-test}
-use Rattle.buffer.specs.TestLaws.{and-true, and-first, and-second, and-ext, same-test}
+use Rattle.buffer.specs.TestLaws.{and-true, and-first, and-second, and-ext, or-else, or-other, same-test}
 use Rattle.buffer.specs.Range.{all, first}
 use Rattle.buffer.specs.RangeLaws.{all-true, all-holds, first-le, first-holds}
 use Rattle.buffer.specs.Bytes.{byte, be32, part, zeros}
@@ -18,13 +18,13 @@ use Rattle.model.specs.Reads.{fillIn, keeper, listedKey, listedFill}
 use Rattle.model.specs.Sound.{same, ranges, unitsPlaced, groupsPlaced, zeroed, keysKnown, keysPlaced, listsAgree, sound}
 use Rattle.buffer.specs.Strided.{strided32}
 use Rattle.soundness.specs.Keys.{fillOf, isNew, ownAndNew}
-use Rattle.soundness.specs.Pieces.{Ranged, placed, groupPlaced, columnAt, columnKeys, unkept, unitGood, checkGood, pieces}
-use Rattle.soundness.proofs.Joined.{second, unless, and-assoc}
+use Rattle.soundness.specs.Pieces.{Ranged, placed, groupPlaced, columnKeys, unkept, unitGood, checkGood, pieces}
+use Rattle.soundness.proofs.Joined.{and-assoc}
 use Rattle.soundness.proofs.Endings.{keeper-before}
 use Rattle.soundness.proofs.Listed.{check-key}
 use Rattle.soundness.proofs.Good.{keysGood}
-use Rattle.soundness.proofs.Units.{Unit, good-unit, unit-good}
-use Rattle.soundness.proofs.Checks.{checkKey, Check, good-check, check-good}
+use Rattle.soundness.proofs.UnitClauses.{Unit, good-unit, unit-good}
+use Rattle.soundness.proofs.CheckClauses.{checkKey, Check, good-check, check-good}
 
 -- ---- M and K, and the states
 module _ (s : List ℕ) where
@@ -91,7 +91,7 @@ ranged s h =
 module _ (s : List ℕ) where
   -- a place of a group, and the unit that stands there
   place-column : (g p r : ℕ) → g < 4 → p < 4 → columnKeys s (4 * g + p) r ≡ checkKey s (keeper (view s) g) p r
-  unfolding columnKeys columnAt
+  unfolding columnKeys
   place-column g p r h k =
       let e : (4 * g + p) / 4 ≡ g = omega arith in
       let f : (4 * g + p) % 4 ≡ p = omega arith in
@@ -112,7 +112,7 @@ module _ (s : List ℕ) where
   unfolding test
   agree-true h c l e r k p q =
       let row = all-true 12 (λ c. not (eqb (byte s (24 + c)) 1) || all (byte s 5) (λ r. all 4 (test c r))) (sym agreeing ∙ h) c l in
-      let ranks = second (not (eqb (byte s (24 + c)) 1)) _ (ap not (eq-eqb _ _ e)) row in
+      let ranks = or-other (not (eqb (byte s (24 + c)) 1)) _ (ap not (eq-eqb _ _ e)) row in
       sym (check-key s c p r q) ∙ eqb-true _ _ (all-true 4 (test c r) (all-true (byte s 5) (λ r. all 4 (test c r)) ranks r k) p q)
 
   agree-holds : ((c : ℕ) → c < 12 → Agree c) → listsAgree (view s) ≡ true
@@ -120,7 +120,7 @@ module _ (s : List ℕ) where
   agree-holds h =
       agreeing
       ∙ all-holds 12 (λ c. not (eqb (byte s (24 + c)) 1) || all (byte s 5) (λ r. all 4 (test c r))) (λ c l.
-      unless (not (eqb (byte s (24 + c)) 1)) _ (λ e.
+      or-else (not (eqb (byte s (24 + c)) 1)) _ (λ e.
       all-holds (byte s 5) (λ r. all 4 (test c r)) (λ r k.
       all-holds 4 (test c r) (λ p q. eq-eqb _ _ (check-key s c p r q ∙ h c l (eqb-true _ _ (not-false (eqb (byte s (24 + c)) 1) e)) r k p q)))))
 

@@ -2,27 +2,21 @@
 use mathlib.Core.Path.{_≡_, refl, sym, _∙_}
 use mathlib.Core.Bool.{_&&_}
 use mathlib.Core.List.{List}
-use Prim.Native.Nat.{ℕ, _+_, _*_, _/_, _%_, _<_}
+use Prim.Native.Nat.{ℕ, _+_, _*_, _<_}
 use native.Mathlib.Omega.{arith}
 use lib.Dec.{eqb}
 use borrow.Author.Tests.{eqb-true, eq-eqb}
 use Rattle.buffer.specs.Bytes.{byte, be32}
+use Rattle.buffer.specs.ByteLaws.{low-byte, above-byte}
 use Rattle.buffer.specs.TestLaws.{same-test, and-true, and-first, and-second}
 use Rattle.soundness.specs.Keys.{le32, samePair}
 
--- the last byte, and the rest, of a number
-low : (x a q : ℕ) → a < 256 → x ≡ a + q * 256 → x % 256 ≡ a
-low x a q h e = omega arith
-
-rest : (x a q : ℕ) → a < 256 → x ≡ a + q * 256 → x / 256 ≡ q
-rest x a q h e = omega arith
-
 -- a byte and a rest are told by the number that they make
 last : (a p b q : ℕ) → a < 256 → b < 256 → a + p * 256 ≡ b + q * 256 → a ≡ b
-last a p b q ha hb e = sym (low (a + p * 256) a p ha refl) ∙ low (a + p * 256) b q hb e
+last a p b q ha hb e = sym (low-byte (a + p * 256) a p ha refl) ∙ low-byte (a + p * 256) b q hb e
 
 others : (a p b q : ℕ) → a < 256 → b < 256 → a + p * 256 ≡ b + q * 256 → p ≡ q
-others a p b q ha hb e = sym (rest (a + p * 256) a p ha refl) ∙ rest (a + p * 256) b q hb e
+others a p b q ha hb e = sym (above-byte (a + p * 256) a p ha refl) ∙ above-byte (a + p * 256) b q hb e
 
 -- four bytes, as they are weighed from the low end and from the high end
 from-low : (a b c d e f g h : ℕ) → a < 256 → b < 256 → c < 256 → d < 256 → e < 256 → f < 256 → g < 256 → h < 256

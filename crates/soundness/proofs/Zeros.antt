@@ -1,13 +1,12 @@
 -- A range of zero bytes, and the slots or check records in it that are zero. Assumes nothing.
-use mathlib.Core.Path.{_≡_, refl, sym, ap, _∙_}
+use mathlib.Core.Path.{_≡_, sym, ap, _∙_}
 use mathlib.Core.Bool.{true}
-use mathlib.Core.List.{List, [], _∷_}
+use mathlib.Core.List.{List}
 use Prim.Native.Nat.{ℕ, _+_, _*_, _-_, _/_, _≤_, _<_}
 use native.Mathlib.Omega.{arith}
 use lib.Dec.{eqb}
 use lib.ListN.{length}
 use borrow.Author.Tests.{eqb-true, eq-eqb}
-use Rattle.buffer.specs.TestLaws.{and-true, and-first, and-second, not-both}
 use Rattle.buffer.specs.RangeLaws.{all-true, all-holds}
 use Rattle.buffer.specs.Bytes.{byte, zeros, part}
 use Rattle.buffer.specs.Loops.{allZero}
@@ -15,20 +14,8 @@ use Rattle.buffer.specs.SpliceLaws.{length-part}
 use Rattle.buffer.specs.ByteLaws.{byte-part, byte-zeros, zeros-of}
 use Rattle.model.specs.Layout.{view, slotAt, checkAt}
 use Rattle.model.specs.Sound.{same}
+use Rattle.model.specs.SoundLaws.{same-true, same-of}
 use Rattle.soundness.specs.Pieces.{zeroBetween}
-
--- ---- lists that are the same
-same-true : (x y : List ℕ) → same x y ≡ true → x ≡ y
-unfolding same
-same-true [] [] h = refl
-same-true [] (b ∷ y) h = not-both h refl
-same-true (a ∷ x) [] h = not-both h refl
-same-true (a ∷ x) (b ∷ y) h = rw (eqb-true a b (and-first (eqb a b) (same x y) h), same-true x y (and-second (eqb a b) (same x y) h))
-
-same-refl : (x : List ℕ) → same x x ≡ true
-unfolding same
-same-refl [] = refl
-same-refl (a ∷ x) = and-true (eq-eqb a a refl) (same-refl x)
 
 -- ---- a range of zeros
 abbrev pub Zero : List ℕ → ℕ → ℕ → Type 0
@@ -64,7 +51,7 @@ module _ (s : List ℕ) where
 
   zero-part : (at n : ℕ) → at + n ≤ length s → Zero s at (at + n) → same (part at n s) (zeros n) ≡ true
   zero-part at n l z =
-      rw (zeros-of n (part at n s) (length-part at n s l) (λ i k. byte-part at n s i k ∙ z (at + i) (omega arith) (omega arith))) (same-refl (zeros n))
+      same-of (part at n s) (zeros n) (zeros-of n (part at n s) (length-part at n s l) (λ i k. byte-part at n s i k ∙ z (at + i) (omega arith) (omega arith)))
 
   -- ---- the slots of a unit from rank n on
   module _ (u : ℕ) (fits : slotAt (byte s 5) u 0 + 20 * byte s 5 ≤ length s) where

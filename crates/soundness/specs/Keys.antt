@@ -1,19 +1,13 @@
 -- Lists of keys within bytes, and what is asked of the keys of one unit. A list is a function, rank → key; ranks are counted from 0.
 -- Assumes nothing.
-use Prim.Native.Nat.{ℕ, _+_, _*_, _/_, _%_, _≤_, _<_}
+use Prim.Native.Nat.{ℕ, _+_, _*_, _/_, _%_}
 use mathlib.Core.List.{List}
 use mathlib.Core.Bool.{Bool, not, _&&_, _||_}
 use lib.Dec.{eqb, ltb}
-use lib.ListN.{length}
 use Rattle.buffer.specs.Choice.{pick}
 use Rattle.buffer.specs.Range.{all, first}
 use Rattle.buffer.specs.Bytes.{byte, be32}
 use Rattle.model.specs.Units.{unitOf}
-
--- the bytes have such a list of b keys
-pub record Within (s : List ℕ) (base step b : ℕ) : Type 0 where
-  pub reach : (r : ℕ) → r < b → base + step * r + 4 ≤ length s
-  pub few : b ≤ 64
 
 -- the place of a key in the table of stamps
 unfoldable pub placeOf : ℕ → ℕ

@@ -1,6 +1,6 @@
 -- The pieces that the soundness test is made of: one test for each data unit and one for each check unit, over the bytes. That they say what
 -- document 01 asks is the theorem `pieces-sound`. Assumes nothing.
-use Prim.Native.Nat.{ℕ, _+_, _*_, _-_, _/_, _%_, _≤_}
+use Prim.Native.Nat.{ℕ, _+_, _*_, _-_, _/_, _≤_}
 use mathlib.Core.Path.{_≡_}
 use mathlib.Core.List.{List}
 use mathlib.Core.Bool.{Bool, _&&_, _||_}
@@ -14,6 +14,7 @@ use Rattle.model.specs.Layout.{view, storeBytes, slotAt, checkAt}
 use Rattle.model.specs.Reads.{keeper}
 use Rattle.model.specs.Sound.{ranges, checksIn, checksAllowed}
 use Rattle.buffer.specs.Strided.{strided32}
+use Rattle.lookup.specs.Keys.{keysAt}
 use Rattle.soundness.specs.Keys.{reached, sameKeys, noKeys, sameLists}
 
 -- what the later pieces rely on: the store's units lie within the bytes
@@ -47,11 +48,8 @@ groupPlaced s g =
 unfoldable pub dataKeys : List ℕ → ℕ → ℕ → ℕ
 dataKeys s u = strided32 s (slotAt (byte s 5) u 0) 20
 
-unfoldable pub columnAt : List ℕ → ℕ → ℕ
-columnAt s u = checkAt (byte s 5) (keeper (view s) (u / 4)) 0 + 4 * (u % 4)
-
 unfoldable pub columnKeys : List ℕ → ℕ → ℕ → ℕ
-columnKeys s u = strided32 s (columnAt s u) 32
+columnKeys s u = strided32 s (keysAt s u) 32
 
 -- no check unit of the group is in service
 unfoldable pub unkept : List ℕ → ℕ → Bool

@@ -9,6 +9,7 @@ use lib.ListN.{set, getD}
 use borrow.Author.Tests.{not-false, leb-false, ltb-false, ne-eqb}
 use Rattle.buffer.specs.Choice.{pick}
 use Rattle.buffer.specs.ChoiceLaws.{pick-ext}
+use Rattle.buffer.specs.TestLaws.{or-other}
 use Rattle.buffer.specs.Bytes.{byte, zeros}
 use Rattle.group.specs.Widths.{checkBytes}
 use Rattle.model.specs.Units.{splitPointer}
@@ -18,11 +19,12 @@ use Rattle.model.specs.LayoutLaws.{Long, bytes-view, view-shaped}
 use Rattle.model.specs.StoreLaws.{withFront, size-of, units-of, level-of, front-set}
 use Rattle.model.specs.Reads.{fillIn, outsIn}
 use Rattle.model.specs.Sound.{sound}
+use Rattle.model.specs.SoundLaws.{same-true}
 use Rattle.model.specs.Numbers.{Call, grow, shrink, raise, firstOf, refusalsIn}
 use Rattle.model.specs.Changes.{raised}
 use Rattle.model.specs.RowLaws.{row-pair, first-free}
 use Rattle.model.specs.PerformLaws.{none-holds}
-use Rattle.model.proofs.history.SoundSays.{same-true, zeroed-says, clauses}
+use Rattle.model.proofs.history.SoundSays.{zeroed-says, clauses}
 use Rattle.soundness.specs.Survey.{Surveyed, outs-counted, fill-listed}
 use Rattle.lookup.specs.Sized.{Sized, sound-sized}
 use Rattle.lookup.specs.Keys.{own-fill}
@@ -68,10 +70,7 @@ sized s e h = sound-sized (sym e ∙ h)
 pub blank : (s : List ℕ) {ok : Bool} → ok ≡ sound s → ok ≡ true → Blank s
 blank s e h c r a b out =
     let zero : (eqb (view s .cstate c) 1 || _) ≡ true = zeroed-says (view s) (clauses s (sym e ∙ h) .zeros) .checks c r a (rw (← size-of s) b) in
-    same-true (view s .check c r) (zeros checkBytes) (or-else (ne-eqb (view s .cstate c) 1 (unfold view in out)) zero)
-  where
-    or-else : {s t : Bool} → s ≡ false → (s || t) ≡ true → t ≡ true
-    or-else e f = rw e at f
+    same-true (view s .check c r) (zeros checkBytes) (or-other (eqb (view s .cstate c) 1) _ (ne-eqb (view s .cstate c) 1 (unfold view in out)) zero)
 
 -- ---- what the survey says of unit m and of the unit that it is split from
 module _ {s : List ℕ} {ok : Bool} {fills keepers outs : List ℕ} (g : Surveyed s ok fills keepers outs) (e : ok ≡ true) {m : ℕ} (some : 1 ≤ m) (l : m < 16) where

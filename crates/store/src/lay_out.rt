@@ -6,12 +6,6 @@ ghost use Rattle.buffer.specs.Bytes.{zeros};
 ghost use Rattle.model.specs.Layout.{frontOf};
 ghost use Rattle.model.specs.Perform.{outcome, plain, layOut, layOutNumber};
 
-fn wide(x: u32) -> usize
-    ensures { λ r. ⌜ r ≡ x ⌝ }
-{
-    x as usize
-}
-
 // The number of a layout: 2 for a b outside 1 to 64, 7 for a slice that is too short.
 fn layout_number(s: &[u8], b: u32) -> u8
     ensures { λ r. ⌜ r ≡ layOutNumber (now (s .entry)) b ⌝ }
@@ -24,7 +18,7 @@ fn layout_number(s: &[u8], b: u32) -> u8
     if many {
         return 2;
     }
-    let short = s.len() < 36 + 704 * wide(b);
+    let short = s.len() < 36 + 704 * buffer::index(b);
     if short {
         return 7;
     }
@@ -60,7 +54,7 @@ pub fn lay_out(s: &mut [u8], b: u32) -> u8
     if refused {
         return number;
     }
-    let size = 36 + 704 * wide(b);
+    let size = 36 + 704 * buffer::index(b);
     buffer::clear(&mut s[36..size]);
     let head = header(b);
     buffer::copy(&mut s[0..36], &head);

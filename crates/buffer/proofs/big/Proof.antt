@@ -3,16 +3,11 @@ use Prim.Native.Nat.{ℕ, _+_, _*_, _<_, _/_, _%_}
 use mathlib.Core.Path.{_≡_}
 use native.Mathlib.Omega.{arith}
 use borrow.Author.Needs.{needs}
+use Rattle.buffer.specs.ByteLaws.{low-byte, above-byte}
 use Rattle.buffer.proofs.big.Statement.{statement}
 use Rattle.buffer.proofs.big.Tie as tie
 
--- the lowest byte of a number, and what stands above a cut
-low : (x a q : ℕ) → a < 256 → x ≡ a + q * 256 → x % 256 ≡ a
-low x a q h e = omega arith
-
-above8 : (x r q : ℕ) → r < 256 → x ≡ r + q * 256 → x / 256 ≡ q
-above8 x r q h e = omega arith
-
+-- what stands above two bytes of a number, and above three
 above16 : (x r q : ℕ) → r < 65536 → x ≡ r + q * 65536 → x / 65536 ≡ q
 above16 x r q h e = omega arith
 
@@ -37,9 +32,9 @@ swapped a b c d x y ha hb hc hd ex ey =
     c
     d
     ey
-    (low x a (b + c * 256 + d * 65536) ha (omega (arith, ex)))
-    (low (x / 256) b (c + d * 256) hb (above8 x a (b + (c + d * 256) * 256) ha (omega (arith, ex))))
-    (low (x / 65536) c d hc (above16 x (a + b * 256) (c + d * 256) (omega (arith, ha, hb)) (omega (arith, ex))))
+    (low-byte x a (b + c * 256 + d * 65536) ha (omega (arith, ex)))
+    (low-byte (x / 256) b (c + d * 256) hb (above-byte x a (b + (c + d * 256) * 256) ha (omega (arith, ex))))
+    (low-byte (x / 65536) c d hc (above16 x (a + b * 256) (c + d * 256) (omega (arith, ha, hb)) (omega (arith, ex))))
     (above24 x (a + b * 256 + c * 65536) d (omega (arith, ha, hb, hc)) (omega (arith, ex)))
 
 returns : tie.Need-returns

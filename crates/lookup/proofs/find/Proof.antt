@@ -8,7 +8,6 @@ use Rattle.buffer.specs.Bytes.{be32}
 use Rattle.buffer.specs.LoopTests.{Seeking, seeking-start, seeking-hit, seeking-miss, seeking-end}
 use Rattle.buffer.specs.TestLaws.{is-eq, is-ne}
 use Rattle.buffer.specs.Strided.{strided32}
-use Rattle.lookup.specs.Keys.{place-near}
 use Rattle.lookup.proofs.find.Statement.{statement}
 use Rattle.lookup.proofs.find.Tie as tie
 
@@ -25,11 +24,18 @@ loop-holds c = seeking-start
 sub-i : tie.Need-sub-i Inv-loop μ-loop
 sub-i c = c .loop-test .taken
 
+-- the key that is read lies within the bytes
 mul-load32 : tie.Need-mul-load32 Inv-loop μ-loop
-mul-load32 c = omega (arith, place-near (c .before .before .before .before .pre) (c .wide .result) (omega (arith, c .wide .ensures)))
+mul-load32 c =
+    let l = c .before .before .loop in
+    let h = c .before .before .before .before .pre .fits (c .wide .result) (omega (arith, c .wide .ensures, l .inv .least, l .inv .most, c .before .loop-test .taken)) in
+    search needs
 
 add-load32 : tie.Need-add-load32 Inv-loop μ-loop
-add-load32 c = omega (arith, place-near (c .before .before .before .before .pre) (c .wide .result) (omega (arith, c .wide .ensures)))
+add-load32 c =
+    let l = c .before .before .loop in
+    let h = c .before .before .before .before .pre .fits (c .wide .result) (omega (arith, c .wide .ensures, l .inv .least, l .inv .most, c .before .loop-test .taken)) in
+    search needs
 
 load32-requires : tie.Need-load32-requires Inv-loop μ-loop
 load32-requires c κs =

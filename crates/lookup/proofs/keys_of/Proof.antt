@@ -1,9 +1,8 @@
 -- `lookup::keys_of` meets its contract. Assumes nothing.
 use mathlib.Core.Path.{sym, _∙_}
-use native.Mathlib.Omega.{arith}
 use borrow.Author.Needs.{needs}
 use Rattle.lookup.specs.States.{state-byte}
-use Rattle.lookup.specs.Keys.{keys-near, lists-own, lists-out}
+use Rattle.lookup.specs.Keys.{lists-own, lists-out}
 use Rattle.lookup.proofs.keys_of.Statement.{statement}
 use Rattle.lookup.proofs.keys_of.Tie as tie
 
@@ -16,7 +15,7 @@ returns c =
     let start = test .before .before .before in
     let known = start .pre .0 in
     let out = state-byte (start .args .s .now) (start .args .u) ∙ sym (test .before .state .ensures) ∙ test .if1 .taken in
-    lists-out known _ out (c .keys-at .ensures) (keys-near known out (c .keys-at .ensures))
+    lists-out known _ out (c .keys-at .ensures)
 
 returns-2 : tie.Need-returns-2
 returns-2 c =
@@ -27,7 +26,6 @@ returns-2 c =
     _
     (λ h. c .before .before .if1 .left (test .state .ensures ∙ sym (state-byte (start .args .s .now) (start .args .u)) ∙ h))
     (c .slot-at .ensures .0)
-    (omega arith)
 
 pub keys-of-spec : {M : Type 1} → statement M
 keys-of-spec =

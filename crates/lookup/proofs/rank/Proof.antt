@@ -1,5 +1,4 @@
 -- `lookup::rank` meets its contract. Assumes nothing.
-use native.Mathlib.Omega.{arith}
 use borrow.Author.Needs.{needs}
 use Rattle.lookup.specs.Keys.{unit-within, rank-found}
 use Rattle.lookup.proofs.rank.Statement.{statement}
@@ -8,7 +7,7 @@ use Rattle.lookup.proofs.rank.Tie as tie
 find-requires : tie.Need-find-requires
 find-requires c κs =
     let start = c .before .before .before in
-    unit-within (start .pre .0) (start .args .u) _ _ (start .pre .1) (start .pre .2) (c .slot-at .ensures .0) (omega arith)
+    unit-within (start .pre .0) (start .args .u) _ _ (start .pre .1) (start .pre .2) (c .slot-at .ensures .0)
 
 returns : tie.Need-returns
 returns c =

@@ -9,7 +9,7 @@ use Rattle.buffer.specs.Bytes.{be32, zeros}
 use Rattle.model.specs.Layout.{view, keyOf}
 use Rattle.model.specs.Reads.{listedKey}
 use Rattle.buffer.specs.Strided.{strided32}
-use Rattle.lookup.specs.Keys.{Lists, place-near, lists-key}
+use Rattle.lookup.specs.Keys.{Lists, lists-key}
 use Rattle.lookup.specs.Slots.{recipe-keys, out-key-long, body-rebuilt, slot-rebuilt, slot-none}
 use Rattle.buffer.specs.SpliceLaws.{part-lent}
 use Rattle.lookup.proofs.Lent.{body-room, two-parts}
@@ -22,7 +22,10 @@ unfolding strided32
 key-read {s} {u} {base} {step} lists r i ei e = e ∙ ap (λ j. be32 s (base + step * j)) ei ∙ lists-key lists r
 
 add-at : tie.Need-add-at
-add-at c = let p = c .before .before .before .pre in omega (arith, place-near (recipe-keys (p .1) (p .3) .within) (c .wide .result) (omega arith))
+add-at c =
+    let p = c .before .before .before .pre in
+    let h = recipe-keys (p .1) (p .3) .within .fits (c .wide .result) (omega (arith, c .wide .ensures .0, p .2)) in
+    search needs
 
 load32-requires : tie.Need-load32-requires
 load32-requires c κs =
@@ -33,7 +36,8 @@ add-copy : tie.Need-add-copy
 add-copy c =
     let at = c .before .before .before in
     let p = at .before .before .before .pre in
-    omega (arith, place-near (recipe-keys (p .1) (p .3) .within) (at .wide .result) (omega arith))
+    let h = recipe-keys (p .1) (p .3) .within .fits (at .wide .result) (omega (arith, at .wide .ensures .0, p .2)) in
+    search needs
 
 part-copy-end-2 : tie.Need-part-copy-end-2
 part-copy-end-2 c =

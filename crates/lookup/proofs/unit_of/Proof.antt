@@ -12,8 +12,8 @@ use Rattle.lookup.proofs.unit_of.Tie as tie
 add-if1 : tie.Need-add-if1
 add-if1 c = omega (arith, mod-lt (c .before .before .args .key) {m = c .wide32 .result} (omega arith))
 
-low-requires : tie.Need-low-requires
-low-requires c κs =
+narrow-requires : tie.Need-narrow-requires
+narrow-requires c κs =
     let a = c .before .before in
     omega (arith, mod-lt (a .before .before .args .key) {m = 2 * a .wide32 .result} (omega arith))
 
@@ -22,11 +22,11 @@ returns c =
     let b = c .before .before in
     let a = b .before in
     let start = a .before .before in
-    let unit = unit-split _ _ _ _ (a .wide32 .ensures .0 ∙ a .before .power-below .ensures .0) (rw (b .wide322 .ensures .0) at (c .before .if1 .taken)) (c .low .ensures) in
+    let unit = unit-split _ _ _ _ (a .wide32 .ensures .0 ∙ a .before .power-below .ensures .0) (rw (b .wide322 .ensures .0) at (c .before .if1 .taken)) (c .narrow .ensures) in
     (unit, rw unit (unit-below (start .args .m) (start .args .key) (start .pre)))
 
-low-requires-2 : tie.Need-low-requires-2
-low-requires-2 c κs =
+narrow-requires-2 : tie.Need-narrow-requires-2
+narrow-requires-2 c κs =
     let a = c .before .before in
     omega (arith, mod-lt (a .before .before .args .key) {m = a .wide32 .result} (omega arith))
 
@@ -35,7 +35,7 @@ returns-2 c =
     let b = c .before .before in
     let a = b .before in
     let start = a .before .before in
-    let unit = unit-whole _ _ _ _ (a .wide32 .ensures .0 ∙ a .before .power-below .ensures .0) (rw (b .wide322 .ensures .0) at (c .before .if1 .left)) (c .low2 .ensures) in
+    let unit = unit-whole _ _ _ _ (a .wide32 .ensures .0 ∙ a .before .power-below .ensures .0) (rw (b .wide322 .ensures .0) at (c .before .if1 .left)) (c .narrow2 .ensures) in
     (unit, rw unit (unit-below (start .args .m) (start .args .key) (start .pre)))
 
 pub unit-of-spec : {M : Type 1} → statement M
@@ -49,8 +49,8 @@ unit-of-spec =
     (λ c κs. search needs)
     (λ c. search needs)
     (λ c. search needs)
-    low-requires
+    narrow-requires
     returns
     (λ c. search needs)
-    low-requires-2
+    narrow-requires-2
     returns-2)

@@ -9,20 +9,19 @@ use native.Mathlib.Omega.{arith}
 use native.Mathlib.Nat.{zero-add}
 use lib.Dec.{eqb, ltb}
 use lib.ListN.{length, take}
-use lib.Seq.{getD-take}
 use borrow.Author.Tests.{ltb-true, ltb-false}
 use Rattle.buffer.specs.Choice.{pick}
 use Rattle.buffer.specs.ChoiceLaws.{pick-ext}
 use Rattle.buffer.specs.Range.{first}
 use Rattle.buffer.specs.RangeLaws.{first-le, first-ext, count-ext}
 use Rattle.buffer.specs.Bytes.{byte, zeros, part}
-use Rattle.buffer.specs.ByteLaws.{be32-ext, length-zeros}
+use Rattle.buffer.specs.ByteLaws.{length-zeros}
 use Rattle.buffer.specs.SpliceLaws.{part-part}
 use Rattle.group.specs.Widths.{keyBytes, keysBytes, slotBytes, checkBytes}
 use Rattle.group.specs.Members.{outs, checks, beyond}
 use Rattle.model.specs.Units.{unitOf}
 use Rattle.model.specs.Layout.{Store, bytes, view, unitsIn, levelIn, keyOf}
-use Rattle.model.specs.LayoutLaws.{Shaped, Same, view-bytes}
+use Rattle.model.specs.LayoutLaws.{Shaped, Same, view-bytes, key-first}
 use Rattle.model.specs.Reads.{homeIn, fillIn, rankIn, stateIn, outsIn, beyondIn, keeper, listedKey, listedFill}
 use Rattle.model.specs.Sound.{checksIn}
 
@@ -67,10 +66,6 @@ no-slot = slot-refl (zeros slotBytes) (length-zeros slotBytes)
 
 pub no-check : LikeCheck (zeros checkBytes) (zeros checkBytes)
 no-check = record { keys = refl; left = length-zeros checkBytes; right = length-zeros checkBytes }
-
-pub key-first : (x : List ℕ) → keyOf (take keyBytes x) ≡ keyOf x
-unfolding keyOf
-key-first x = be32-ext (take keyBytes x) 0 x 0 (λ k l. getD-take keyBytes x (0 + k) 0 (omega arith))
 
 pub key-like : {x y : List ℕ} → LikeSlot x y → keyOf x ≡ keyOf y
 key-like {x} {y} h = sym (key-first x) ∙ ap keyOf (h .key) ∙ key-first y

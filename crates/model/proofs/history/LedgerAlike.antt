@@ -23,7 +23,7 @@ use Rattle.group.specs.Widths.{keyBytes, bodyBytes, keysBytes, slotBytes, check
 use Rattle.group.specs.Parity.{parity}
 use Rattle.group.specs.CheckRecordLaws.{length-key}
 use Rattle.model.specs.Layout.{Store, view, storeBytes, slotAt, checkAt, unitsIn, levelIn, keyOf, frontOf}
-use Rattle.model.specs.LayoutLaws.{Shaped, view-shaped}
+use Rattle.model.specs.LayoutLaws.{Shaped, view-shaped, key-first}
 use Rattle.model.specs.Reads.{fillIn, keeper, listedKey, listedFill}
 use Rattle.model.specs.Sound.{keysKnown, sound}
 use Rattle.model.specs.history.Ledger.{Rec, Ledger, empty, recordAt, state}
@@ -32,7 +32,7 @@ use Rattle.model.specs.history.Typed.{Bytes}
 use Rattle.model.proofs.history.Records.{take-record, empty-bytes, length-keys}
 use Rattle.model.proofs.history.Picture.{Valid, image-shaped}
 use Rattle.model.proofs.history.Seen.{past}
-use Rattle.model.proofs.history.Alike.{LikeSlot, LikeCheck, Alike, slot-refl, key-first, listed-first}
+use Rattle.model.proofs.history.Alike.{LikeSlot, LikeCheck, Alike, slot-refl, listed-first}
 use Rattle.model.proofs.history.SoundSays.{Ranged, ranged, Stateful, data-states, zero-slot, zero-check, listed-past, lists}
 use Rattle.model.proofs.history.LedgerOf.{keyRecord, listedRecords, readable, ledgerOf, bytes-part, length-listed, listed-record, dstate-shown, cstate-shown, ledger-valid}
 

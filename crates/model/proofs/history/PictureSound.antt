@@ -1,7 +1,7 @@
 -- The picture of a valid ledger is sound, clause by clause. Assumes nothing.
 use Prim.Native.Nat.{ℕ, zero, suc, _+_, _*_, _/_, _%_, _≤_, _<_}
 use mathlib.Core.Path.{_≡_, refl, sym, ap, _∙_, subst}
-use mathlib.Core.List.{List, [], _∷_}
+use mathlib.Core.List.{List}
 use mathlib.Core.Bool.{Bool, true, false, _&&_, _||_, not}
 use native.Mathlib.Omega.{arith}
 use native.Mathlib.Nat.{le-refl, zero-lt-suc}
@@ -10,7 +10,7 @@ use lib.ListN.{length}
 use borrow.Author.Tests.{eq-eqb, ne-eqb, eqb-true, ltb-true, ltb-false, lt-ltb, le-ltb, le-leb}
 use Rattle.buffer.specs.Choice.{pick}
 use Rattle.buffer.specs.ChoiceLaws.{by-pick}
-use Rattle.buffer.specs.TestLaws.{and-true, not-both}
+use Rattle.buffer.specs.TestLaws.{and-true, or-else, not-both}
 use Rattle.buffer.specs.Range.{all, count}
 use Rattle.buffer.specs.RangeLaws.{all-holds, count-zero, count-pos}
 use Rattle.buffer.specs.Bytes.{byte, be32, bytes32, zeros, part}
@@ -20,7 +20,8 @@ use Rattle.model.specs.Units.{unitOf}
 use Rattle.model.specs.Layout.{Store, view, storeBytes, keyOf, frontOf}
 use Rattle.model.specs.LayoutLaws.{Same, Shaped, byte-front, part-front, length-bytes}
 use Rattle.model.specs.Reads.{fillIn, listedKey, listedFill}
-use Rattle.model.specs.Sound.{same, ranges, unitsPlaced, checksIn, checksAllowed, groupsPlaced, zeroed, keysKnown, keysPlaced, listsAgree, sound}
+use Rattle.model.specs.Sound.{ranges, unitsPlaced, checksIn, checksAllowed, groupsPlaced, zeroed, keysKnown, keysPlaced, listsAgree, sound}
+use Rattle.model.specs.SoundLaws.{same-of}
 use Rattle.model.specs.history.Ledger.{Ledger, recordAt, isOut, state}
 use Rattle.model.specs.history.Picture.{recordBytes, pictureSlot, pictureCheck, image, picture}
 use Rattle.model.proofs.history.Records.{empty-bytes, listed-over}
@@ -30,11 +31,6 @@ use Rattle.model.proofs.history.Seen.{past, fill-is, size-seen, units-s
 use Rattle.model.proofs.history.Listed.{Kept, check-kept, key-kept, key-known, no-key, fill-known}
 
 -- ---- tests
-
--- what a test says where it fails is all that the other side needs
-or-else : (a b : Bool) → (a ≡ false → b ≡ true) → (a || b) ≡ true
-or-else true b h = refl
-or-else false b h = h refl
 
 not-or : (a b : Bool) → (a ≡ true → b ≡ true) → (not a || b) ≡ true
 not-or true b h = h refl
@@ -46,14 +42,6 @@ not-all n f e = go (count n f) refl
     go : (m : ℕ) → count n f ≡ m → 0 < m
     go zero q = not-both e (ap not (all-holds n (λ j. not (f j)) (λ k l. ap not (count-zero n f q k l))))
     go (suc m) q = zero-lt-suc m
-
-same-refl : (x : List ℕ) → same x x ≡ true
-unfolding same
-same-refl [] = refl
-same-refl (x ∷ xs) = rw (eq-eqb x x refl) (same-refl xs)
-
-same-of : (x y : List ℕ) → x ≡ y → same x y ≡ true
-same-of x y e = rw e (same-refl y)
 
 -- a state that is made of two tests: in place, and out
 state-fits : (p o : Bool) → pick p (eqb (pick p (pick o 2 1) 0) 1 || eqb (pick p (pick o 2 1) 0) 2) (eqb (pick p (pick o 2 1) 0) 0) ≡ true

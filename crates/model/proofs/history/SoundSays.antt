@@ -1,14 +1,14 @@
 -- What the test of soundness says of a store, clause by clause, as facts. Assumes nothing.
 use Prim.Native.Nat.{ℕ, _+_, _*_, _/_, _≤_, _<_}
-use mathlib.Core.Path.{_≡_, refl, sym, ap₂, _∙_}
-use mathlib.Core.List.{List, [], _∷_}
+use mathlib.Core.Path.{_≡_, refl, sym, _∙_}
+use mathlib.Core.List.{List}
 use mathlib.Core.Bool.{Bool, true, false, not, _&&_, _||_}
 use lib.Dec.{eqb, ltb, leb}
 use lib.ListN.{length}
 use borrow.Author.Tests.{eqb-true, leb-true}
 use Rattle.buffer.specs.Choice.{pick}
 use Rattle.buffer.specs.ChoiceLaws.{pick-true, pick-false}
-use Rattle.buffer.specs.TestLaws.{not-both, and-first, and-second}
+use Rattle.buffer.specs.TestLaws.{not-both, and-first, and-second, or-other}
 use Rattle.buffer.specs.Range.{all}
 use Rattle.buffer.specs.RangeLaws.{all-true}
 use Rattle.buffer.specs.Bytes.{byte, be32, zeros, part}
@@ -18,22 +18,11 @@ use Rattle.model.specs.Layout.{Store, view, version, storeBytes, unitsIn
 use Rattle.model.specs.StoreLaws.{units-of}
 use Rattle.model.specs.Reads.{fillIn, listedKey, listedFill}
 use Rattle.model.specs.Sound.{same, ranges, unitsPlaced, checksIn, checksAllowed, groupsPlaced, zeroed, keysKnown, keysPlaced, listsAgree, sound}
-
-or-second : (s t : Bool) → (s || t) ≡ true → s ≡ false → t ≡ true
-or-second true t e f = not-both e f
-or-second false t e f = e
+use Rattle.model.specs.SoundLaws.{same-true}
 
 unless-second : (s t : Bool) → (not s || t) ≡ true → s ≡ true → t ≡ true
 unless-second true t e f = e
 unless-second false t e f = not-both f refl
-
--- lists that the test of sameness passes are the same
-pub same-true : (x y : List ℕ) → same x y ≡ true → x ≡ y
-unfolding same
-same-true [] [] e = refl
-same-true [] (b ∷ y) e = not-both e refl
-same-true (a ∷ x) [] e = not-both e refl
-same-true (a ∷ x) (b ∷ y) e = ap₂ (λ (n : ℕ) (l : List ℕ). n ∷ l) (eqb-true a b (and-first (eqb a b) (same x y) e)) (same-true x y (and-second (eqb a b) (same x y) e))
 
 -- the tests that a slot holds a record of a unit in service or is zero, and that a check record is of a unit in service or is zero
 abbrev pub slot-test : Store → ℕ → ℕ → Bool
@@ -168,11 +157,11 @@ module _ (s : List ℕ) (h : sound s ≡ true) where
   pub zero-slot : (u r : ℕ) → u < 16 → r < v .size → (eqb (v .dstate u) 1 && ltb r (fillIn v u)) ≡ false → v .slot u r ≡ zeros slotBytes
   zero-slot u r l m e =
       same-true (v .slot u r) (zeros slotBytes)
-      (or-second (eqb (v .dstate u) 1 && ltb r (fillIn v u)) (same (v .slot u r) (zeros slotBytes)) (zeroed-says v (clauses .zeros) .slots u r l m) e)
+      (or-other (eqb (v .dstate u) 1 && ltb r (fillIn v u)) (same (v .slot u r) (zeros slotBytes)) e (zeroed-says v (clauses .zeros) .slots u r l m))
 
   pub zero-check : (c r : ℕ) → c < 12 → r < v .size → eqb (v .cstate c) 1 ≡ false → v .check c r ≡ zeros checkBytes
   zero-check c r l m e =
-      same-true (v .check c r) (zeros checkBytes) (or-second (eqb (v .cstate c) 1) (same (v .check c r) (zeros checkBytes)) (zeroed-says v (clauses .zeros) .checks c r l m) e)
+      same-true (v .check c r) (zeros checkBytes) (or-other (eqb (v .cstate c) 1) (same (v .check c r) (zeros checkBytes)) e (zeroed-says v (clauses .zeros) .checks c r l m))
 
   -- ---- keys of a unit that are known
 

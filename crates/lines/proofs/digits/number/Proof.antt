@@ -27,12 +27,12 @@ add-value : tie.Need-add-value Inv-loop μ-loop
 add-value c =
     let t = c .before .before .before .before in
     let a = t .before .before .before in
-    omega (arith, c .wide .ensures, c .before .if1 .left, reading-room (t .before .loop .inv) (t .loop-test .taken) (a .pre .1))
+    omega (arith, c .wide32 .ensures .0, c .before .if1 .left, reading-room (t .before .loop .inv) (t .loop-test .taken) (a .pre .1))
 
 loop-again : tie.Need-loop-again Inv-loop μ-loop
 loop-again c =
     let t = c .before .before .before .before in
-    reading-turn _ _ (t .before .loop .inv) (t .loop-test .taken) (c .before .before .digit-value .ensures .0) (c .before .if1 .left) (c .wide .ensures)
+    reading-turn _ _ (t .before .loop .inv) (t .loop-test .taken) (c .before .before .digit-value .ensures .0) (c .before .if1 .left) (c .wide32 .ensures .0)
 
 pub number-spec : {M : Type 1} → statement M
 number-spec =

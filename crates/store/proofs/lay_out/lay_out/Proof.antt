@@ -15,7 +15,6 @@ use Rattle.buffer.proofs.clear.Reads as clear-reads
 use Rattle.buffer.proofs.copy.Reads as copy-reads
 use Rattle.store.proofs.lay_out.header.Reads as header-reads
 use Rattle.store.proofs.lay_out.layout_number.Reads as layout-number-reads
-use Rattle.store.proofs.lay_out.wide.Reads as wide-reads
 
 returns : tie.Need-returns
 returns c = refused _ _ _ (c .before .layout-number .ensures) (c .if1 .taken)
@@ -25,7 +24,7 @@ part-clear-end c =
     let i = c .before in
     let a = i .before .before .before .before .args in
     let g = layout-granted (a .s .now) (a .b) (sym (i .before .layout-number .ensures) ∙ is-zero _ (i .if1 .left)) in
-    omega (arith, g .long, c .wide .ensures)
+    omega (arith, g .long, c .index .ensures)
 
 header-requires : tie.Need-header-requires
 header-requires c κs =
@@ -40,8 +39,8 @@ part-copy-end c =
     let i = w .before in
     let a = i .before .before .before .before .args in
     let g = layout-granted (a .s .now) (a .b) (sym (i .before .layout-number .ensures) ∙ is-zero _ (i .if1 .left)) in
-    let n : ℕ = 36 + 704 * w .wide .result - 36 in
-    omega (arith, g .long, w .wide .ensures, kept (a .s .now) _ 36 n (omega (arith, g .long, w .wide .ensures)) (c .before .before .before .clear .ensures ∙ ap zeros (length-part 36 n (a .s .now) (omega (arith, g .long, w .wide .ensures)))))
+    let n : ℕ = 36 + 704 * w .index .result - 36 in
+    omega (arith, g .long, w .index .ensures, kept (a .s .now) _ 36 n (omega (arith, g .long, w .index .ensures)) (c .before .before .before .clear .ensures ∙ ap zeros (length-part 36 n (a .s .now) (omega (arith, g .long, w .index .ensures)))))
 
 returns-2 : tie.Need-returns-2
 unfolding part splice
@@ -50,10 +49,10 @@ returns-2 c =
     let i = w .before in
     let a = i .before .before .before .before .args in
     let g = layout-granted (a .s .now) (a .b) (sym (i .before .layout-number .ensures) ∙ is-zero _ (i .if1 .left)) in
-    let n : ℕ = 36 + 704 * w .wide .result - 36 in
+    let n : ℕ = 36 + 704 * w .index .result - 36 in
     granted _ _ _ _ (i .before .layout-number .ensures) (i .if1 .left)
-    (laid (a .s .now) _ _ (a .b) n (g .long) (omega (arith, w .wide .ensures))
-    (c .before .before .before .before .before .before .before .before .clear .ensures ∙ ap zeros (length-part 36 n (a .s .now) (omega (arith, g .long, w .wide .ensures))))
+    (laid (a .s .now) _ _ (a .b) n (g .long) (omega (arith, w .index .ensures))
+    (c .before .before .before .before .before .before .before .before .clear .ensures ∙ ap zeros (length-part 36 n (a .s .now) (omega (arith, g .long, w .index .ensures))))
     (c .before .before .copy .ensures ∙ c .before .before .before .before .before .header .ensures))
 
 pub lay-out-spec : {M : Type 1} → statement M

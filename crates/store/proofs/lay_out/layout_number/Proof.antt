@@ -16,11 +16,11 @@ returns-2 c = simp (c .before .if1 .left, c .if2 .taken)
 
 returns-3 : tie.Need-returns-3
 unfolding layOutNumber firstOf pick
-returns-3 c = simp (c .before .before .before .if1 .left, c .before .before .if2 .left, ← c .before .wide .ensures, c .if3 .taken)
+returns-3 c = simp (c .before .before .before .if1 .left, c .before .before .if2 .left, ← c .before .index .ensures, c .if3 .taken)
 
 returns-4 : tie.Need-returns-4
 unfolding layOutNumber firstOf pick
-returns-4 c = simp (c .before .before .before .if1 .left, c .before .before .if2 .left, ← c .before .wide .ensures, c .if3 .left)
+returns-4 c = simp (c .before .before .before .if1 .left, c .before .before .if2 .left, ← c .before .index .ensures, c .if3 .left)
 
 pub layout-number-spec : {M : Type 1} → statement M
 layout-number-spec =

@@ -1,0 +1,32 @@
+-- `soundness::states::units_placed` meets its contract. Assumes nothing.
+use Prim.Native.Nat.{_+_, _-_}
+use mathlib.Core.Path.{ap, _∙_}
+use lib.Dec.{ltb}
+use borrow.Author.Needs.{needs}
+use Rattle.buffer.specs.TestLaws.{is-no, is-yes}
+use Rattle.buffer.specs.LoopTests.{Passing, passing-start, passing-turn, passing-fail, passing-end}
+use Rattle.buffer.specs.Bytes.{byte}
+use Rattle.soundness.specs.Pieces.{placed}
+use Rattle.soundness.proofs.states.units_placed.Statement.{statement}
+use Rattle.soundness.proofs.states.units_placed.Tie as tie
+
+abbrev Inv-loop : tie.InvT-loop
+Inv-loop s u₀ u = Passing (λ i. placed (ltb i (byte s 6)) (byte s (8 + i))) 16 u
+
+abbrev μ-loop : tie.MeasureT-loop
+μ-loop s u₀ u = 16 - u
+
+loop-holds : tie.Need-loop-holds Inv-loop μ-loop
+loop-holds c = passing-start
+
+returns : tie.Need-returns Inv-loop μ-loop
+returns c = passing-fail (c .before .before .before .before .before .before .loop .inv) (c .before .before .before .before .before .loop-test .taken) (is-no (c .before .is-placed .ensures ∙ ap (λ i. placed (ltb (c .before .before .before .before .before .before .loop .u) (byte (c .before .before .before .before .before .before .before .before .args .s .now) 6)) (byte (c .before .before .before .before .before .before .before .before .args .s .now) (8 + i))) (c .before .before .before .wide .ensures .0)) (c .if1 .taken))
+
+loop-again : tie.Need-loop-again Inv-loop μ-loop
+loop-again c = passing-turn (c .before .before .before .before .before .before .loop .inv) (c .before .before .before .before .before .loop-test .taken) (is-yes (c .before .is-placed .ensures ∙ ap (λ i. placed (ltb (c .before .before .before .before .before .before .loop .u) (byte (c .before .before .before .before .before .before .before .before .args .s .now) 6)) (byte (c .before .before .before .before .before .before .before .before .args .s .now) (8 + i))) (c .before .before .before .wide .ensures .0)) (c .if1 .left))
+
+returns-2 : tie.Need-returns-2 Inv-loop μ-loop
+returns-2 c = passing-end (c .before .loop .inv) (c .loop-test .left)
+
+pub units-placed-spec : {M : Type 1} → statement M
+units-placed-spec = tie.close (tie.spec Inv-loop μ-loop loop-holds (λ c. search needs) (λ c κs. search needs) (λ c. search needs) (λ c. search needs) (λ c κs. search needs) returns (λ c. search needs) (λ c. search needs) loop-again returns-2)

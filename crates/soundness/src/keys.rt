@@ -1,0 +1,171 @@
+// Lists of keys within a store: one key every `step` bytes, from `base` on.
+ghost use mathlib.Core.Path.{_≡_};
+ghost use Prim.Native.Nat.{ℕ, _+_, _*_, _≤_, _<_};
+ghost use lib.Bits.{bitAnd};
+ghost use lib.Dec.{eqb};
+ghost use lib.ListN.{length};
+ghost use Rattle.model.specs.Units.{unitOf};
+ghost use Rattle.buffer.specs.Strided.{strided32, Within};
+ghost use Rattle.soundness.specs.Keys.{placeOf, isNew, reached, sameKeys, noKeys, le32, samePair, sameLists};
+
+fn wide64(x: u32) -> u64
+    ensures { λ r. ⌜ (r ≡ x) × (r < 4294967296) ⌝ }
+{
+    x as u64
+}
+
+fn key(s: &[u8], base: usize, step: usize, r: usize) -> u32
+    requires { ⌜ base + step * r + 4 ≤ length (now s) ⌝ }
+    ensures { λ k. ⌜ k ≡ strided32 (now (s .entry)) base step r ⌝ }
+{
+    buffer::load32(s, base + step * r)
+}
+
+// Whether a key is none of the first n of a list.
+fn is_new(s: &[u8], base: usize, step: usize, n: usize, k: u32) -> bool
+    requires { ⌜ Within (now s) base step n ⌝ }
+    ensures { λ r. ⌜ r ≡ isNew n (strided32 (now (s .entry)) base step) k ⌝ }
+{
+    let mut q = 0;
+    while q < n {
+        if key(s, base, step, q) == k {
+            return false;
+        }
+        q += 1;
+    }
+    true
+}
+
+// The place of a key in the table of stamps, by multiplicative hashing.
+fn place(k: u32) -> usize
+    ensures { λ r. ⌜ (r ≡ placeOf k) × (r < 2048) ⌝ }
+{
+    (wide64(k) * 2654435761 / 2097152 % 2048) as usize
+}
+
+// The low bits of a key that tell whether it belongs to unit u of m: one bit more where u was split, or made by a split.
+fn mask_of(m: u8, u: u8) -> u32
+    requires { ⌜ (1 ≤ m) × (m ≤ 16) × (u < m) ⌝ }
+    ensures { λ r. ⌜ ((k : ℕ) → eqb (bitAnd k r) u ≡ eqb (unitOf m k) u) ⌝ }
+{
+    let low = lookup::power_below(m);
+    if u < low {
+        if m - low <= u {
+            return buffer::wide32(low - 1);
+        }
+    }
+    buffer::wide32(2 * low - 1)
+}
+
+// How many keys a list has before its first key 0, or 65 where one of them is in another unit or there twice. Each key leaves the unit's stamp
+// in the table; only a key that finds the stamp already there is compared with those before it. What the table held before does not matter.
+pub fn reach(
+    t: &mut [u8; 2048],
+    s: &[u8],
+    base: usize,
+    step: usize,
+    b: usize,
+    m: u8,
+    u: u8,
+) -> usize
+    requires { ⌜ Within (now s) base step b × (1 ≤ m) × (m ≤ 16) × (u < m) × (length (now t) ≡ 2048) ⌝ }
+    ensures { λ r. ⌜ (r ≡ reached b m u (strided32 (now (s .entry)) base step)) × (length (now (t .exit)) ≡ 2048) ⌝ }
+{
+    let mask = mask_of(m, u);
+    let own = buffer::wide32(u);
+    let stamp = u + 1;
+    let mut r = 0;
+    while r < b {
+        let k = key(s, base, step, r);
+        if k == 0 {
+            return r;
+        }
+        if k & mask != own {
+            return 65;
+        }
+        let h = place(k);
+        if t[h] == stamp {
+            if !is_new(s, base, step, r, k) {
+                return 65;
+            }
+        }
+        t[h] = stamp;
+        r += 1;
+    }
+    r
+}
+
+// Whether the slots of a unit have the keys that a check unit lists for it.
+pub fn same_column(s: &[u8], slots: usize, column: usize, b: usize) -> bool
+    requires { ⌜ Within (now s) slots 20 b × Within (now s) column 32 b ⌝ }
+    ensures { λ r. ⌜ r ≡ sameKeys b (strided32 (now (s .entry)) slots 20) (strided32 (now (s .entry)) column 32) ⌝ }
+{
+    let mut r = 0;
+    while r < b {
+        if key(s, slots, 20, r) != key(s, column, 32, r) {
+            return false;
+        }
+        r += 1;
+    }
+    true
+}
+
+// Whether a check unit lists no key from rank n on.
+pub fn no_keys(s: &[u8], column: usize, n: usize, b: usize) -> bool
+    requires { ⌜ Within (now s) column 32 b × (n ≤ b) ⌝ }
+    ensures { λ r. ⌜ r ≡ noKeys n b (strided32 (now (s .entry)) column 32) ⌝ }
+{
+    let mut r = n;
+    while r < b {
+        if key(s, column, 32, r) != 0 {
+            return false;
+        }
+        r += 1;
+    }
+    true
+}
+
+// Four bytes as a number, low byte first; and eight, by which two keys are compared at once.
+fn half(s: &[u8], at: usize) -> u32
+    requires { ⌜ at + 4 ≤ length (now s) ⌝ }
+    ensures { λ r. ⌜ r ≡ le32 (now (s .entry)) at ⌝ }
+{
+    buffer::wide32(s[at])
+        + buffer::wide32(s[at + 1]) * 256
+        + buffer::wide32(s[at + 2]) * 65536
+        + buffer::wide32(s[at + 3]) * 16777216
+}
+
+fn pair(s: &[u8], at: usize) -> u64
+    requires { ⌜ at + 8 ≤ length (now s) ⌝ }
+    ensures { λ r. ⌜ r ≡ le32 (now (s .entry)) at + le32 (now (s .entry)) (at + 4) * 4294967296 ⌝ }
+{
+    wide64(half(s, at)) + wide64(half(s, at + 4)) * 4294967296
+}
+
+fn same_pair(s: &[u8], x: usize, y: usize) -> bool
+    requires { ⌜ (x + 8 ≤ length (now s)) × (y + 8 ≤ length (now s)) ⌝ }
+    ensures { λ r. ⌜ r ≡ samePair (now (s .entry)) x y ⌝ }
+{
+    pair(s, x) == pair(s, y)
+}
+
+// Whether two check units list the same keys.
+pub fn same_lists(s: &[u8], x: usize, y: usize, b: usize) -> bool
+    requires { ⌜ (x + 32 * b ≤ length (now s)) × (y + 32 * b ≤ length (now s)) ⌝ }
+    ensures { λ r. ⌜ r ≡ sameLists (now (s .entry)) x y b ⌝ }
+{
+    let mut r = 0;
+    while r < b {
+        let p = x + 32 * r;
+        let q = y + 32 * r;
+        if !same_pair(s, p, q) {
+            return false;
+        }
+        if !same_pair(s, p + 8, q + 8) {
+            return false;
+        }
+        r += 1;
+    }
+    true
+}
