@@ -20,7 +20,7 @@ use Rattle.model.specs.RowLaws.{Free}
 use Rattle.model.specs.Perform.{grantedIn, afterIn, perform}
 use Rattle.model.specs.PerformLaws.{none-holds}
 use Rattle.model.specs.MadeAnew.{HoldsCheckRecords, leftBy, MadeAnew}
-use Rattle.model.proofs.history.SoundSays.{ranged, units-some, units-few, Stateful, check-states}
+use Rattle.model.specs.SoundSays.{ranged, units-some, units-few, Stateful, check-states}
 use Rattle.model.proofs.history.Alike.{Alike, alike-refl, left-shaped}
 use Rattle.model.proofs.history.AlikeNumbers.{split-inside, split-before}
 use Rattle.model.proofs.history.AlikeRepaired.{repaired-alike}

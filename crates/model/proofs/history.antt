@@ -36,7 +36,6 @@ pub mod Opened
 pub mod History
 pub mod Unlost
 pub mod Demand3
-pub mod SoundSays
 pub mod Alike
 pub mod AlikeSound
 pub mod AlikeNumbers

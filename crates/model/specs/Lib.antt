@@ -8,12 +8,14 @@ pub mod RunTurns
 pub mod Reads
 pub mod Sound
 pub mod SoundLaws
+pub mod SoundSays
 pub mod Numbers
 pub mod RowLaws
 pub mod Changes
 pub mod ChangeLaws
 pub mod Perform
 pub mod PerformLaws
+pub mod GrantedLayout
 pub mod Demand1
 pub mod MadeAnew
 pub mod history

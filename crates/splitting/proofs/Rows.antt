@@ -24,7 +24,7 @@ use Rattle.model.specs.Numbers.{Call, grow, shrink, raise, firstOf, refusalsIn}
 use Rattle.model.specs.Changes.{raised}
 use Rattle.model.specs.RowLaws.{row-pair, first-free}
 use Rattle.model.specs.PerformLaws.{none-holds}
-use Rattle.model.proofs.history.SoundSays.{zeroed-says, clauses}
+use Rattle.model.specs.SoundSays.{zeroed-says, clauses}
 use Rattle.soundness.specs.Survey.{Surveyed, outs-counted, fill-listed}
 use Rattle.lookup.specs.Sized.{Sized, sound-sized}
 use Rattle.lookup.specs.Keys.{own-fill}

@@ -30,7 +30,8 @@ use Rattle.model.proofs.history.Seen.{units-seen, state-seen, beyond-se
 use Rattle.model.proofs.history.Simulation.{number-agrees, answer-agrees}
 use Rattle.model.proofs.history.Read.{lost-row, read-simulated}
 use Rattle.model.proofs.history.Repair.{repair-simulated}
-use Rattle.model.proofs.history.Opened.{layout-granted, layout-is, layout-picture, opened-valid}
+use Rattle.model.specs.GrantedLayout.{layout-granted}
+use Rattle.model.proofs.history.Opened.{layout-is, layout-picture, opened-valid}
 use Rattle.model.proofs.history.History.{Run, ordered-of, run}
 use Rattle.model.proofs.history.Unlost.{bare-valid, same-unit}
 

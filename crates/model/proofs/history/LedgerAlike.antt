@@ -33,7 +33,7 @@ use Rattle.model.proofs.history.Records.{take-record, empty-bytes, leng
 use Rattle.model.proofs.history.Picture.{Valid, image-shaped}
 use Rattle.model.proofs.history.Seen.{past}
 use Rattle.model.proofs.history.Alike.{LikeSlot, LikeCheck, Alike, slot-refl, listed-first}
-use Rattle.model.proofs.history.SoundSays.{Ranged, ranged, Stateful, data-states, zero-slot, zero-check, listed-past, lists}
+use Rattle.model.specs.SoundSays.{Ranged, ranged, Stateful, data-states, zero-slot, zero-check, listed-past, lists}
 use Rattle.model.proofs.history.LedgerOf.{keyRecord, listedRecords, readable, ledgerOf, bytes-part, length-listed, listed-record, dstate-shown, cstate-shown, ledger-valid}
 
 -- ---- the header

@@ -28,7 +28,7 @@ use Rattle.model.specs.history.Typed.{Bytes}
 use Rattle.model.proofs.history.Records.{Good}
 use Rattle.model.proofs.history.Picture.{Valid}
 use Rattle.model.proofs.history.States.{placed-unit, placed-check}
-use Rattle.model.proofs.history.SoundSays.{ranged, units-some, units-few, Stateful, data-states, group-number, check-states, listed-own, listed-differ}
+use Rattle.model.specs.SoundSays.{ranged, units-some, units-few, Stateful, data-states, group-number, check-states, listed-own, listed-differ}
 
 -- a record of a key alone
 abbrev pub keyRecord : ℕ → Rec

@@ -4,9 +4,9 @@ use mathlib.Core.Path.{_≡_, refl, sym, ap, _∙_}
 use mathlib.Core.List.{List, [], _∷_, _++_, append-assoc}
 use native.Mathlib.Omega.{arith}
 use native.Mathlib.Nat.{not-suc-le-zero, le-refl}
-use lib.Dec.{eqb, ltb}
-use lib.ListN.{length, drop}
-use borrow.Author.Tests.{eq-eqb, ne-eqb, ltb-false}
+use lib.Dec.{eqb}
+use lib.ListN.{drop}
+use borrow.Author.Tests.{eq-eqb, ne-eqb}
 use Rattle.buffer.specs.Choice.{pick}
 use Rattle.buffer.specs.ChoiceLaws.{by-pick, pick-true, pick-false, pick-same}
 use Rattle.buffer.specs.Bytes.{zeros}
@@ -18,23 +18,10 @@ use Rattle.model.specs.Layout.{bytes, storeBytes, frontOf}
 use Rattle.model.specs.Perform.{laidOut, layOutNumber, layOut}
 use Rattle.model.specs.history.Ledger.{opened, recordAt, placed, state}
 use Rattle.model.specs.history.Picture.{pictureSlot, pictureCheck, image, picture}
-use Rattle.model.specs.RowLaws.{Free, first-free}
 use Rattle.model.proofs.history.Records.{empty-bytes, empty-good, over-empty}
 use Rattle.model.proofs.history.Picture.{Valid}
 
 -- ---- the layout's number is 0
-
-pub record Granted (s : List ℕ) (b : ℕ) : Type 0 where
-  pub least : 1 ≤ b
-  pub most : b ≤ 64
-  pub long : storeBytes b ≤ length s
-
-pub layout-granted : (s : List ℕ) (b : ℕ) → layOutNumber s b ≡ 0 → Granted s b
-unfolding layOutNumber
-layout-granted s b e =
-    let f : Free ((ltb b 1, 2) ∷ (ltb 64 b, 2) ∷ (ltb (length s) (storeBytes b), 7) ∷ []) =
-    first-free ((ltb b 1, 2) ∷ (ltb 64 b, 2) ∷ (ltb (length s) (storeBytes b), 7) ∷ []) (refl, (refl, (refl, tt))) e in
-    record { least = ltb-false b 1 (f .0); most = ltb-false 64 b (f .1 .0); long = ltb-false (length s) (storeBytes b) (f .1 .1 .0) }
 
 pub layout-is : (s : List ℕ) (b : ℕ) → layOutNumber s b ≡ 0 → layOut s b .store ≡ laidOut b s
 unfolding layOut

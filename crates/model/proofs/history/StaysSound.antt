@@ -42,7 +42,7 @@ use Rattle.model.proofs.history.AlikeNumbers.{home-inside, fill-same, r
 use Rattle.model.proofs.history.AlikeWritten.{written-alike, erased-alike, lost-alike, raised-alike}
 use Rattle.model.proofs.history.AlikeRepaired.{repaired-alike}
 use Rattle.model.proofs.history.AlikeDealt.{grown-alike, shrunk-alike}
-use Rattle.model.proofs.history.SoundSays.{ranged}
+use Rattle.model.specs.SoundSays.{ranged}
 use Rattle.model.proofs.history.LedgerOf.{ledgerOf, ledger-valid}
 use Rattle.model.proofs.history.LedgerAlike.{ledger-alike}
 

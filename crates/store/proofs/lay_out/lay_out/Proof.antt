@@ -5,7 +5,7 @@ use mathlib.Core.Path.{sym, ap, _∙_}
 use native.Mathlib.Omega.{arith}
 use Rattle.buffer.specs.Bytes.{zeros, part, splice}
 use Rattle.buffer.specs.SpliceLaws.{length-part}
-use Rattle.model.proofs.history.Opened.{layout-granted}
+use Rattle.model.specs.GrantedLayout.{layout-granted}
 use Rattle.store.proofs.Layouts.{refused, granted, is-zero, laid, kept}
 use Rattle.store.proofs.lay_out.lay_out.Statement.{statement}
 use Rattle.store.proofs.lay_out.lay_out.Tie as tie
