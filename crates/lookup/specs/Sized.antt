@@ -5,19 +5,20 @@ use mathlib.Core.Path.{_≡_}
 use mathlib.Core.Bool.{Bool, true, false, _&&_, _||_}
 use mathlib.Core.List.{List}
 use native.Mathlib.Omega.{arith}
-use lib.Dec.{eqb, ltb, leb}
+use lib.Dec.{eqb, ltb}
 use lib.ListN.{length}
-use borrow.Author.Tests.{eqb-true, leb-true}
+use borrow.Author.Tests.{eqb-true}
 use Rattle.buffer.specs.Choice.{pick}
 use Rattle.buffer.specs.ChoiceLaws.{by-test}
-use Rattle.buffer.specs.TestLaws.{and-first, and-second}
+use Rattle.buffer.specs.TestLaws.{and-second}
 use Rattle.buffer.specs.Range.{all}
 use Rattle.buffer.specs.RangeLaws.{all-true}
-use Rattle.buffer.specs.Bytes.{byte, be32}
+use Rattle.buffer.specs.Bytes.{byte}
 use Rattle.group.specs.Widths.{slotBytes, checkBytes}
-use Rattle.model.specs.Layout.{Store, view, version, storeBytes, unitsIn, levelIn, slotAt, checkAt}
+use Rattle.model.specs.Layout.{Store, view, storeBytes, unitsIn, levelIn, slotAt, checkAt}
 use Rattle.model.specs.StoreLaws.{slot-within, slots-within, check-within}
-use Rattle.model.specs.Sound.{sound, ranges, unitsPlaced, groupsPlaced, zeroed, keysPlaced, listsAgree, checksIn, checksAllowed}
+use Rattle.model.specs.SoundSays.{clauses, ranged}
+use Rattle.model.specs.Sound.{sound, groupsPlaced, checksIn, checksAllowed}
 
 pub record Sized (s : List ℕ) : Type 0 where
   pub some : 1 ≤ byte s 5  -- ranks of a unit: 1 to 64
@@ -70,43 +71,14 @@ checks-small v h c l =
     let here : all 3 (state v g) ≡ true = and-second (number v g) (all 3 (state v g)) (all-true 4 (λ q. number v q && all 3 (state v q)) h g k) in
     rw e at (state-small (ltb j (checksIn v g)) (v .cstate (3 * g + j)) (all-true 3 (state v g) here j m))
 
--- the ranges, of nine tests
-of-nine : (a b c d e f g h i : Bool) → (a && b && c && d && e && f && g && h && i) ≡ true → (c ≡ true) × (d ≡ true) × (e ≡ true) × (f ≡ true) × (i ≡ true)
-of-nine a b c d e f g h i all =
-    let six = and-first (a && b && c && d && e && f) g (and-first (a && b && c && d && e && f && g) h (and-first (a && b && c && d && e && f && g && h) i all)) in
-    let five = and-first (a && b && c && d && e) f six in
-    let four = and-first (a && b && c && d) e five in
-    let three = and-first (a && b && c) d four in
-    (and-second (a && b) c three, and-second (a && b && c) d four, and-second (a && b && c && d) e five, and-second (a && b && c && d && e) f six, and-second (a && b && c && d && e && f && g && h) i all)
-
--- the ranges and the check units' states, of the six clauses of soundness
-of-six : (a b c d e f : Bool) → (a && b && c && d && e && f) ≡ true → (a ≡ true) × (c ≡ true)
-of-six a b c d e f all =
-    let three = and-first (a && b && c) d (and-first (a && b && c && d) e (and-first (a && b && c && d && e) f all)) in
-    (and-first a b (and-first (a && b) c three), and-second (a && b) c three)
-
 pub sound-sized : {s : List ℕ} → sound s ≡ true → Sized s
-unfolding sound ranges
 sound-sized {s} h =
-    let v : Store = view s in
-    let clauses = of-six (ranges s) (unitsPlaced v) (groupsPlaced v) (zeroed v) (keysPlaced v) (listsAgree v) h in
-    let range =
-    of-nine
-    (eqb (byte s 0) version)
-    (eqb (be32 s 1) (storeBytes (byte s 5)))
-    (leb 1 (byte s 5))
-    (leb (byte s 5) 64)
-    (leb 1 (byte s 6))
-    (leb (byte s 6) 16)
-    (leb 1 (byte s 7))
-    (leb (byte s 7) 3)
-    (leb (storeBytes (byte s 5)) (length s))
-    (clauses .0) in
+    let r = ranged s h in
     record {
-      some = leb-true 1 (byte s 5) (range .0);
-      ranks = leb-true (byte s 5) 64 (range .1);
-      unit = leb-true 1 (byte s 6) (range .2);
-      units = leb-true (byte s 6) 16 (range .3);
-      long = leb-true (storeBytes (byte s 5)) (length s) (range .4);
-      checks = λ c l. unfold view in checks-small (view s) (clauses .1) c l;
+      some = r .least;
+      ranks = r .most;
+      unit = r .some;
+      units = r .few;
+      long = r .long;
+      checks = λ c l. unfold view in checks-small (view s) (clauses s h .groups) c l;
     }

@@ -6,25 +6,26 @@ use mathlib.Core.List.{List}
 use mathlib.Core.Bool.{Bool, true, false, not, _&&_}
 use native.Mathlib.Omega.{arith}
 use native.Mathlib.Nat.{mul-le-mul-right}
-use lib.Dec.{eqb, leb}
+use lib.Dec.{eqb}
 use lib.ListN.{length, take, drop}
 use lib.Seq.{getD-take, take-all}
-use borrow.Author.Tests.{eqb-true, eq-eqb, ne-eqb, leb-true, leb-false, not-true, not-false}
+use borrow.Author.Tests.{eqb-true, eq-eqb, ne-eqb, leb-false, not-true, not-false}
 use Rattle.buffer.specs.Choice.{pick}
 use Rattle.buffer.specs.ChoiceLaws.{by-test, pick-true, pick-false}
 use Rattle.buffer.specs.TestLaws.{and-true, and-first, and-second}
 use Rattle.buffer.specs.Range.{first}
 use Rattle.buffer.specs.RangeLaws.{first-ext, first-le}
-use Rattle.buffer.specs.Bytes.{byte, be32, zeros, part}
+use Rattle.buffer.specs.Bytes.{byte, zeros, part}
 use Rattle.buffer.specs.ByteLaws.{length-zeros}
 use Rattle.buffer.specs.SpliceLaws.{length-part, part-part}
 use Rattle.group.specs.Widths.{keyBytes, bodyBytes, slotBytes}
 use Rattle.group.specs.CheckRecordLaws.{length-body}
 use Rattle.model.specs.UnitLaws.{unit-below}
-use Rattle.model.specs.Layout.{Store, view, version, storeBytes, slotAt, unitsIn, keyOf}
+use Rattle.model.specs.Layout.{Store, view, slotAt, unitsIn, keyOf}
 use Rattle.model.specs.LayoutLaws.{view-shaped, key-first}
 use Rattle.model.specs.Reads.{homeIn, fillIn, rankIn, listedKey, listedFill, listedRank, wholeSlot, bodyIn}
-use Rattle.model.specs.Sound.{sound, ranges}
+use Rattle.model.specs.Sound.{sound}
+use Rattle.model.specs.SoundSays.{ranged}
 use Rattle.model.specs.Numbers.{read, readInPlace, refusalsIn, numberIn}
 use Rattle.model.specs.RowLaws.{Free, first-free}
 use Rattle.model.specs.Perform.{Place, placeIn, givenIn}
@@ -43,37 +44,19 @@ slot-body x u r = sym (part-part (slotAt (view x .size) u r) slotBytes keyBytes 
 
 -- ---- what soundness says of the bytes
 
--- the fifth, the sixth and the last of nine tests
-three-of-nine : (a b c d e f g h i : Bool) → (a && b && c && d && e && f && g && h && i) ≡ true → (e ≡ true) × (f ≡ true) × (i ≡ true)
-three-of-nine a b c d e f g h i q =
-    let to-h = and-first (a && b && c && d && e && f && g && h) i q in
-    let to-f = and-first (a && b && c && d && e && f) g (and-first (a && b && c && d && e && f && g) h to-h) in
-    (and-second (a && b && c && d) e (and-first (a && b && c && d && e) f to-f), and-second (a && b && c && d && e) f to-f, and-second (a && b && c && d && e && f && g && h) i q)
-
 module _ (s : List ℕ) (ok : sound s ≡ true) where
-  ranged : ranges s ≡ true
-  unfolding sound
-  ranged = and-first _ _ (and-first _ _ (and-first _ _ (and-first _ _ (and-first _ _ ok))))
-
-  bounds : (1 ≤ byte s 6) × (byte s 6 ≤ 16) × (storeBytes (byte s 5) ≤ length s)
-  unfolding ranges
-  bounds =
-      let p = three-of-nine (eqb (byte s 0) version) (eqb (be32 s 1) (storeBytes (byte s 5))) (leb 1 (byte s 5)) (leb (byte s 5) 64) (leb 1 (byte s 6)) (leb (byte s 6) 16) (leb 1 (byte s 7)) (leb (byte s 7) 3)
-      (leb (storeBytes (byte s 5)) (length s)) ranged in
-      (leb-true 1 (byte s 6) (p .0), leb-true (byte s 6) 16 (p .1), leb-true (storeBytes (byte s 5)) (length s) (p .2))
-
   home-low : (k : ℕ) → homeIn (view s) k < 16
   unfolding homeIn unitsIn view
   home-low k =
       let e : byte (take 8 s) 6 ≡ byte s 6 = getD-take 8 s 6 0 (omega arith) in
-      omega (arith, unit-below (byte (take 8 s) 6) k (omega (arith, e, bounds .0)), e, bounds .1)
+      omega (arith, unit-below (byte (take 8 s) 6) k (omega (arith, e, ranged s ok .some)), e, ranged s ok .few)
 
   -- the body of a slot lies inside the store
   inside : (u r : ℕ) → u < 16 → r < view s .size → slotAt (view s .size) u r + keyBytes + bodyBytes ≤ length s
   unfolding view
   inside u r a b =
       let p : suc u * byte s 5 ≤ 16 * byte s 5 = mul-le-mul-right (byte s 5) a in
-      omega (arith, bounds .2)
+      omega (arith, ranged s ok .long)
 
 -- ---- a granted read, of a unit that is not out
 
@@ -126,7 +109,7 @@ module _ (s : List ℕ) (k : ℕ) (zero : numberIn s (read k (zeros bodyBytes)) 
     unfolding bodyIn wholeSlot part
     body-there =
         let slot : List ℕ = v .slot u (rankIn v u k) in
-        let long : length slot ≡ slotBytes = view-shaped s (bounds s is-sound .2) .slot u (rankIn v u k) (home-low s is-sound k) in-unit in
+        let long : length slot ≡ slotBytes = view-shaped s (ranged s is-sound .long) .slot u (rankIn v u k) (home-low s is-sound k) in-unit in
         slot-body s u (rankIn v u k)
         ∙ take-all bodyBytes (drop keyBytes slot) (omega (arith, length-body bodyBytes slot long))
         ∙ sym (ap (λ (r : ℕ). drop keyBytes (wholeSlot v u r)) own-rank ∙ ap (drop keyBytes) (pick-false kept _ slot))

@@ -58,6 +58,37 @@ pub record Ranged (s : List ℕ) : Type 0 where
   pub topped : byte s 7 ≤ 3
   pub long : storeBytes (byte s 5) ≤ length s
 
+pub in-range : (s : List ℕ) → ranges s ≡ true → Ranged s
+unfolding ranges
+in-range s h =
+    let t0 = eqb (byte s 0) version in
+    let t1 = eqb (be32 s 1) (storeBytes (byte s 5)) in
+    let t2 = leb 1 (byte s 5) in
+    let t3 = leb (byte s 5) 64 in
+    let t4 = leb 1 (byte s 6) in
+    let t5 = leb (byte s 6) 16 in
+    let t6 = leb 1 (byte s 7) in
+    let t7 = leb (byte s 7) 3 in
+    let t8 = leb (storeBytes (byte s 5)) (length s) in
+    let e7 = and-first (t0 && t1 && t2 && t3 && t4 && t5 && t6 && t7) t8 h in
+    let e6 = and-first (t0 && t1 && t2 && t3 && t4 && t5 && t6) t7 e7 in
+    let e5 = and-first (t0 && t1 && t2 && t3 && t4 && t5) t6 e6 in
+    let e4 = and-first (t0 && t1 && t2 && t3 && t4) t5 e5 in
+    let e3 = and-first (t0 && t1 && t2 && t3) t4 e4 in
+    let e2 = and-first (t0 && t1 && t2) t3 e3 in
+    let e1 = and-first (t0 && t1) t2 e2 in
+    record {
+      first = eqb-true (byte s 0) version (and-first t0 t1 e1);
+      spelled = eqb-true (be32 s 1) (storeBytes (byte s 5)) (and-second t0 t1 e1);
+      least = leb-true 1 (byte s 5) (and-second (t0 && t1) t2 e2);
+      most = leb-true (byte s 5) 64 (and-second (t0 && t1 && t2) t3 e3);
+      some = leb-true 1 (byte s 6) (and-second (t0 && t1 && t2 && t3) t4 e4);
+      few = leb-true (byte s 6) 16 (and-second (t0 && t1 && t2 && t3 && t4) t5 e5);
+      levelled = leb-true 1 (byte s 7) (and-second (t0 && t1 && t2 && t3 && t4 && t5) t6 e6);
+      topped = leb-true (byte s 7) 3 (and-second (t0 && t1 && t2 && t3 && t4 && t5 && t6) t7 e7);
+      long = leb-true (storeBytes (byte s 5)) (length s) (and-second (t0 && t1 && t2 && t3 && t4 && t5 && t6 && t7) t8 h);
+    }
+
 -- a state that a unit in place, or not in place, may have
 abbrev pub Stateful : Bool → ℕ → Type 0
 Stateful p n = pick p (eqb n 1 || eqb n 2) (eqb n 0) ≡ true
@@ -93,35 +124,7 @@ module _ (s : List ℕ) (h : sound s ≡ true) where
       }
 
   pub ranged : Ranged s
-  unfolding ranges
-  ranged =
-      let t0 = eqb (byte s 0) version in
-      let t1 = eqb (be32 s 1) (storeBytes (byte s 5)) in
-      let t2 = leb 1 (byte s 5) in
-      let t3 = leb (byte s 5) 64 in
-      let t4 = leb 1 (byte s 6) in
-      let t5 = leb (byte s 6) 16 in
-      let t6 = leb 1 (byte s 7) in
-      let t7 = leb (byte s 7) 3 in
-      let t8 = leb (storeBytes (byte s 5)) (length s) in
-      let e7 = and-first (t0 && t1 && t2 && t3 && t4 && t5 && t6 && t7) t8 (clauses .ranges) in
-      let e6 = and-first (t0 && t1 && t2 && t3 && t4 && t5 && t6) t7 e7 in
-      let e5 = and-first (t0 && t1 && t2 && t3 && t4 && t5) t6 e6 in
-      let e4 = and-first (t0 && t1 && t2 && t3 && t4) t5 e5 in
-      let e3 = and-first (t0 && t1 && t2 && t3) t4 e4 in
-      let e2 = and-first (t0 && t1 && t2) t3 e3 in
-      let e1 = and-first (t0 && t1) t2 e2 in
-      record {
-        first = eqb-true (byte s 0) version (and-first t0 t1 e1);
-        spelled = eqb-true (be32 s 1) (storeBytes (byte s 5)) (and-second t0 t1 e1);
-        least = leb-true 1 (byte s 5) (and-second (t0 && t1) t2 e2);
-        most = leb-true (byte s 5) 64 (and-second (t0 && t1 && t2) t3 e3);
-        some = leb-true 1 (byte s 6) (and-second (t0 && t1 && t2 && t3) t4 e4);
-        few = leb-true (byte s 6) 16 (and-second (t0 && t1 && t2 && t3 && t4) t5 e5);
-        levelled = leb-true 1 (byte s 7) (and-second (t0 && t1 && t2 && t3 && t4 && t5) t6 e6);
-        topped = leb-true (byte s 7) 3 (and-second (t0 && t1 && t2 && t3 && t4 && t5 && t6) t7 e7);
-        long = leb-true (storeBytes (byte s 5)) (length s) (and-second (t0 && t1 && t2 && t3 && t4 && t5 && t6 && t7) t8 (clauses .ranges));
-      }
+  ranged = in-range s (clauses .ranges)
 
   pub units-some : 1 ≤ unitsIn v
   units-some = rw (← (units-of s)) (ranged .some)

@@ -4,17 +4,17 @@ use mathlib.Core.Bool.{Bool, true, false, not, _&&_, _||_}
 use mathlib.Core.List.{List}
 use Prim.Native.Nat.{ℕ, _+_, _*_, _/_, _%_, _≤_, _<_}
 use native.Mathlib.Omega.{arith}
-use lib.Dec.{eqb, ltb, leb}
-use lib.ListN.{length}
+use lib.Dec.{eqb, ltb}
 use lib.Seq.{getD-take}
-use borrow.Author.Tests.{eqb-true, eqb-false, eq-eqb, ne-eqb, ltb-true, ltb-false, leb-true, not-false}
+use borrow.Author.Tests.{eqb-true, eqb-false, eq-eqb, ne-eqb, ltb-true, ltb-false, not-false}
 use Rattle.buffer.specs.ChoiceLaws.{by-test}
 use Rattle.buffer.specs.TestLaws.{and-true, and-first, and-second, and-ext, or-else, or-other, same-test}
 use Rattle.buffer.specs.Range.{all, first}
 use Rattle.buffer.specs.RangeLaws.{all-true, all-holds, first-le, first-holds}
-use Rattle.buffer.specs.Bytes.{byte, be32, part, zeros}
-use Rattle.model.specs.Layout.{view, version, storeBytes, keyOf, unitsIn, levelIn, checkAt}
+use Rattle.buffer.specs.Bytes.{byte, part, zeros}
+use Rattle.model.specs.Layout.{view, keyOf, unitsIn, levelIn, checkAt}
 use Rattle.model.specs.Reads.{fillIn, keeper, listedKey, listedFill}
+use Rattle.model.specs.SoundSays.{in-range}
 use Rattle.model.specs.Sound.{same, ranges, unitsPlaced, groupsPlaced, zeroed, keysKnown, keysPlaced, listsAgree, sound}
 use Rattle.buffer.specs.Strided.{strided32}
 use Rattle.soundness.specs.Keys.{fillOf, isNew, ownAndNew}
@@ -46,46 +46,9 @@ module _ (s : List ℕ) where
 
 -- ---- the ranges, as the later pieces use them
 pub ranged : (s : List ℕ) → ranges s ≡ true → Ranged s
-unfolding ranges
 ranged s h =
-    let h7 = and-first (a0 && a1 && a2 && a3 && a4 && a5 && a6 && a7) a8 h in
-    let h6 = and-first (a0 && a1 && a2 && a3 && a4 && a5 && a6) a7 h7 in
-    let h5 = and-first (a0 && a1 && a2 && a3 && a4 && a5) a6 h6 in
-    let h4 = and-first (a0 && a1 && a2 && a3 && a4) a5 h5 in
-    let h3 = and-first (a0 && a1 && a2 && a3) a4 h4 in
-    record {
-      few = leb-true _ _ (and-second (a0 && a1 && a2) a3 h3);
-      some = leb-true _ _ (and-second (a0 && a1 && a2 && a3) a4 h4);
-      most = leb-true _ _ (and-second (a0 && a1 && a2 && a3 && a4) a5 h5);
-      long = leb-true _ _ (and-second (a0 && a1 && a2 && a3 && a4 && a5 && a6 && a7) a8 h);
-    }
-  where
-    a0 : Bool
-    a0 = eqb (byte s 0) version
-
-    a1 : Bool
-    a1 = eqb (be32 s 1) (storeBytes (byte s 5))
-
-    a2 : Bool
-    a2 = leb 1 (byte s 5)
-
-    a3 : Bool
-    a3 = leb (byte s 5) 64
-
-    a4 : Bool
-    a4 = leb 1 (byte s 6)
-
-    a5 : Bool
-    a5 = leb (byte s 6) 16
-
-    a6 : Bool
-    a6 = leb 1 (byte s 7)
-
-    a7 : Bool
-    a7 = leb (byte s 7) 3
-
-    a8 : Bool
-    a8 = leb (storeBytes (byte s 5)) (length s)
+    let r = in-range s h in
+    record { few = r .most; some = r .some; most = r .few; long = r .long }
 
 -- ---- the clauses about each unit, and the clauses of soundness
 module _ (s : List ℕ) where
