@@ -1,11 +1,12 @@
 -- Laws of parts and of parts replaced, over any place and width. Assumes nothing.
 use mathlib.Core.Path.{_≡_, sym, ap, _∙_}
 use mathlib.Core.List.{List, [], _∷_, _++_, append-assoc, append-nil}
-use Prim.Native.Nat.{ℕ, zero, suc, _+_, _-_, _≤_}
+use Prim.Native.Nat.{ℕ, zero, suc, _+_, _-_, _≤_, _<_}
 use native.Mathlib.Nat.{zero-add, suc-add}
 use native.Mathlib.Omega.{arith}
-use lib.ListN.{length, take, drop, length-append, length-take, length-drop, take-append-drop, drop-of-length-le}
-use lib.Seq.{take-append-le, drop-append-le, take-append-add, drop-append-add, take-at, drop-at, take-nil, take-take, take-all, take-add, drop-drop, length-take-le}
+use native.Mathlib.Numerals.{add-one}
+use lib.ListN.{length, take, drop, set, length-append, length-take, length-drop, take-append-drop, drop-of-length-le}
+use lib.Seq.{take-append-le, drop-append-le, take-append-add, drop-append-add, take-at, drop-at, take-nil, take-take, take-all, take-add, drop-drop, set-split, length-take-le}
 use Rattle.buffer.specs.Bytes.{part, splice}
 
 -- ---- lengths
@@ -100,3 +101,8 @@ length-lent o at n h = simp (length-take, length-drop) (omega arith)
 pub put-lent : (o new : List ℕ) (at n : ℕ) → take at o ++ (new ++ drop (at + n - at) (drop at o)) ≡ splice at n new o
 unfolding splice
 put-lent o new at n = let w : at + n - at ≡ n = omega arith in rw w
+
+-- one byte written is a part of one byte replaced
+pub set-splice : (x : List ℕ) (i z : ℕ) → i < length x → set x i z ≡ splice i 1 (z ∷ []) x
+unfolding splice
+set-splice x i z h = set-split x i z h ∙ rw (drop-drop 1 i x, add-one)

@@ -1,22 +1,16 @@
 -- Lines that are written argument by argument, from the front. Assumes nothing.
-use Prim.Native.Nat.{ℕ, _+_, _*_, _≤_, _<_}
+use Prim.Native.Nat.{ℕ, _+_, _*_, _≤_}
 use mathlib.Core.Path.{_≡_, refl, ap, _∙_}
 use mathlib.Core.List.{List, [], _∷_, _++_, append-assoc, append-nil}
-use native.Mathlib.Numerals.{add-one}
 use native.Mathlib.Omega.{arith}
 use lib.ListN.{length, set, take, drop, length-append, length-drop, drop-of-length-le}
-use lib.Seq.{set-split, drop-drop, take-all, length-take-le}
+use lib.Seq.{take-all, length-take-le}
 use Rattle.buffer.specs.Bytes.{splice}
-use Rattle.buffer.specs.SpliceLaws.{splice-next, splice-whole}
+use Rattle.buffer.specs.SpliceLaws.{splice-next, splice-whole, set-splice}
 use Rattle.buffer.specs.TableLaws.{tab-one}
 use Rattle.lines.specs.Digits.{hexBytes}
 use Rattle.lines.specs.DigitLaws.{length-hexBytes}
 use Rattle.lines.specs.Output.{bodyLine, recordLine, argumentPut}
-
--- one byte written is a part of one byte replaced
-set-splice : (l : List ℕ) (i v : ℕ) → i < length l → set l i v ≡ splice i 1 (v ∷ []) l
-unfolding splice
-set-splice l i v h = set-split l i v h ∙ rw (drop-drop 1 i l, add-one)
 
 -- the digits of x, then the byte behind them
 pub argument-put : (l x h : List ℕ) (at m end behind : ℕ) → m ≡ 2 * length x → end ≡ at + 2 * length x → h ≡ hexBytes (length x) x

@@ -5,13 +5,12 @@ use mathlib.Core.Path.{_≡_, refl, sym, ap, _∙_}
 use mathlib.Core.List.{List, [], _∷_, _++_}
 use native.Mathlib.Omega.{arith}
 use native.Mathlib.Nat.{mul-le-mul-right, one-mul}
-use native.Mathlib.Numerals.{add-one}
 use lib.ListN.{length, set}
-use lib.Seq.{drop-drop, set-split, getD-take}
+use lib.Seq.{getD-take}
 use lib.Dec.{eqb}
 use Rattle.buffer.specs.Choice.{pick}
 use Rattle.buffer.specs.Bytes.{byte, zeros, part, splice}
-use Rattle.buffer.specs.SpliceLaws.{splice-left, splice-right}
+use Rattle.buffer.specs.SpliceLaws.{splice-left, splice-right, set-splice}
 use Rattle.buffer.specs.Table.{tab, upd}
 use Rattle.buffer.specs.TableLaws.{tab-ext, tab-one, tab-zeros, splice-chunk, upd-map}
 use Rattle.group.specs.Widths.{slotBytes, checkBytes}
@@ -87,11 +86,6 @@ unfolding withChecks
 checks-none s = refl
 
 -- ---- replaced in the bytes of a store
--- one byte, as a part
-pub set-splice : (x : List ℕ) (i z : ℕ) → i < length x → set x i z ≡ splice i 1 (z ∷ []) x
-unfolding splice
-set-splice x i z h = set-split x i z h ∙ rw (drop-drop 1 i x, add-one)
-
 -- the state of unit u among the states of n units
 splice-states : (n : ℕ) (f : ℕ → ℕ) (u z : ℕ) → u < n → splice u 1 (z ∷ []) (tab n (λ v. f v ∷ [])) ≡ tab n (λ v. upd f u z v ∷ [])
 splice-states n f u z l =
