@@ -16,7 +16,7 @@ use Rattle.buffer.specs.ByteLaws.{byte-part}
 use Rattle.group.specs.Members.{outs, checks, beyond, serves, next, firstFour}
 use Rattle.group.specs.MembersLaws.{Members, serves-data, serves-check, serving, enough, first-four}
 use Rattle.model.specs.Layout.{view}
-use Rattle.model.specs.Reads.{outsIn, beyondIn, servesIn, keeper, lostIn}
+use Rattle.model.specs.Reads.{outsIn, beyondIn, servesIn, firstCheck, lostIn}
 use Rattle.lookup.specs.Sized.{Sized}
 use Rattle.lookup.specs.Keys.{Known}
 
@@ -97,9 +97,9 @@ check-serves d c p l e h =
     first-found 3 (λ j. eqb (c j) 1)
     (omega (arith, count-append 4 3 (serves d c), places, check, count-not 4 (λ p. eqb (d p) 2), count-pos 4 (λ p. eqb (d p) 2) p l (eq-eqb (d p) 2 e)))
 
-keeper-there : (s : List ℕ) (u : ℕ) → u < 16 → byte s (8 + u) ≡ 2 → 4 ≤ count 7 (servesIn (view s) (u / 4)) → keeper (view s) (u / 4) < 3 * (u / 4) + 3
-unfolding keeper servesIn view
-keeper-there s u l e h =
+first-check-there : (s : List ℕ) (u : ℕ) → u < 16 → byte s (8 + u) ≡ 2 → 4 ≤ count 7 (servesIn (view s) (u / 4)) → firstCheck (view s) (u / 4) < 3 * (u / 4) + 3
+unfolding firstCheck servesIn view
+first-check-there s u l e h =
     let place : 4 * (u / 4) + u % 4 ≡ u = omega arith in
     let here : byte s (8 + (4 * (u / 4) + u % 4)) ≡ 2 = ap (λ i. byte s (8 + i)) place ∙ e in
     omega (arith, check-serves (λ p. byte s (8 + (4 * (u / 4) + p))) (λ j. byte s (24 + (3 * (u / 4) + j))) (u % 4) (omega arith) here h)
@@ -109,7 +109,7 @@ recoverable-known {s} {u} h =
     record {
       sized = h .sized;
       unit = h .unit;
-      listed = λ e. keeper-there s u (h .unit) e (group-enough (h .sized) (u / 4) (let l = h .unit in omega arith) (h .whole e));
+      listed = λ e. first-check-there s u (h .unit) e (group-enough (h .sized) (u / 4) (let l = h .unit in omega arith) (h .whole e));
     }
 
 -- where no unit of the group is out, unit u is not

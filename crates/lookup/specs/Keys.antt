@@ -16,7 +16,7 @@ use Rattle.buffer.specs.SpliceLaws.{part-part}
 use Rattle.group.specs.Widths.{keyBytes, slotBytes, checkBytes}
 use Rattle.model.specs.Layout.{view, slotAt, checkAt, keyOf}
 use Rattle.model.specs.LayoutLaws.{key-first}
-use Rattle.model.specs.Reads.{fillIn, rankIn, keeper, listedKey, listedFill, listedRank}
+use Rattle.model.specs.Reads.{fillIn, rankIn, firstCheck, listedKey, listedFill, listedRank}
 use Rattle.lookup.specs.Sized.{Sized, slot-fits, check-fits}
 
 -- ---- the key of a slot
@@ -43,14 +43,14 @@ out-within {s} h c p n at l q k e = record { fits = λ i m. omega (arith, check-
 
 -- where the keys of unit u stand while it is out: in the first check unit in service of its group, the others every 32 bytes behind the first
 abbrev pub keysAt : List ℕ → ℕ → ℕ
-keysAt s u = checkAt (byte s 5) (keeper (view s) (u / 4)) 0 + 4 * (u % 4)
+keysAt s u = checkAt (byte s 5) (firstCheck (view s) (u / 4)) 0 + 4 * (u % 4)
 
 -- ---- the keys of a unit, wherever they are listed
 -- they can be read: the unit is in service, or a check unit of its group is
 pub record Known (s : List ℕ) (u : ℕ) : Type 0 where
   pub sized : Sized s
   pub unit : u < 16
-  pub listed : byte s (8 + u) ≡ 2 → keeper (view s) (u / 4) < 3 * (u / 4) + 3
+  pub listed : byte s (8 + u) ≡ 2 → firstCheck (view s) (u / 4) < 3 * (u / 4) + 3
 
 -- the list at base, a key every step bytes, is that of unit u
 pub record Lists (s : List ℕ) (u base step : ℕ) : Type 0 where
@@ -72,11 +72,11 @@ own-bytes s u r i h place =
     ∙ sym (part-part (slotAt (byte s 5) u r) slotBytes 0 keyBytes s (omega arith))
     ∙ unfold part in sym (pick-false (ne-eqb (byte s (8 + u)) 2 h) _ _)
 
-out-bytes : (s : List ℕ) (u r i : ℕ) → byte s (8 + u) ≡ 2 → i ≡ checkAt (byte s 5) (keeper (view s) (u / 4)) r + keyBytes * (u % 4) → part i keyBytes s ≡ listedKey (view s) u r
+out-bytes : (s : List ℕ) (u r i : ℕ) → byte s (8 + u) ≡ 2 → i ≡ checkAt (byte s 5) (firstCheck (view s) (u / 4)) r + keyBytes * (u % 4) → part i keyBytes s ≡ listedKey (view s) u r
 unfolding listedKey view
 out-bytes s u r i h place =
     ap (λ j. part j keyBytes s) place
-    ∙ sym (part-part (checkAt (byte s 5) (keeper (view s) (u / 4)) r) checkBytes (keyBytes * (u % 4)) keyBytes s (omega arith))
+    ∙ sym (part-part (checkAt (byte s 5) (firstCheck (view s) (u / 4)) r) checkBytes (keyBytes * (u % 4)) keyBytes s (omega arith))
     ∙ sym (pick-true (eq-eqb (byte s (8 + u)) 2 h) _ _)
 
 module _ {s : List ℕ} {u : ℕ} (known : Known s u) where
@@ -91,7 +91,7 @@ module _ {s : List ℕ} {u : ℕ} (known : Known s u) where
   lists-out at h e =
       record {
         bytes = λ r. out-bytes s u r (at + checkBytes * r) h (omega arith);
-        within = out-within (known .sized) (keeper (view s) (u / 4)) (u % 4) (byte s 5) at (omega (arith, known .listed h, known .unit)) (omega arith) (omega arith) e;
+        within = out-within (known .sized) (firstCheck (view s) (u / 4)) (u % 4) (byte s 5) at (omega (arith, known .listed h, known .unit)) (omega arith) (omega arith) e;
       }
 
 -- ---- a search through the keys finds what the definitions say

@@ -26,7 +26,7 @@ use Rattle.group.specs.Rebuilding.{weighed, rebuilt}
 use Rattle.group.specs.Four.{fourBodies}
 use Rattle.group.specs.WeighedLaws.{length-weighed, weighed-ext}
 use Rattle.model.specs.Layout.{view, slotAt, checkAt, keyOf}
-use Rattle.model.specs.Reads.{servesIn, holds, keeper, listedKey, listedFill, wholeSlot}
+use Rattle.model.specs.Reads.{servesIn, holds, firstCheck, listedKey, listedFill, wholeSlot}
 use Rattle.lookup.specs.Sized.{Sized, slot-fits, check-fits}
 use Rattle.lookup.specs.Keys.{Lists, keysAt, lists-out, listed-has-key}
 use Rattle.lookup.specs.Groups.{Recoverable, recoverable-known, group-four}
@@ -129,7 +129,7 @@ module _ {s : List ℕ} {u : ℕ} (unit : Recoverable s u) (r : ℕ) (l : r < by
   pub out-key-long : byte s (8 + u) ≡ 2 → length (listedKey (view s) u r) ≡ keyBytes
   unfolding listedKey view
   out-key-long e =
-      let c : ℕ = keeper (view s) (u / 4) in
+      let c : ℕ = firstCheck (view s) (u / 4) in
       let k : c < 12 = omega (arith, recoverable-known unit .listed e, unit .unit) in
       ap length (pick-true (eq-eqb (byte s (8 + u)) 2 e) _ _ ∙ part-part (checkAt (byte s 5) c r) checkBytes (keyBytes * (u % 4)) keyBytes s (omega arith))
       ∙ length-part (checkAt (byte s 5) c r + keyBytes * (u % 4)) keyBytes s (omega (arith, check-fits (unit .sized) c r k l))

@@ -10,7 +10,7 @@ use Rattle.buffer.specs.ChoiceLaws.{by-pick, pick-true}
 use Rattle.buffer.specs.Range.{first}
 use Rattle.buffer.specs.Bytes.{byte}
 use Rattle.model.specs.Layout.{view}
-use Rattle.model.specs.Reads.{stateIn, keeper}
+use Rattle.model.specs.Reads.{stateIn, firstCheck}
 
 -- the states of data units and then check units stand one behind the other
 pub state-byte : (s : List ℕ) (w : ℕ) → byte s (8 + w) ≡ stateIn (view s) w
@@ -32,6 +32,6 @@ state-data s u l = pick-true (lt-ltb u 16 l) _ _
 abbrev pub inService : List ℕ → ℕ → ℕ → Bool
 inService s g j = eqb (byte s (24 + (3 * g + j))) 1
 
-pub keeper-found : (s : List ℕ) (g j : ℕ) → j ≡ first 3 (inService s g) → 3 * g + j ≡ keeper (view s) g
-unfolding keeper view
-keeper-found s g j e = rw e
+pub first-check-found : (s : List ℕ) (g j : ℕ) → j ≡ first 3 (inService s g) → 3 * g + j ≡ firstCheck (view s) g
+unfolding firstCheck view
+first-check-found s g j e = rw e

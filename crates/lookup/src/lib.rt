@@ -13,7 +13,7 @@ ghost use Rattle.group.specs.Members.{firstFour};
 ghost use Rattle.group.specs.Rebuilding.{weighed};
 ghost use Rattle.model.specs.Units.{powerBelow, splitPointer, unitOf};
 ghost use Rattle.model.specs.Layout.{view, slotAt, checkAt, keyOf};
-ghost use Rattle.model.specs.Reads.{stateIn, outsIn, beyondIn, servesIn, holds, keeper, listedFill, listedRank, wholeSlot, lostIn};
+ghost use Rattle.model.specs.Reads.{stateIn, outsIn, beyondIn, servesIn, holds, firstCheck, listedFill, listedRank, wholeSlot, lostIn};
 ghost use Rattle.lookup.specs.Sized.{Sized};
 ghost use Rattle.buffer.specs.Strided.{strided32, Within};
 ghost use Rattle.lookup.specs.Keys.{keysAt, Known, Lists};
@@ -121,9 +121,9 @@ pub fn rank(s: &[u8], u: u8, n: u8, key: u32) -> u8
 }
 
 // The first check unit in service of group g, or 3g + 3.
-pub fn keeper(s: &[u8], g: u8) -> u8
+pub fn first_check(s: &[u8], g: u8) -> u8
     requires { ⌜ (g < 4) × (36 ≤ length (now s)) ⌝ }
-    ensures { λ c. ⌜ (c ≡ keeper (view (now (s .entry))) g) × (c ≤ 3 * g + 3) ⌝ }
+    ensures { λ c. ⌜ (c ≡ firstCheck (view (now (s .entry))) g) × (c ≤ 3 * g + 3) ⌝ }
 {
     let mut j: u8 = 0;
     while j < 3 {
@@ -137,7 +137,7 @@ pub fn keeper(s: &[u8], g: u8) -> u8
 
 // Where c, the first check unit in service of its group, lists the keys of data unit u: the first, and each next one 32 bytes on.
 pub fn keys_at(s: &[u8], u: u8, c: u8) -> usize
-    requires { ⌜ Sized (now s) × (c ≡ keeper (view (now s)) (u / 4)) ⌝ }
+    requires { ⌜ Sized (now s) × (c ≡ firstCheck (view (now s)) (u / 4)) ⌝ }
     ensures { λ at. ⌜ at ≡ keysAt (now (s .entry)) u ⌝ }
 {
     check_at(s[5], c, 0) + 4 * buffer::wide(u % 4)
@@ -151,7 +151,7 @@ pub struct Keys {
 
 // The keys of data unit u: its own, or for a unit that is out those that c lists, the first check unit in service of its group.
 pub fn keys_of(s: &[u8], u: u8, c: u8) -> Keys
-    requires { ⌜ Known (now s) u × (c ≡ keeper (view (now s)) (u / 4)) ⌝ }
+    requires { ⌜ Known (now s) u × (c ≡ firstCheck (view (now s)) (u / 4)) ⌝ }
     ensures { λ k. ⌜ Lists (now (s .entry)) u (k .base) (k .step) ⌝ }
 {
     if state(s, u) == 2 {
@@ -168,7 +168,7 @@ pub fn keys_of(s: &[u8], u: u8, c: u8) -> Keys
 
 // The rank of a key among the n that are listed for data unit u, with the first check unit c in service of its group; n where it is not there.
 pub fn listed_rank(s: &[u8], u: u8, c: u8, n: u8, key: u32) -> u8
-    requires { ⌜ Known (now s) u × (c ≡ keeper (view (now s)) (u / 4)) × (n ≡ listedFill (view (now s)) u) × (n ≤ byte (now s) 5) ⌝ }
+    requires { ⌜ Known (now s) u × (c ≡ firstCheck (view (now s)) (u / 4)) × (n ≡ listedFill (view (now s)) u) × (n ≤ byte (now s) 5) ⌝ }
     ensures { λ r. ⌜ (r ≡ listedRank (view (now (s .entry))) u key) × (r ≤ n) ⌝ }
 {
     let keys = keys_of(s, u, c);

@@ -7,7 +7,7 @@ pub mod States
 pub mod Touched
 pub mod Seek
 pub mod Changed
-pub mod Stand
+pub mod Recorded
 pub mod Taught
 pub mod Records
 pub mod Picture

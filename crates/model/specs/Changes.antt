@@ -44,9 +44,9 @@ repaired v g =
     (λ c r. pick (eqb (c / 3) g && eqb (v .cstate c) 2) (checkRecord (c % 3) (λ p. wholeSlot v (4 * g + p) r)) (v .check c r))
 
 -- those for which p holds, in order
-unfoldable pub keep : {A : Type 0} → (A → Bool) → List A → List A
-keep p [] = []
-keep p (x ∷ xs) = pick (p x) (x ∷ keep p xs) (keep p xs)
+unfoldable pub filterBy : {A : Type 0} → (A → Bool) → List A → List A
+filterBy p [] = []
+filterBy p (x ∷ xs) = pick (p x) (x ∷ filterBy p xs) (filterBy p xs)
 
 -- the list of f 0, f 1, .., f (n - 1)
 unfoldable pub rows : {A : Type 0} → ℕ → (ℕ → A) → List A
@@ -60,8 +60,8 @@ recordsIn v u = rows (fillIn v u) (v .slot u)
 -- the slots after unit m is split from unit n: records that stay and records that move get ranks from the first on, each in their old order
 unfoldable pub dealt : Store → ℕ → ℕ → ℕ → List ℕ
 dealt v m u r =
-    pick (eqb u m) (getD (keep (λ x. moves m (keyOf x)) (recordsIn v (splitPointer m))) r (zeros slotBytes))
-    (pick (eqb u (splitPointer m)) (getD (keep (λ x. not (moves m (keyOf x))) (recordsIn v (splitPointer m))) r (zeros slotBytes))
+    pick (eqb u m) (getD (filterBy (λ x. moves m (keyOf x)) (recordsIn v (splitPointer m))) r (zeros slotBytes))
+    (pick (eqb u (splitPointer m)) (getD (filterBy (λ x. not (moves m (keyOf x))) (recordsIn v (splitPointer m))) r (zeros slotBytes))
     (v .slot u r))
 
 -- the state of a check unit then: a new group starts with K check units, and a group whose first unit is split is brought up to K

@@ -45,12 +45,12 @@ holds v g r m = pick (ltb m 4) (drop keyBytes (v .slot (4 * g + m) r)) (drop key
 
 -- the first check unit in service of a group; 3g + 3, which is none of the group's, where there is none: no call looks there, since data units
 -- out are then beyond recovery
-unfoldable pub keeper : Store → ℕ → ℕ
-keeper v g = 3 * g + first 3 (λ j. eqb (v .cstate (3 * g + j)) 1)
+unfoldable pub firstCheck : Store → ℕ → ℕ
+firstCheck v g = 3 * g + first 3 (λ j. eqb (v .cstate (3 * g + j)) 1)
 
 -- the key of a slot, as bytes: its own, or for a unit out the one that a check unit lists
 unfoldable pub listedKey : Store → ℕ → ℕ → List ℕ
-listedKey v u r = pick (eqb (v .dstate u) 2) (part (keyBytes * (u % 4)) keyBytes (v .check (keeper v (u / 4)) r)) (take keyBytes (v .slot u r))
+listedKey v u r = pick (eqb (v .dstate u) 2) (part (keyBytes * (u % 4)) keyBytes (v .check (firstCheck v (u / 4)) r)) (take keyBytes (v .slot u r))
 
 -- how many records a unit has by these keys; and the rank of a key among them, or their number where it is not there
 unfoldable pub listedFill : Store → ℕ → ℕ

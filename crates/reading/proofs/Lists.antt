@@ -9,7 +9,7 @@ use Rattle.buffer.specs.Table.{tab}
 use Rattle.buffer.specs.TableLaws.{Wide, length-tab, length-tab-sum, tab-room}
 use Rattle.group.specs.Widths.{slotBytes}
 use Rattle.model.specs.Layout.{view}
-use Rattle.model.specs.Reads.{keeper, listedFill, wholeSlot, totalIn, listingIn}
+use Rattle.model.specs.Reads.{firstCheck, listedFill, wholeSlot, totalIn, listingIn}
 use Rattle.lookup.specs.Keys.{listed-fill-small}
 use Rattle.lookup.specs.Groups.{Recoverable, Whole, whole-unit}
 use Rattle.lookup.specs.Slots.{length-whole}
@@ -20,11 +20,11 @@ abbrev pub records : List ℕ → ℕ → List ℕ
 records s u = tab (listedFill (view s) u) (wholeSlot (view s) u)
 
 -- the count of a unit, and the first check unit in service of its group, which the code reads at the index i
-pub fill-at : {s fills keepers : List ℕ} {u i : ℕ} → Learned s fills keepers → u < 16 → i ≡ u → getD fills i 0 ≡ listedFill (view s) u
+pub fill-at : {s fills firstChecks : List ℕ} {u i : ℕ} → Learned s fills firstChecks → u < 16 → i ≡ u → getD fills i 0 ≡ listedFill (view s) u
 fill-at {s} {fills} {u = u} h l e = ap (λ j. getD fills j 0) e ∙ h .listed u l
 
-pub keeper-at : {s fills keepers : List ℕ} {u i : ℕ} → Learned s fills keepers → u < 16 → i ≡ u / 4 → getD keepers i 0 ≡ keeper (view s) (u / 4)
-keeper-at {keepers = keepers} {u = u} h l e = ap (λ j. getD keepers j 0) e ∙ h .kept (u / 4) (omega arith)
+pub first-check-at : {s fills firstChecks : List ℕ} {u i : ℕ} → Learned s fills firstChecks → u < 16 → i ≡ u / 4 → getD firstChecks i 0 ≡ firstCheck (view s) (u / 4)
+first-check-at {firstChecks = firstChecks} {u = u} h l e = ap (λ j. getD firstChecks j 0) e ∙ h .kept (u / 4) (omega arith)
 
 pub slots-wide : {s : List ℕ} {u : ℕ} → Recoverable s u → (n : ℕ) → n ≤ byte s 5 → Wide n slotBytes (wholeSlot (view s) u)
 slots-wide h n l r k = length-whole h r (omega arith)

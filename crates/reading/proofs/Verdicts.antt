@@ -17,9 +17,9 @@ use Rattle.buffer.specs.Bytes.{byte}
 use Rattle.group.specs.Widths.{bodyBytes, slotBytes}
 use Rattle.model.specs.Units.{unitOf}
 use Rattle.model.specs.Layout.{view, unitsIn}
-use Rattle.model.specs.Reads.{homeIn, outsIn, beyondIn, keeper, listedFill, listedRank, lostIn, totalIn}
+use Rattle.model.specs.Reads.{homeIn, outsIn, beyondIn, firstCheck, listedFill, listedRank, lostIn, totalIn}
 use Rattle.model.specs.Numbers.{firstOf}
-use Rattle.soundness.specs.Survey.{Surveyed, fill-listed, keeper-found, outs-counted}
+use Rattle.soundness.specs.Survey.{Surveyed, fill-listed, first-check-found, outs-counted}
 use Rattle.lookup.specs.Sized.{Sized}
 use Rattle.lookup.specs.Keys.{listed-fill-small}
 use Rattle.lookup.specs.Groups.{Recoverable, Whole, recoverable-known, whole-unit, none-lost}
@@ -78,18 +78,18 @@ safe-unit {s} {u} h l e =
     }
 
 -- and the survey has counted it; the code reads the count at the index i
-pub safe-fill : {s : List ℕ} {ok : Bool} {fills keepers outs : List ℕ} {u i : ℕ} → Surveyed s ok fills keepers outs → ok ≡ true → Recoverable s u → i ≡ u → (getD fills i 0 ≡ listedFill (view s) u) × (getD fills i 0 ≤ byte s 5)
+pub safe-fill : {s : List ℕ} {ok : Bool} {fills firstChecks outs : List ℕ} {u i : ℕ} → Surveyed s ok fills firstChecks outs → ok ≡ true → Recoverable s u → i ≡ u → (getD fills i 0 ≡ listedFill (view s) u) × (getD fills i 0 ≤ byte s 5)
 safe-fill {s} {ok} {fills} {u = u} {i} g e h k =
     let n : getD fills i 0 ≡ listedFill (view s) u = ap (λ j. getD fills j 0) k ∙ fill-listed g e u (h .unit) (recoverable-known h .listed) in
     (n, rw n (listed-fill-small s u))
 
 -- the units out of a unit's group, which the code reads at the index i
-pub outs-read : {s : List ℕ} {ok : Bool} {fills keepers outs : List ℕ} {u i : ℕ} → Surveyed s ok fills keepers outs → ok ≡ true → u < 16 → i ≡ u / 4 → getD outs i 0 ≡ outsIn (view s) (u / 4)
+pub outs-read : {s : List ℕ} {ok : Bool} {fills firstChecks outs : List ℕ} {u i : ℕ} → Surveyed s ok fills firstChecks outs → ok ≡ true → u < 16 → i ≡ u / 4 → getD outs i 0 ≡ outsIn (view s) (u / 4)
 outs-read {outs = outs} {u = u} g e l k = ap (λ j. getD outs j 0) k ∙ outs-counted g e (u / 4) (omega arith)
 
 -- and found the first check unit in service of its group, which the code reads at the index i
-pub safe-keeper : {s : List ℕ} {ok : Bool} {fills keepers outs : List ℕ} {u i : ℕ} → Surveyed s ok fills keepers outs → ok ≡ true → Recoverable s u → i ≡ u / 4 → getD keepers i 0 ≡ keeper (view s) (u / 4)
-safe-keeper {keepers = keepers} {u = u} g e h k = let l = h .unit in ap (λ j. getD keepers j 0) k ∙ keeper-found g e (u / 4) (omega arith)
+pub safe-first-check : {s : List ℕ} {ok : Bool} {fills firstChecks outs : List ℕ} {u i : ℕ} → Surveyed s ok fills firstChecks outs → ok ≡ true → Recoverable s u → i ≡ u / 4 → getD firstChecks i 0 ≡ firstCheck (view s) (u / 4)
+safe-first-check {firstChecks = firstChecks} {u = u} g e h k = let l = h .unit in ap (λ j. getD firstChecks j 0) k ∙ first-check-found g e (u / 4) (omega arith)
 
 -- ---- list
 pub not-counted : {s : List ℕ} {ok : Bool} {n : ℕ} (m : ℕ) → suc m ≡ listNumber ok (view s) n → Counted s ok n (suc m) 0
@@ -100,10 +100,10 @@ pub safe-store : {s : List ℕ} → Sized s → lostIn (view s) ≡ false → Wh
 safe-store {s} h e = record { sized = h; units = λ u l. safe-unit h l (none-lost s e u l) .whole }
 
 -- then the survey has counted every unit
-pub whole-learned : {s : List ℕ} {ok : Bool} {fills keepers outs : List ℕ} → Surveyed s ok fills keepers outs → ok ≡ true → Whole s → Learned s fills keepers
-whole-learned g e h = record { listed = λ u l. fill-listed g e u l (recoverable-known (whole-unit h u l) .listed); kept = keeper-found g e }
+pub whole-learned : {s : List ℕ} {ok : Bool} {fills firstChecks outs : List ℕ} → Surveyed s ok fills firstChecks outs → ok ≡ true → Whole s → Learned s fills firstChecks
+whole-learned g e h = record { listed = λ u l. fill-listed g e u l (recoverable-known (whole-unit h u l) .listed); kept = first-check-found g e }
 
-pub fills-total : {s fills keepers : List ℕ} → Learned s fills keepers → sum 16 (λ u. getD fills u 0) ≡ totalIn (view s)
+pub fills-total : {s fills firstChecks : List ℕ} → Learned s fills firstChecks → sum 16 (λ u. getD fills u 0) ≡ totalIn (view s)
 unfolding totalIn
 fills-total {s} {fills} h = sum-ext 16 (λ u. getD fills u 0) (listedFill (view s)) (h .listed)
 

@@ -8,7 +8,7 @@ use lib.ListN.{getD}
 use Rattle.buffer.specs.Choice.{pick}
 use Rattle.group.specs.Widths.{slotBytes}
 use Rattle.model.specs.Layout.{view}
-use Rattle.model.specs.Reads.{keeper, listedFill, totalIn}
+use Rattle.model.specs.Reads.{firstCheck, listedFill, totalIn}
 use Rattle.lookup.specs.Groups.{Whole}
 use Rattle.reading.specs.Rows.{listNumber}
 
@@ -20,6 +20,6 @@ pub record Counted (s : List ℕ) (ok : Bool) (n number count : ℕ) : Type 0 wh
   pub room : number ≡ 0 → slotBytes * totalIn (view s) ≤ n
 
 -- how many keys are listed for each unit, and the first check unit in service of each group
-pub record Learned (s fills keepers : List ℕ) : Type 0 where
+pub record Learned (s fills firstChecks : List ℕ) : Type 0 where
   pub listed : (u : ℕ) → u < 16 → getD fills u 0 ≡ listedFill (view s) u
-  pub kept : (g : ℕ) → g < 4 → getD keepers g 0 ≡ keeper (view s) g
+  pub kept : (g : ℕ) → g < 4 → getD firstChecks g 0 ≡ firstCheck (view s) g

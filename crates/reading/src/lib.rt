@@ -10,7 +10,7 @@ ghost use Rattle.buffer.specs.Table.{tab};
 ghost use Rattle.field.specs.Table.{products};
 ghost use Rattle.group.specs.Widths.{keyBytes, bodyBytes, slotBytes};
 ghost use Rattle.model.specs.Layout.{view};
-ghost use Rattle.model.specs.Reads.{keeper, listedFill, wholeSlot, totalIn, listingIn};
+ghost use Rattle.model.specs.Reads.{firstCheck, listedFill, wholeSlot, totalIn, listingIn};
 ghost use Rattle.soundness.specs.Survey.{Surveyed};
 ghost use Rattle.lookup.specs.Groups.{Recoverable, Whole};
 ghost use Rattle.model.specs.Numbers.{Call};
@@ -37,7 +37,7 @@ fn refused(number: u8) -> Found
 
 // Looks a key up for a read into len bytes, by the survey of the store.
 fn look_up(s: &[u8], survey: soundness::Survey, key: u32, len: usize) -> Found
-    requires { ⌜ Surveyed (now s) (survey .sound) (survey .fills) (survey .keepers) (survey .outs) ⌝ }
+    requires { ⌜ Surveyed (now s) (survey .sound) (survey .fills) (survey .«first_checks») (survey .outs) ⌝ }
     ensures { λ f. ⌜ Verdict (now (s .entry)) (survey .sound) key len (f .number) (f .unit) (f .rank) ⌝ }
 {
     if key == 0 {
@@ -56,9 +56,9 @@ fn look_up(s: &[u8], survey: soundness::Survey, key: u32, len: usize) -> Found
     }
     let fills = survey.fills;
     let n = fills[buffer::wide(unit)];
-    let keepers = survey.keepers;
-    let keeper = keepers[buffer::wide(unit / 4)];
-    let rank = lookup::listed_rank(s, unit, keeper, n, key);
+    let first_checks = survey.first_checks;
+    let first_check = first_checks[buffer::wide(unit / 4)];
+    let rank = lookup::listed_rank(s, unit, first_check, n, key);
     if n <= rank {
         return refused(6);
     }
@@ -136,7 +136,7 @@ fn total(fills: [u8; 16]) -> usize
 
 // The verdict on a list into len bytes, with its count, by the survey of the store.
 fn count_records(s: &[u8], survey: soundness::Survey, len: usize) -> Listing
-    requires { ⌜ Surveyed (now s) (survey .sound) (survey .fills) (survey .keepers) (survey .outs) ⌝ }
+    requires { ⌜ Surveyed (now s) (survey .sound) (survey .fills) (survey .«first_checks») (survey .outs) ⌝ }
     ensures { λ l. ⌜ Counted (now (s .entry)) (survey .sound) len (l .number) (l .count) ⌝ }
 {
     if !survey.sound {
@@ -165,7 +165,7 @@ fn count_records(s: &[u8], survey: soundness::Survey, len: usize) -> Listing
 
 // Rebuilds the first n slots of data unit u, which is out, one behind the other. The first check unit in service of its group is c.
 fn rebuild_unit(s: &[u8], u: u8, n: u8, c: u8, out: &mut [u8], table: &[u8; 256])
-    requires { ⌜ Recoverable (now s) u × (byte (now s) (8 + u) ≡ 2) × (n ≤ byte (now s) 5) × (length (now out) ≡ slotBytes * n) × (now table ≡ products) × (c ≡ keeper (view (now s)) (u / 4)) ⌝ }
+    requires { ⌜ Recoverable (now s) u × (byte (now s) (8 + u) ≡ 2) × (n ≤ byte (now s) 5) × (length (now out) ≡ slotBytes * n) × (now table ≡ products) × (c ≡ firstCheck (view (now s)) (u / 4)) ⌝ }
     ensures { λ _. ⌜ now (out .exit) ≡ tab n (wholeSlot (view (now (s .entry))) u) ⌝ }
 {
     let members = lookup::members(s, u / 4);
@@ -191,7 +191,7 @@ fn rebuild_unit(s: &[u8], u: u8, n: u8, c: u8, out: &mut [u8], table: &[u8; 256]
 
 // Copies the first n slots of data unit u, rebuilt where the unit is out, one behind the other. The first check unit in service of its group is c.
 fn copy_unit(s: &[u8], u: u8, n: u8, c: u8, out: &mut [u8], table: &[u8; 256])
-    requires { ⌜ Recoverable (now s) u × (n ≤ byte (now s) 5) × (length (now out) ≡ slotBytes * n) × (now table ≡ products) × (c ≡ keeper (view (now s)) (u / 4)) ⌝ }
+    requires { ⌜ Recoverable (now s) u × (n ≤ byte (now s) 5) × (length (now out) ≡ slotBytes * n) × (now table ≡ products) × (c ≡ firstCheck (view (now s)) (u / 4)) ⌝ }
     ensures { λ _. ⌜ now (out .exit) ≡ tab n (wholeSlot (view (now (s .entry))) u) ⌝ }
 {
     if lookup::state(s, u) == 2 {
@@ -204,8 +204,14 @@ fn copy_unit(s: &[u8], u: u8, n: u8, c: u8, out: &mut [u8], table: &[u8; 256])
 }
 
 // Writes the records of a store of which nothing is lost, unit by unit; what stands behind them stays.
-fn write_records(s: &[u8], fills: [u8; 16], keepers: [u8; 4], out: &mut [u8], table: &[u8; 256])
-    requires { ⌜ Whole (now s) × Learned (now s) fills keepers × (slotBytes * totalIn (view (now s)) ≤ length (now out)) × (now table ≡ products) ⌝ }
+fn write_records(
+    s: &[u8],
+    fills: [u8; 16],
+    first_checks: [u8; 4],
+    out: &mut [u8],
+    table: &[u8; 256],
+)
+    requires { ⌜ Whole (now s) × Learned (now s) fills «first_checks» × (slotBytes * totalIn (view (now s)) ≤ length (now out)) × (now table ≡ products) ⌝ }
     ensures { λ _. ⌜ now (out .exit) ≡ listingIn (view (now (s .entry))) ++ drop (length (listingIn (view (now (s .entry))))) (now (out .entry)) ⌝ }
 {
     let mut at = 0;
@@ -213,8 +219,8 @@ fn write_records(s: &[u8], fills: [u8; 16], keepers: [u8; 4], out: &mut [u8], ta
     while u < 16 {
         let n = fills[buffer::wide(u)];
         let end = at + 20 * buffer::wide(n); // where the records of this unit end
-        let keeper = keepers[buffer::wide(u / 4)];
-        copy_unit(s, u, n, keeper, &mut out[at..end], table);
+        let first_check = first_checks[buffer::wide(u / 4)];
+        copy_unit(s, u, n, first_check, &mut out[at..end], table);
         at = end;
         u += 1;
     }
@@ -230,8 +236,8 @@ pub fn list(s: &[u8], out: &mut [u8]) -> Listing
         return verdict;
     }
     let fills = survey.fills;
-    let keepers = survey.keepers;
+    let first_checks = survey.first_checks;
     let table = group::table();
-    write_records(s, fills, keepers, out, &table);
+    write_records(s, fills, first_checks, out, &table);
     verdict
 }

@@ -24,7 +24,7 @@ use Rattle.group.specs.Rebuilding.{rebuilt}
 use Rattle.model.specs.Layout.{Store, bytes, view, checkAt, keyOf}
 use Rattle.model.specs.LayoutLaws.{Shaped, Same, Long, bytes-view, view-shaped, view-bytes, len-ds, len-cs}
 use Rattle.model.specs.StoreLaws.{slots-size, slots-slot, slots-shaped, same-long, withSlots}
-use Rattle.model.specs.Reads.{beyondIn, servesIn, holds, keeper, listedKey, wholeSlot}
+use Rattle.model.specs.Reads.{beyondIn, servesIn, holds, firstCheck, listedKey, wholeSlot}
 use Rattle.lookup.specs.Sized.{Sized}
 use Rattle.lookup.specs.Keys.{keysAt}
 use Rattle.lookup.specs.Groups.{beyond-states, four-states, group-four, recoverable-known}
@@ -107,12 +107,12 @@ module _ {s₀ s : List ℕ} {f : ℕ → ℕ → List ℕ} (w : Rewritten s₀ 
       ∙ four-states s₀ g
 
   -- ---- where keys are listed
-  pub keeper-kept : (g : ℕ) → g < 4 → keeper (view s) g ≡ keeper (view s₀) g
-  unfolding keeper view
-  keeper-kept g l = ap (λ j. 3 * g + j) (first-ext 3 _ _ (λ j k. ap (λ x. eqb x 1) (byte-kept (24 + (3 * g + j)) (omega arith))))
+  pub first-check-kept : (g : ℕ) → g < 4 → firstCheck (view s) g ≡ firstCheck (view s₀) g
+  unfolding firstCheck view
+  first-check-kept g l = ap (λ j. 3 * g + j) (first-ext 3 _ _ (λ j k. ap (λ x. eqb x 1) (byte-kept (24 + (3 * g + j)) (omega arith))))
 
   pub keys-kept : (u : ℕ) → u < 16 → keysAt s u ≡ keysAt s₀ u
-  keys-kept u l = ap₂ (λ b c. checkAt b c 0 + 4 * (u % 4)) (byte-kept 5 (omega arith)) (keeper-kept (u / 4) (omega arith))
+  keys-kept u l = ap₂ (λ b c. checkAt b c 0 + 4 * (u % 4)) (byte-kept 5 (omega arith)) (first-check-kept (u / 4) (omega arith))
 
   -- ---- what the members in service hold
   check-kept : (c r : ℕ) → c < 12 → r < view s₀ .size → view s .check c r ≡ view s₀ .check c r
@@ -175,8 +175,8 @@ module _ {s₀ s : List ℕ} {f : ℕ → ℕ → List ℕ} (w : Rewritten s₀ 
       key-kept =
           let k = low in
           pick-true (eq-eqb (view s .dstate u) 2 (unfold view in out)) _ _
-          ∙ ap (λ c. part (keyBytes * (u % 4)) keyBytes (view s .check c r)) (keeper-kept (u / 4) (omega arith))
-          ∙ ap (part (keyBytes * (u % 4)) keyBytes) (check-kept (keeper (view s₀) (u / 4)) r (omega (arith, recoverable-known (recipe .unit) .listed (recipe .out), recipe .unit .unit)) rank)
+          ∙ ap (λ c. part (keyBytes * (u % 4)) keyBytes (view s .check c r)) (first-check-kept (u / 4) (omega arith))
+          ∙ ap (part (keyBytes * (u % 4)) keyBytes) (check-kept (firstCheck (view s₀) (u / 4)) r (omega (arith, recoverable-known (recipe .unit) .listed (recipe .out), recipe .unit .unit)) rank)
           ∙ sym (pick-true (eq-eqb (view s₀ .dstate u) 2 (unfold view in recipe .out)) _ _)
 
       pub whole-kept : wholeSlot (view s) u r ≡ wholeSlot (view s₀) u r

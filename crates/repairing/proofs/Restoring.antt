@@ -15,13 +15,13 @@ use Rattle.group.specs.Members.{firstFour}
 use Rattle.model.specs.Layout.{Store, bytes, view}
 use Rattle.model.specs.LayoutLaws.{Shaped, Same, bytes-ext, bytes-view, view-shaped}
 use Rattle.model.specs.StoreLaws.{slots-shaped, slots-ext, slots-none, size-of, withSlots}
-use Rattle.model.specs.Reads.{servesIn, keeper, wholeSlot}
+use Rattle.model.specs.Reads.{servesIn, firstCheck, wholeSlot}
 use Rattle.lookup.specs.Groups.{Recoverable}
 use Rattle.lookup.specs.Slots.{Recipe, length-whole}
 use Rattle.repairing.specs.Groups.{Repairable}
 use Rattle.repairing.specs.Steps.{unitRebuilt, unitsRebuilt}
 use Rattle.repairing.proofs.Renewed.{renewed, renewed-none, renewed-more, renewed-own, renewed-off, length-renewed, renewed-by}
-use Rattle.repairing.proofs.Kept.{Rewritten, rewritten-seen, long-kept, byte-kept, sized-kept, beyond-kept, four-kept, keeper-kept, whole-kept}
+use Rattle.repairing.proofs.Kept.{Rewritten, rewritten-seen, long-kept, byte-kept, sized-kept, beyond-kept, four-kept, first-check-kept, whole-kept}
 
 -- a slot of a unit in service is whole as it stands
 whole-own : (v : Store) (u r : ℕ) → (v .dstate u ≡ 2 → ⊥) → wholeSlot v u r ≡ v .slot u r
@@ -90,10 +90,10 @@ module _ {s₀ : List ℕ} {g : ℕ} (h : Repairable s₀ g) where
         let place : g ≡ u / 4 = omega arith in
         e ∙ sym (four-kept standing g (h .group)) ∙ ap (λ k. firstFour (servesIn (view s) k)) place
 
-    pub restoring-keeper : (c : ℕ) → c ≡ keeper (view s₀) g → c ≡ keeper (view s) (u / 4)
-    restoring-keeper c e =
+    pub restoring-first-check : (c : ℕ) → c ≡ firstCheck (view s₀) g → c ≡ firstCheck (view s) (u / 4)
+    restoring-first-check c e =
         let place : g ≡ u / 4 = omega arith in
-        e ∙ sym (keeper-kept standing g (h .group)) ∙ ap (keeper (view s)) place
+        e ∙ sym (first-check-kept standing g (h .group)) ∙ ap (firstCheck (view s)) place
 
     state-read : byte s (8 + u) ≡ v .dstate u
     unfolding view

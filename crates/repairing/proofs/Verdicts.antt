@@ -7,15 +7,15 @@ use native.Mathlib.Omega.{arith}
 use lib.ListN.{getD}
 use borrow.Author.Tests.{ltb-false, not-false}
 use Rattle.model.specs.Layout.{view}
-use Rattle.model.specs.Reads.{keeper}
+use Rattle.model.specs.Reads.{firstCheck}
 use Rattle.model.specs.Numbers.{Call, repair, firstOf, refusalsIn}
 use Rattle.model.specs.PerformLaws.{none-holds}
-use Rattle.soundness.specs.Survey.{Surveyed, found-sound, keeper-found}
+use Rattle.soundness.specs.Survey.{Surveyed, found-sound, first-check-found}
 use Rattle.lookup.specs.Sized.{sound-sized}
 use Rattle.repairing.specs.Groups.{Repairable}
 
 -- no row holds, so the store is sound and the group is not beyond recovery
-module _ {s : List ℕ} {ok : Bool} {fills keepers outs : List ℕ} {g r : ℕ} (survey : Surveyed s ok fills keepers outs)
+module _ {s : List ℕ} {ok : Bool} {fills firstChecks outs : List ℕ} {g r : ℕ} (survey : Surveyed s ok fills firstChecks outs)
     (found : r ≡ firstOf (refusalsIn ok (view s) (Call.repair g))) (z : r ≡ 0) where
   pub repairable : Repairable s g × (ok ≡ true)
   unfolding refusalsIn
@@ -25,5 +25,5 @@ module _ {s : List ℕ} {ok : Bool} {fills keepers outs : List ℕ} {g r : ℕ} 
       (record { sized = sound-sized (found-sound survey good); group = omega (arith, ltb-false 3 g (rows .0)); whole = rows .1 .1 .1 .0 }, good)
 
   -- and the survey has found its first check unit in service, which the code reads at the index i
-  pub group-keeper : {i : ℕ} → i ≡ g → Repairable s g × (getD keepers i 0 ≡ keeper (view s) g)
-  group-keeper e = (repairable .0, ap (λ j. getD keepers j 0) e ∙ keeper-found survey (repairable .1) g (repairable .0 .group))
+  pub group-first-check : {i : ℕ} → i ≡ g → Repairable s g × (getD firstChecks i 0 ≡ firstCheck (view s) g)
+  group-first-check e = (repairable .0, ap (λ j. getD firstChecks j 0) e ∙ first-check-found survey (repairable .1) g (repairable .0 .group))

@@ -5,7 +5,7 @@ ghost use Prim.Native.Nat.{_+_, _*_, _<_};
 ghost use Rattle.field.specs.Table.{products};
 ghost use Rattle.group.specs.CheckRecord.{checkRecord};
 ghost use Rattle.model.specs.Layout.{bytes, view};
-ghost use Rattle.model.specs.Reads.{keeper as keeperIn};
+ghost use Rattle.model.specs.Reads.{firstCheck};
 ghost use Rattle.model.specs.Changes.{repaired};
 ghost use Rattle.model.specs.Numbers.{Call, repair, firstOf, refusalsIn};
 ghost use Rattle.model.specs.Perform.{outcome, plain, perform};
@@ -38,9 +38,9 @@ fn rebuild_unit(
     }
 }
 
-// Rebuilds the data units of group g that are out, from the first four members in service. The first check unit in service, keeper, lists their keys.
-fn rebuild_units(s: &mut [u8], g: u8, keeper: u8, table: &[u8; 256])
-    requires { ⌜ Repairable (now s) g × (now table ≡ products) × (keeper ≡ keeperIn (view (now s)) g) ⌝ }
+// Rebuilds the data units of group g that are out, from the first four members in service. The first check unit in service, first_check, lists their keys.
+fn rebuild_units(s: &mut [u8], g: u8, first_check: u8, table: &[u8; 256])
+    requires { ⌜ Repairable (now s) g × (now table ≡ products) × («first_check» ≡ firstCheck (view (now s)) g) ⌝ }
     ensures { λ _. ⌜ now (s .exit) ≡ bytes (unitsRebuilt (view (now (s .entry))) g) ⌝ }
 {
     let members = lookup::members(s, g);
@@ -49,7 +49,7 @@ fn rebuild_units(s: &mut [u8], g: u8, keeper: u8, table: &[u8; 256])
         let u = 4 * g + p;
         if lookup::state(s, u) == 2 {
             let weights = lookup::weights(s, u, members, table);
-            let keys = lookup::keys_at(s, u, keeper);
+            let keys = lookup::keys_at(s, u, first_check);
             rebuild_unit(s, u, keys, members, weights, table);
         }
         p += 1;
@@ -130,20 +130,20 @@ fn serve_units(s: &mut [u8], g: u8)
     put_in_service(&mut s[checks_at..checks_at + 3]);
 }
 
-// Repairs group g, which is not beyond recovery and has keeper for its first check unit in service.
-fn repair_group(s: &mut [u8], g: u8, keeper: u8)
-    requires { ⌜ Repairable (now s) g × (keeper ≡ keeperIn (view (now s)) g) ⌝ }
+// Repairs group g, which is not beyond recovery and has first_check for its first check unit in service.
+fn repair_group(s: &mut [u8], g: u8, first_check: u8)
+    requires { ⌜ Repairable (now s) g × («first_check» ≡ firstCheck (view (now s)) g) ⌝ }
     ensures { λ _. ⌜ now (s .exit) ≡ bytes (repaired (view (now (s .entry))) g) ⌝ }
 {
     let table = group::table();
-    rebuild_units(s, g, keeper, &table);
+    rebuild_units(s, g, first_check, &table);
     make_units(s, g, &table);
     serve_units(s, g);
 }
 
 // The number of a repair, by the survey of the store.
 fn repair_number(s: &[u8], survey: soundness::Survey, group: u32) -> u8
-    requires { ⌜ Surveyed (now s) (survey .sound) (survey .fills) (survey .keepers) (survey .outs) ⌝ }
+    requires { ⌜ Surveyed (now s) (survey .sound) (survey .fills) (survey .«first_checks») (survey .outs) ⌝ }
     ensures { λ r. ⌜ r ≡ firstOf (refusalsIn (survey .sound) (view (now (s .entry))) (Call.repair group)) ⌝ }
 {
     let above = 3 < group;
@@ -175,7 +175,7 @@ pub fn repair(s: &mut [u8], group: u32) -> u8
         return number;
     }
     let g = group as u8;
-    let keepers = survey.keepers;
-    repair_group(s, g, keepers[buffer::wide(g)]);
+    let first_checks = survey.first_checks;
+    repair_group(s, g, first_checks[buffer::wide(g)]);
     0
 }

@@ -13,7 +13,7 @@ use Rattle.buffer.specs.TestLaws.{and-true, and-first, and-second, or-else}
 use Rattle.buffer.specs.RangeLaws.{below-four, all-true, all-holds}
 use Rattle.buffer.specs.Bytes.{byte, be32, zeros}
 use Rattle.model.specs.Layout.{view, checkAt}
-use Rattle.model.specs.Reads.{keeper}
+use Rattle.model.specs.Reads.{firstCheck}
 use Rattle.model.specs.Sound.{same}
 use Rattle.buffer.specs.Strided.{strided32}
 use Rattle.soundness.specs.Keys.{samePair, sameLists}
@@ -27,7 +27,7 @@ checkKey s c p r = strided32 s (checkAt (byte s 5) c 0 + 4 * p) 32 r
 
 pub record Check (s : List ℕ) (c : ℕ) : Type 0 where
   pub zero : (r : ℕ) → r < byte s 5 → (eqb (byte s (24 + c)) 1 || same (view s .check c r) (zeros 32)) ≡ true
-  pub lists : byte s (24 + c) ≡ 1 → (r : ℕ) → r < byte s 5 → (p : ℕ) → p < 4 → checkKey s c p r ≡ checkKey s (keeper (view s) (c / 3)) p r
+  pub lists : byte s (24 + c) ≡ 1 → (r : ℕ) → r < byte s 5 → (p : ℕ) → p < 4 → checkKey s c p r ≡ checkKey s (firstCheck (view s) (c / 3)) p r
 
 -- the four keys of each record, pair by pair
 module _ (s : List ℕ) (x y b : ℕ) where
@@ -77,7 +77,7 @@ module _ (s : List ℕ) (ok : Ranged s) (c : ℕ) (low : c < 12) where
   good-check =
       by-test
       (λ t.
-      pick t (eqb (keeper (view s) (c / 3)) c || sameLists s (checkAt (byte s 5) (keeper (view s) (c / 3)) 0) (checkAt (byte s 5) c 0) (byte s 5)) (zeroBetween s (checkAt (byte s 5) c 0) (checkAt (byte s 5) c 0 + 32 * byte s 5)) ≡ true
+      pick t (eqb (firstCheck (view s) (c / 3)) c || sameLists s (checkAt (byte s 5) (firstCheck (view s) (c / 3)) 0) (checkAt (byte s 5) c 0) (byte s 5)) (zeroBetween s (checkAt (byte s 5) c 0) (checkAt (byte s 5) c 0 + 32 * byte s 5)) ≡ true
       → Check s c)
       (eqb (byte s (24 + c)) 1)
       (λ e h. record { zero = λ r l. rw e; lists = λ _. alike h })
@@ -87,14 +87,14 @@ module _ (s : List ℕ) (ok : Ranged s) (c : ℕ) (low : c < 12) where
         lists = λ q. absurd (eqb-false _ _ e q);
       })
     where
-      alike : (eqb (keeper (view s) (c / 3)) c || sameLists s (checkAt (byte s 5) (keeper (view s) (c / 3)) 0) (checkAt (byte s 5) c 0) (byte s 5)) ≡ true
-          → (r : ℕ) → r < byte s 5 → (p : ℕ) → p < 4 → checkKey s c p r ≡ checkKey s (keeper (view s) (c / 3)) p r
+      alike : (eqb (firstCheck (view s) (c / 3)) c || sameLists s (checkAt (byte s 5) (firstCheck (view s) (c / 3)) 0) (checkAt (byte s 5) c 0) (byte s 5)) ≡ true
+          → (r : ℕ) → r < byte s 5 → (p : ℕ) → p < 4 → checkKey s c p r ≡ checkKey s (firstCheck (view s) (c / 3)) p r
       alike =
           by-test
           (λ t.
-          (t || sameLists s (checkAt (byte s 5) (keeper (view s) (c / 3)) 0) (checkAt (byte s 5) c 0) (byte s 5)) ≡ true
-          → (r : ℕ) → r < byte s 5 → (p : ℕ) → p < 4 → checkKey s c p r ≡ checkKey s (keeper (view s) (c / 3)) p r)
-          (eqb (keeper (view s) (c / 3)) c)
+          (t || sameLists s (checkAt (byte s 5) (firstCheck (view s) (c / 3)) 0) (checkAt (byte s 5) c 0) (byte s 5)) ≡ true
+          → (r : ℕ) → r < byte s 5 → (p : ℕ) → p < 4 → checkKey s c p r ≡ checkKey s (firstCheck (view s) (c / 3)) p r)
+          (eqb (firstCheck (view s) (c / 3)) c)
           (λ e _ r l p k. ap (λ d. checkKey s d p r) (sym (eqb-true _ _ e)))
           (λ _ h r l p k. sym (unfold Four in lists-true s _ _ (byte s 5) h r l p k))
 
@@ -104,8 +104,8 @@ module _ (s : List ℕ) (ok : Ranged s) (c : ℕ) (low : c < 12) where
       by-test
       (λ t.
       eqb (byte s (24 + c)) 1 ≡ t
-      → pick t (eqb (keeper (view s) (c / 3)) c || sameLists s (checkAt (byte s 5) (keeper (view s) (c / 3)) 0) (checkAt (byte s 5) c 0) (byte s 5)) (zeroBetween s (checkAt (byte s 5) c 0) (checkAt (byte s 5) c 0 + 32 * byte s 5)) ≡ true)
+      → pick t (eqb (firstCheck (view s) (c / 3)) c || sameLists s (checkAt (byte s 5) (firstCheck (view s) (c / 3)) 0) (checkAt (byte s 5) c 0) (byte s 5)) (zeroBetween s (checkAt (byte s 5) c 0) (checkAt (byte s 5) c 0 + 32 * byte s 5)) ≡ true)
       (eqb (byte s (24 + c)) 1)
-      (λ _ e. or-else (eqb (keeper (view s) (c / 3)) c) _ (λ _. unfold Four in lists-holds s _ _ (byte s 5) (λ r l p k. sym (g .lists (eqb-true _ _ e) r l p k))))
+      (λ _ e. or-else (eqb (firstCheck (view s) (c / 3)) c) _ (λ _. unfold Four in lists-holds s _ _ (byte s 5) (λ r l p k. sym (g .lists (eqb-true _ _ e) r l p k))))
       (λ _ e. range-zero s _ _ (omega arith) fits (zero-checks s c fits (λ r l. rw e at (g .zero r l))))
       refl

@@ -14,7 +14,7 @@ use Rattle.buffer.specs.RangeLaws.{getD-entries, first-le, first-le-at, count-e
 use Rattle.buffer.specs.Bytes.{byte}
 use Rattle.group.specs.Members.{outs}
 use Rattle.model.specs.Layout.{view, slotAt, checkAt}
-use Rattle.model.specs.Reads.{keeper, outsIn}
+use Rattle.model.specs.Reads.{firstCheck, outsIn}
 use Rattle.lookup.specs.Keys.{keysAt}
 use Rattle.buffer.specs.Strided.{strided32}
 use Rattle.soundness.specs.Keys.{fillOf, reached, sameKeys, noKeys, sameLists}
@@ -28,10 +28,10 @@ reached-le b m u key e l =
     rw e (by-pick (λ x. x ≤ 64 → x ≤ b) _ (first b (λ r. eqb (key r) 0)) 65 (λ _ _. first-le b (λ r. eqb (key r) 0)) (λ _ k. absurd (omega arith)) (rw e at l))
 
 -- ---- the first check unit in service of a group, as the code reads it at an index i of all four
-pub kept-at : {s keepers : List ℕ} {i : ℕ} (g : ℕ) → keepers ≡ entries 4 (keeper (view s)) → i ≡ g → g < 4 → Kept s g (getD keepers i 0)
-kept-at {s} {keepers} {i} g h e l =
-    let found : getD keepers i 0 ≡ keeper (view s) g = ap₂ (λ x j. getD x j 0) h e ∙ getD-entries 4 (keeper (view s)) g 0 l in
-    let most : keeper (view s) g ≤ 3 * g + 3 = unfold keeper view in omega (arith, first-le 3 (λ j. eqb (byte s (24 + (3 * g + j))) 1)) in
+pub kept-at : {s firstChecks : List ℕ} {i : ℕ} (g : ℕ) → firstChecks ≡ entries 4 (firstCheck (view s)) → i ≡ g → g < 4 → Kept s g (getD firstChecks i 0)
+kept-at {s} {firstChecks} {i} g h e l =
+    let found : getD firstChecks i 0 ≡ firstCheck (view s) g = ap₂ (λ x j. getD x j 0) h e ∙ getD-entries 4 (firstCheck (view s)) g 0 l in
+    let most : firstCheck (view s) g ≤ 3 * g + 3 = unfold firstCheck view in omega (arith, first-le 3 (λ j. eqb (byte s (24 + (3 * g + j))) 1)) in
     record { found = found; most = omega arith }
 
 -- the units out of a group: four states from 8 + 4g on, three from 24 + 3g on
@@ -45,18 +45,18 @@ group-outs s g e f h =
     (h ∙ count-ext 3 _ _ (λ i _. ap (λ j. eqb (byte s j) 2) (omega arith)))
 
 -- ---- whether a check unit of the group is in service
-pub is-unkept : (s : List ℕ) (g : ℕ) {k : ℕ} → k ≡ keeper (view s) g → k ≡ 3 * g + 3 → unkept s g ≡ true
+pub is-unkept : (s : List ℕ) (g : ℕ) {k : ℕ} → k ≡ firstCheck (view s) g → k ≡ 3 * g + 3 → unkept s g ≡ true
 unfolding unkept
 is-unkept s g e f = eq-eqb _ _ (sym e ∙ f)
 
-pub is-kept : (s : List ℕ) (g : ℕ) {k : ℕ} → k ≡ keeper (view s) g → (k ≡ 3 * g + 3 → ⊥) → unkept s g ≡ false
+pub is-kept : (s : List ℕ) (g : ℕ) {k : ℕ} → k ≡ firstCheck (view s) g → (k ≡ 3 * g + 3 → ⊥) → unkept s g ≡ false
 unfolding unkept
 is-kept s g e f = ne-eqb _ _ (λ h. f (e ∙ h))
 
--- a check unit in service has a keeper, at its own place or before
-pub keeper-before : (s : List ℕ) (c : ℕ) → byte s (24 + c) ≡ 1 → keeper (view s) (c / 3) ≤ c
-unfolding keeper view
-keeper-before s c e =
+-- a check unit in service has a firstCheck, at its own place or before
+pub first-check-before : (s : List ℕ) (c : ℕ) → byte s (24 + c) ≡ 1 → firstCheck (view s) (c / 3) ≤ c
+unfolding firstCheck view
+first-check-before s c e =
     let q : 3 * (c / 3) + c % 3 ≡ c = omega arith in
     let h : first 3 (λ j. eqb (byte s (24 + (3 * (c / 3) + j))) 1) ≤ c % 3 =
     first-le-at 3 (λ j. eqb (byte s (24 + (3 * (c / 3) + j))) 1) (c % 3) (omega arith) (eq-eqb _ _ (ap (λ i. byte s (24 + i)) q ∙ e)) in
@@ -96,9 +96,9 @@ module _ (s : List ℕ) (c : ℕ) {w at : ℕ} (width : w ≡ byte s 5) (place :
   pub check-unit-zero : {r : Bool} → r ≡ zeroBetween s at (at + 32 * w) → r ≡ zeroBetween s (checkAt (byte s 5) c 0) (checkAt (byte s 5) c 0 + 32 * byte s 5)
   check-unit-zero h = h ∙ ap₂ (zeroBetween s) place (ap₂ (λ a b. a + 32 * b) place width)
 
-  pub check-unit-same : {r : Bool} {k to : ℕ} → k ≡ keeper (view s) (c / 3) → to ≡ checkAt (byte s 5) k 0 → r ≡ sameLists s to at w
-      → r ≡ sameLists s (checkAt (byte s 5) (keeper (view s) (c / 3)) 0) (checkAt (byte s 5) c 0) (byte s 5)
+  pub check-unit-same : {r : Bool} {k to : ℕ} → k ≡ firstCheck (view s) (c / 3) → to ≡ checkAt (byte s 5) k 0 → r ≡ sameLists s to at w
+      → r ≡ sameLists s (checkAt (byte s 5) (firstCheck (view s) (c / 3)) 0) (checkAt (byte s 5) c 0) (byte s 5)
   check-unit-same e f h =
       h
       ∙ ap₂ (λ x y. sameLists s x y w) (f ∙ ap (λ i. checkAt (byte s 5) i 0) e) place
-      ∙ ap (sameLists s (checkAt (byte s 5) (keeper (view s) (c / 3)) 0) (checkAt (byte s 5) c 0)) width
+      ∙ ap (sameLists s (checkAt (byte s 5) (firstCheck (view s) (c / 3)) 0) (checkAt (byte s 5) c 0)) width

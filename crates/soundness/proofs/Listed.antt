@@ -9,7 +9,7 @@ use Rattle.buffer.specs.Bytes.{byte, be32, part}
 use Rattle.buffer.specs.ByteLaws.{be32-part}
 use Rattle.model.specs.Layout.{view, keyOf, checkAt}
 use Rattle.model.specs.LayoutLaws.{key-first}
-use Rattle.model.specs.Reads.{keeper, listedKey}
+use Rattle.model.specs.Reads.{firstCheck, listedKey}
 use Rattle.lookup.specs.Keys.{unit-key}
 use Rattle.buffer.specs.Strided.{strided32}
 use Rattle.soundness.specs.Pieces.{dataKeys, columnKeys}
@@ -36,4 +36,4 @@ module _ (s : List ℕ) where
 
   pub listed-out : (u : ℕ) → byte s (8 + u) ≡ 2 → (λ r. keyOf (listedKey (view s) u r)) ≡ columnKeys s u
   unfolding listedKey view columnKeys
-  listed-out u h = fun-ext (λ r. ap keyOf (pick-true (eq-eqb (byte s (8 + u)) 2 h) _ _) ∙ check-key (keeper (view s) (u / 4)) (u % 4) r (omega arith))
+  listed-out u h = fun-ext (λ r. ap keyOf (pick-true (eq-eqb (byte s (8 + u)) 2 h) _ _) ∙ check-key (firstCheck (view s) (u / 4)) (u % 4) r (omega arith))

@@ -7,7 +7,7 @@ use native.Mathlib.Omega.{arith}
 use lib.ListN.{length}
 use Rattle.buffer.specs.Bytes.{byte}
 use Rattle.model.specs.Layout.{view, slotAt, checkAt}
-use Rattle.model.specs.Reads.{keeper}
+use Rattle.model.specs.Reads.{firstCheck}
 use Rattle.lookup.specs.Keys.{keysAt}
 use Rattle.buffer.specs.Strided.{strided32, Within}
 use Rattle.soundness.specs.Pieces.{dataKeys, columnKeys}
@@ -24,7 +24,7 @@ pub within-column : {s : List ℕ} {b : ℕ} (at p : ℕ) → p < 4 → at + 32 
 within-column at p q l = record { fits = λ r k. omega arith }
 
 -- the places that the code computes, as those of the definitions
-pub column-place : (s : List ℕ) (u : ℕ) {k at p : ℕ} → k ≡ keeper (view s) (u / 4) → at ≡ checkAt (byte s 5) k 0 → p ≡ u % 4 → at + 4 * p ≡ keysAt s u
+pub column-place : (s : List ℕ) (u : ℕ) {k at p : ℕ} → k ≡ firstCheck (view s) (u / 4) → at ≡ checkAt (byte s 5) k 0 → p ≡ u % 4 → at + 4 * p ≡ keysAt s u
 column-place s u {k} {at} {p} e f g = ap₂ (λ x y. x + 4 * y) (f ∙ ap (λ c. checkAt (byte s 5) c 0) e) g
 
 pub column-list : (s : List ℕ) (u : ℕ) {at : ℕ} → at ≡ keysAt s u → strided32 s at 32 ≡ columnKeys s u

@@ -12,7 +12,7 @@ use Rattle.buffer.specs.Loops.{entries}
 use Rattle.buffer.specs.RangeLaws.{all-true, entries-ext}
 use Rattle.buffer.specs.Bytes.{byte}
 use Rattle.model.specs.Layout.{view}
-use Rattle.model.specs.Reads.{keeper, outsIn}
+use Rattle.model.specs.Reads.{firstCheck, outsIn}
 use Rattle.model.specs.Sound.{ranges}
 use Rattle.soundness.specs.Pieces.{placed, groupPlaced, unitGood, unitFill, unitCount, checkGood, pieces}
 use Rattle.soundness.specs.Survey.{knownFill, Counted, Nothing, Surveyed}
@@ -54,18 +54,18 @@ pub not-counted : {s : List ℕ} {ok : Bool} {fills : List ℕ} → ok ≡ false
 not-counted {s} e f h = record { tested = e ∙ h; filled = none-known 16 (unitFill s) e f }
 
 -- ---- the whole test
-module _ {s fills keepers outs : List ℕ} where
-  pub not-sound : {ok : Bool} → Nothing ok fills keepers outs → false ≡ pieces s → Surveyed s ok fills keepers outs
+module _ {s fills firstChecks outs : List ℕ} where
+  pub not-sound : {ok : Bool} → Nothing ok fills firstChecks outs → false ≡ pieces s → Surveyed s ok fills firstChecks outs
   not-sound n h =
       record {
         tested = n .unsound ∙ h ∙ pieces-sound s;
         filled = none-known 16 (knownFill (view s)) (n .unsound) (n .uncounted);
-        kept = none-known 4 (keeper (view s)) (n .unsound) (n .unkept);
+        kept = none-known 4 (firstCheck (view s)) (n .unsound) (n .unkept);
         out = none-known 4 (outsIn (view s)) (n .unsound) (n .unknown);
       }
 
   pub surveyed : {good : Bool} → ranges s ≡ true → all 16 (λ u. placed (ltb u (byte s 6)) (byte s (8 + u))) ≡ true → all 4 (groupPlaced s) ≡ true → Counted s good fills → good ≡ true → all 12 (checkGood s) ≡ true
-      → keepers ≡ entries 4 (keeper (view s)) → outs ≡ entries 4 (outsIn (view s)) → Surveyed s true fills keepers outs
+      → firstChecks ≡ entries 4 (firstCheck (view s)) → outs ≡ entries 4 (outsIn (view s)) → Surveyed s true fills firstChecks outs
   unfolding pieces
   surveyed {good} range states groups found e checks kept out =
       let units : all 16 (unitGood s) ≡ true = sym (found .tested) ∙ e in
@@ -78,6 +78,6 @@ module _ {s fills keepers outs : List ℕ} where
             ap₂ (λ t n. pick t n 0)
             e
             (good-fill s (ranged s range) u l (all-true 16 (λ u. placed (ltb u (byte s 6)) (byte s (8 + u))) states u l) (all-true 16 (unitGood s) units u l)));
-        kept = all-known 4 (keeper (view s)) refl kept;
+        kept = all-known 4 (firstCheck (view s)) refl kept;
         out = all-known 4 (outsIn (view s)) refl out;
       }

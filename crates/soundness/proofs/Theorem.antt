@@ -13,14 +13,14 @@ use Rattle.buffer.specs.Range.{all, first}
 use Rattle.buffer.specs.RangeLaws.{all-true, all-holds, first-le, first-holds}
 use Rattle.buffer.specs.Bytes.{byte, part, zeros}
 use Rattle.model.specs.Layout.{view, keyOf, unitsIn, levelIn, checkAt}
-use Rattle.model.specs.Reads.{fillIn, keeper, listedKey, listedFill}
+use Rattle.model.specs.Reads.{fillIn, firstCheck, listedKey, listedFill}
 use Rattle.model.specs.SoundSays.{in-range}
 use Rattle.model.specs.Sound.{same, ranges, unitsPlaced, groupsPlaced, zeroed, keysKnown, keysPlaced, listsAgree, sound}
 use Rattle.buffer.specs.Strided.{strided32}
 use Rattle.soundness.specs.Keys.{fillOf, isNew, ownAndNew}
 use Rattle.soundness.specs.Pieces.{Ranged, placed, groupPlaced, columnKeys, unkept, unitGood, checkGood, pieces}
 use Rattle.soundness.proofs.Joined.{and-assoc}
-use Rattle.soundness.proofs.Endings.{keeper-before}
+use Rattle.soundness.proofs.Endings.{first-check-before}
 use Rattle.soundness.proofs.Listed.{check-key}
 use Rattle.soundness.proofs.Good.{keysGood}
 use Rattle.soundness.proofs.UnitClauses.{Unit, good-unit, unit-good}
@@ -53,12 +53,12 @@ ranged s h =
 -- ---- the clauses about each unit, and the clauses of soundness
 module _ (s : List ℕ) where
   -- a place of a group, and the unit that stands there
-  place-column : (g p r : ℕ) → g < 4 → p < 4 → columnKeys s (4 * g + p) r ≡ checkKey s (keeper (view s) g) p r
+  place-column : (g p r : ℕ) → g < 4 → p < 4 → columnKeys s (4 * g + p) r ≡ checkKey s (firstCheck (view s) g) p r
   unfolding columnKeys
   place-column g p r h k =
       let e : (4 * g + p) / 4 ≡ g = omega arith in
       let f : (4 * g + p) % 4 ≡ p = omega arith in
-      ap₂ (λ i j. strided32 s (checkAt (byte s 5) (keeper (view s) i) 0 + 4 * j) 32 r) e f
+      ap₂ (λ i j. strided32 s (checkAt (byte s 5) (firstCheck (view s) i) 0 + 4 * j) 32 r) e f
 
   -- check unit c in service lists, for each place of its group, the keys of the unit there
   abbrev Agree : ℕ → Type 0
@@ -87,10 +87,10 @@ module _ (s : List ℕ) where
       all-holds (byte s 5) (λ r. all 4 (test c r)) (λ r k.
       all-holds 4 (test c r) (λ p q. eq-eqb _ _ (check-key s c p r q ∙ h c l (eqb-true _ _ (not-false (eqb (byte s (24 + c)) 1) e)) r k p q)))))
 
-  -- comparing each check unit with the keeper, and the keeper with the units, compares each check unit with the units
+  -- comparing each check unit with the firstCheck, and the firstCheck with the units, compares each check unit with the units
   kept : (c : ℕ) → byte s (24 + c) ≡ 1 → unkept s (c / 3) ≡ false
   unfolding unkept
-  kept c e = let l : keeper (view s) (c / 3) ≤ c = keeper-before s c e in ne-eqb (keeper (view s) (c / 3)) (3 * (c / 3) + 3) (λ q. omega arith)
+  kept c e = let l : firstCheck (view s) (c / 3) ≤ c = first-check-before s c e in ne-eqb (firstCheck (view s) (c / 3)) (3 * (c / 3) + 3) (λ q. omega arith)
 
   agree-from : ((u : ℕ) → u < 16 → Unit s u) → ((c : ℕ) → c < 12 → Check s c) → (c : ℕ) → c < 12 → Agree c
   agree-from us cs c l e r k p q =
@@ -99,21 +99,21 @@ module _ (s : List ℕ) where
       ∙ sym (place-column (c / 3) p r (omega arith) q)
       ∙ us (4 * (c / 3) + p) (omega arith) .lists (ap (unkept s) g ∙ kept c e) r k
 
-  -- the keeper of a group in which a check unit is in service
-  keeper-serves : (g : ℕ) → unkept s g ≡ false → (keeper (view s) g < 3 * g + 3) × (3 * g ≤ keeper (view s) g) × (byte s (24 + keeper (view s) g) ≡ 1)
-  unfolding unkept keeper view
-  keeper-serves g h =
+  -- the firstCheck of a group in which a check unit is in service
+  first-check-serves : (g : ℕ) → unkept s g ≡ false → (firstCheck (view s) g < 3 * g + 3) × (3 * g ≤ firstCheck (view s) g) × (byte s (24 + firstCheck (view s) g) ≡ 1)
+  unfolding unkept firstCheck view
+  first-check-serves g h =
       let p : ℕ → Bool = λ j. eqb (byte s (24 + (3 * g + j))) 1 in
       let n : ℕ = first 3 p in
       let w : n ≤ 3 = first-le 3 p in
       let l : n < 3 = by-test (λ _. n < 3) (ltb n 3) (λ e. ltb-true n 3 e) (λ e. absurd (eqb-false (3 * g + n) (3 * g + 3) h (let v : 3 ≤ n = ltb-false n 3 e in omega arith))) in
       (omega arith, omega arith, eqb-true _ _ (first-holds 3 p l))
 
-  keeper-agrees : ((c : ℕ) → c < 12 → Agree c) → (g : ℕ) → g < 4 → unkept s g ≡ false → (r : ℕ) → r < byte s 5 → (p : ℕ) → p < 4
-      → checkKey s (keeper (view s) g) p r ≡ keyOf (listedKey (view s) (4 * g + p) r)
-  keeper-agrees h g l e r k p q =
-      let c : ℕ = keeper (view s) g in
-      let w = keeper-serves g e in
+  first-check-agrees : ((c : ℕ) → c < 12 → Agree c) → (g : ℕ) → g < 4 → unkept s g ≡ false → (r : ℕ) → r < byte s 5 → (p : ℕ) → p < 4
+      → checkKey s (firstCheck (view s) g) p r ≡ keyOf (listedKey (view s) (4 * g + p) r)
+  first-check-agrees h g l e r k p q =
+      let c : ℕ = firstCheck (view s) g in
+      let w = first-check-serves g e in
       let f : c / 3 ≡ g = omega arith in
       h c (omega arith) (w .2) r k p q ∙ ap (λ i. keyOf (listedKey (view s) (4 * i + p) r)) f
 
@@ -165,13 +165,13 @@ module _ (s : List ℕ) where
               let same : 4 * (u / 4) + u % 4 ≡ u = omega arith in
               ap (λ v. columnKeys s v r) (sym same)
               ∙ place-column (u / 4) (u % 4) r (omega arith) (omega arith)
-              ∙ keeper-agrees a (u / 4) (omega arith) e r w (u % 4) (omega arith)
+              ∙ first-check-agrees a (u / 4) (omega arith) e r w (u % 4) (omega arith)
               ∙ ap (λ v. keyOf (listedKey (view s) v r)) same;
         })))
         (all-holds 12 (checkGood s) (λ c l.
         check-good s ok c l (record {
           zero = all-true (byte s 5) _ (all-true 12 checksZero (and-second (all 16 slotsZero) _ z) c l);
-          lists = λ e r w p q. a c l e r w p q ∙ sym (keeper-agrees a (c / 3) (omega arith) (kept c e) r w p q);
+          lists = λ e r w p q. a c l e r w p q ∙ sym (first-check-agrees a (c / 3) (omega arith) (kept c e) r w p q);
         })))
 
     pieces-clauses : (all 16 (unitGood s) && all 12 (checkGood s)) ≡ (zeroed (view s) && keysPlaced (view s) && listsAgree (view s))

@@ -14,7 +14,7 @@ use Rattle.buffer.specs.Range.{all, first}
 use Rattle.buffer.specs.RangeLaws.{all-true, all-holds, first-ext, first-none, first-misses}
 use Rattle.buffer.specs.Bytes.{byte, be32, zeros}
 use Rattle.model.specs.Layout.{view, keyOf, slotAt}
-use Rattle.model.specs.Reads.{fillIn, keeper, listedKey, listedFill}
+use Rattle.model.specs.Reads.{fillIn, firstCheck, listedKey, listedFill}
 use Rattle.model.specs.Sound.{same, keysKnown}
 use Rattle.buffer.specs.Strided.{strided32}
 use Rattle.soundness.specs.Keys.{fillOf, ownAndNew, reached, sameKeys, noKeys}
@@ -57,7 +57,7 @@ module _ (s : List ℕ) (u : ℕ) where
   known-absent e = rw e
 
   none-kept : all 3 (λ j. not (eqb (byte s (24 + (3 * (u / 4) + j))) 1)) ≡ unkept s (u / 4)
-  unfolding unkept keeper view
+  unfolding unkept firstCheck view
   none-kept =
       same-test
       (all 3 (λ j. not (p j)))

@@ -11,7 +11,7 @@ use Rattle.buffer.specs.Range.{all}
 use Rattle.buffer.specs.Bytes.{byte, part}
 use Rattle.buffer.specs.Loops.{allZero}
 use Rattle.model.specs.Layout.{view, storeBytes, slotAt, checkAt}
-use Rattle.model.specs.Reads.{keeper}
+use Rattle.model.specs.Reads.{firstCheck}
 use Rattle.model.specs.Sound.{ranges, checksIn, checksAllowed}
 use Rattle.buffer.specs.Strided.{strided32}
 use Rattle.lookup.specs.Keys.{keysAt}
@@ -26,7 +26,7 @@ pub record Ranged (s : List ℕ) : Type 0 where
 
 -- k is the first check unit in service of group g, or 3g + 3
 pub record Kept (s : List ℕ) (g k : ℕ) : Type 0 where
-  pub found : k ≡ keeper (view s) g
+  pub found : k ≡ firstCheck (view s) g
   pub most : k ≤ 3 * g + 3
 
 -- the bytes from a place up to an end are zero
@@ -53,7 +53,7 @@ columnKeys s u = strided32 s (keysAt s u) 32
 
 -- no check unit of the group is in service
 unfoldable pub unkept : List ℕ → ℕ → Bool
-unkept s g = eqb (keeper (view s) g) (3 * g + 3)
+unkept s g = eqb (firstCheck (view s) g) (3 * g + 3)
 
 unfoldable pub dataFill : List ℕ → ℕ → ℕ
 dataFill s u = reached (byte s 5) (byte s 6) u (dataKeys s u)
@@ -99,7 +99,7 @@ unfoldable pub checkGood : List ℕ → ℕ → Bool
 checkGood s c =
     pick
     (eqb (byte s (24 + c)) 1)
-    (eqb (keeper (view s) (c / 3)) c || sameLists s (checkAt (byte s 5) (keeper (view s) (c / 3)) 0) (checkAt (byte s 5) c 0) (byte s 5))
+    (eqb (firstCheck (view s) (c / 3)) c || sameLists s (checkAt (byte s 5) (firstCheck (view s) (c / 3)) 0) (checkAt (byte s 5) c 0) (byte s 5))
     (zeroBetween s (checkAt (byte s 5) c 0) (checkAt (byte s 5) c 0 + 32 * byte s 5))
 
 unfoldable pub pieces : List ℕ → Bool

@@ -14,13 +14,13 @@ use Rattle.buffer.specs.Loops.{entries}
 use Rattle.buffer.specs.RangeLaws.{getD-entries, first-le}
 use Rattle.buffer.specs.Bytes.{byte}
 use Rattle.model.specs.Layout.{Store, view, keyOf}
-use Rattle.model.specs.Reads.{keeper, outsIn, listedKey, listedFill}
+use Rattle.model.specs.Reads.{firstCheck, outsIn, listedKey, listedFill}
 use Rattle.model.specs.Sound.{sound}
 use Rattle.soundness.specs.Pieces.{unitGood, unitFill}
 
 -- the keys of a unit are lost: it is out, and no check unit of its group is in service
 unfoldable pub keysLost : Store → ℕ → Bool
-keysLost v u = eqb (v .dstate u) 2 && eqb (keeper v (u / 4)) (3 * (u / 4) + 3)
+keysLost v u = eqb (v .dstate u) 2 && eqb (firstCheck v (u / 4)) (3 * (u / 4) + 3)
 
 -- how many keys are listed for a unit; none where they are lost
 unfoldable pub knownFill : Store → ℕ → ℕ
@@ -32,48 +32,48 @@ pub record Counted (s : List ℕ) (good : Bool) (fills : List ℕ) : Type 0 wher
   pub filled : fills ≡ entries 16 (λ u. pick good (unitFill s u) 0)
 
 -- what is handed on of a store that is not sound
-pub record Nothing (ok : Bool) (fills keepers outs : List ℕ) : Type 0 where
+pub record Nothing (ok : Bool) (fills firstChecks outs : List ℕ) : Type 0 where
   pub unsound : ok ≡ false
   pub uncounted : fills ≡ entries 16 (λ _. 0)
-  pub unkept : keepers ≡ entries 4 (λ _. 0)
+  pub unkept : firstChecks ≡ entries 4 (λ _. 0)
   pub unknown : outs ≡ entries 4 (λ _. 0)
 
 -- the store is sound, the keys that are listed for each data unit are counted, and for each group the first check unit in service is found and
 -- the units out are counted; where it is not sound, nothing is
-pub record Surveyed (s : List ℕ) (ok : Bool) (fills keepers outs : List ℕ) : Type 0 where
+pub record Surveyed (s : List ℕ) (ok : Bool) (fills firstChecks outs : List ℕ) : Type 0 where
   pub tested : ok ≡ sound s
   pub filled : fills ≡ entries 16 (λ u. pick ok (knownFill (view s) u) 0)
-  pub kept : keepers ≡ entries 4 (λ g. pick ok (keeper (view s) g) 0)
+  pub kept : firstChecks ≡ entries 4 (λ g. pick ok (firstCheck (view s) g) 0)
   pub out : outs ≡ entries 4 (λ g. pick ok (outsIn (view s) g) 0)
 
-pub found-sound : {s : List ℕ} {ok : Bool} {fills keepers outs : List ℕ} → Surveyed s ok fills keepers outs → ok ≡ true → sound s ≡ true
+pub found-sound : {s : List ℕ} {ok : Bool} {fills firstChecks outs : List ℕ} → Surveyed s ok fills firstChecks outs → ok ≡ true → sound s ≡ true
 found-sound g e = sym (g .tested) ∙ e
 
 -- an entry for each group of a sound store
 group-entry : (l : List ℕ) (ok : Bool) (f : ℕ → ℕ) → l ≡ entries 4 (λ g. pick ok (f g) 0) → ok ≡ true → (g : ℕ) → g < 4 → getD l g 0 ≡ f g
 group-entry l ok f h e g k = ap (λ x. getD x g 0) h ∙ getD-entries 4 (λ g. pick ok (f g) 0) g 0 k ∙ pick-true e (f g) 0
 
-pub keeper-found : {s : List ℕ} {ok : Bool} {fills keepers outs : List ℕ} → Surveyed s ok fills keepers outs → ok ≡ true → (g : ℕ) → g < 4 → getD keepers g 0 ≡ keeper (view s) g
-keeper-found {s} {ok} {keepers = l} h = group-entry l ok (keeper (view s)) (h .kept)
+pub first-check-found : {s : List ℕ} {ok : Bool} {fills firstChecks outs : List ℕ} → Surveyed s ok fills firstChecks outs → ok ≡ true → (g : ℕ) → g < 4 → getD firstChecks g 0 ≡ firstCheck (view s) g
+first-check-found {s} {ok} {firstChecks = l} h = group-entry l ok (firstCheck (view s)) (h .kept)
 
-pub outs-counted : {s : List ℕ} {ok : Bool} {fills keepers outs : List ℕ} → Surveyed s ok fills keepers outs → ok ≡ true → (g : ℕ) → g < 4 → getD outs g 0 ≡ outsIn (view s) g
+pub outs-counted : {s : List ℕ} {ok : Bool} {fills firstChecks outs : List ℕ} → Surveyed s ok fills firstChecks outs → ok ≡ true → (g : ℕ) → g < 4 → getD outs g 0 ≡ outsIn (view s) g
 outs-counted {s} {ok} {outs = l} h = group-entry l ok (outsIn (view s)) (h .out)
 
 -- in a sound store, a unit whose keys are listed
-listed-kept : (s : List ℕ) (u : ℕ) → (byte s (8 + u) ≡ 2 → keeper (view s) (u / 4) < 3 * (u / 4) + 3) → keysLost (view s) u ≡ false
+listed-kept : (s : List ℕ) (u : ℕ) → (byte s (8 + u) ≡ 2 → firstCheck (view s) (u / 4) < 3 * (u / 4) + 3) → keysLost (view s) u ≡ false
 unfolding keysLost view
 listed-kept s u h =
     by-both
     (λ t. t ≡ false)
     (byte s (8 + u))
     2
-    (keeper (view s) (u / 4))
+    (firstCheck (view s) (u / 4))
     (3 * (u / 4) + 3)
     (λ e k. let l = h e in absurd (omega arith))
     (λ _. refl)
 
-pub fill-listed : {s : List ℕ} {ok : Bool} {fills keepers outs : List ℕ} → Surveyed s ok fills keepers outs → ok ≡ true → (u : ℕ) → u < 16
-    → (byte s (8 + u) ≡ 2 → keeper (view s) (u / 4) < 3 * (u / 4) + 3) → getD fills u 0 ≡ listedFill (view s) u
+pub fill-listed : {s : List ℕ} {ok : Bool} {fills firstChecks outs : List ℕ} → Surveyed s ok fills firstChecks outs → ok ≡ true → (u : ℕ) → u < 16
+    → (byte s (8 + u) ≡ 2 → firstCheck (view s) (u / 4) < 3 * (u / 4) + 3) → getD fills u 0 ≡ listedFill (view s) u
 unfolding knownFill
 fill-listed {s} {ok} g e u l h =
     ap (λ x. getD x u 0) (g .filled)
@@ -82,7 +82,7 @@ fill-listed {s} {ok} g e u l h =
     ∙ pick-false (listed-kept s u h) _ _
 
 -- and any unit: its ranks are enough for what is counted
-pub fill-most : {s : List ℕ} {ok : Bool} {fills keepers outs : List ℕ} → Surveyed s ok fills keepers outs → (u : ℕ) → u < 16 → getD fills u 0 ≤ byte s 5
+pub fill-most : {s : List ℕ} {ok : Bool} {fills firstChecks outs : List ℕ} → Surveyed s ok fills firstChecks outs → (u : ℕ) → u < 16 → getD fills u 0 ≤ byte s 5
 unfolding knownFill
 fill-most {s} {ok} g u l =
     let listed : listedFill (view s) u ≤ byte s 5 = unfold listedFill view in first-le (byte s 5) (λ r. eqb (keyOf (listedKey (view s) u r)) 0) in

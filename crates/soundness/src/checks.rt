@@ -6,7 +6,7 @@ ghost use Prim.Native.Nat.{_/_, _<_};
 ghost use Rattle.buffer.specs.Range.{all};
 ghost use Rattle.buffer.specs.Loops.{entries};
 ghost use Rattle.model.specs.Layout.{view};
-ghost use Rattle.model.specs.Reads.{keeper};
+ghost use Rattle.model.specs.Reads.{firstCheck};
 ghost use Rattle.soundness.specs.Pieces.{Ranged, Kept, checkGood};
 
 fn check_good(s: &[u8], k: u8, c: u8) -> bool
@@ -25,13 +25,13 @@ fn check_good(s: &[u8], k: u8, c: u8) -> bool
     keys::same_lists(s, units::checks_at(b, k), at, w)
 }
 
-pub fn checks_good(s: &[u8], keepers: [u8; 4]) -> bool
-    requires { ⌜ Ranged (now s) × (keepers ≡ entries 4 (keeper (view (now s)))) ⌝ }
+pub fn checks_good(s: &[u8], first_checks: [u8; 4]) -> bool
+    requires { ⌜ Ranged (now s) × («first_checks» ≡ entries 4 (firstCheck (view (now s)))) ⌝ }
     ensures { λ r. ⌜ r ≡ all 12 (checkGood (now (s .entry))) ⌝ }
 {
     let mut c: u8 = 0;
     while c < 12 {
-        if !check_good(s, keepers[buffer::wide(c / 3)], c) {
+        if !check_good(s, first_checks[buffer::wide(c / 3)], c) {
             return false;
         }
         c += 1;

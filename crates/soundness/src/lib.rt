@@ -14,27 +14,27 @@ ghost use Rattle.soundness.specs.Survey.{Nothing, Surveyed};
 pub struct Survey {
     pub sound: bool,
     pub fills: [u8; 16],
-    pub keepers: [u8; 4],
+    pub first_checks: [u8; 4],
     pub outs: [u8; 4],
 }
 
 fn unsound() -> Survey
-    ensures { λ r. ⌜ Nothing (r .sound) (r .fills) (r .keepers) (r .outs) ⌝ }
+    ensures { λ r. ⌜ Nothing (r .sound) (r .fills) (r .«first_checks») (r .outs) ⌝ }
 {
     let fills = [0u8; 16];
-    let keepers = [0u8; 4];
+    let first_checks = [0u8; 4];
     let outs = [0u8; 4];
     Survey {
         sound: false,
         fills,
-        keepers,
+        first_checks,
         outs,
     }
 }
 
 // Tests bytes of any length for a sound store, and hands on what the test learned.
 pub fn survey_of(s: &[u8]) -> Survey
-    ensures { λ r. ⌜ Surveyed (now (s .entry)) (r .sound) (r .fills) (r .keepers) (r .outs) ⌝ }
+    ensures { λ r. ⌜ Surveyed (now (s .entry)) (r .sound) (r .fills) (r .«first_checks») (r .outs) ⌝ }
 {
     if !states::ranges_hold(s) {
         return unsound();
@@ -45,12 +45,12 @@ pub fn survey_of(s: &[u8]) -> Survey
     if !states::groups_placed(s) {
         return unsound();
     }
-    let keepers = states::keepers_of(s);
-    let counted = units::count_units(s, keepers);
+    let first_checks = states::first_checks_of(s);
+    let counted = units::count_units(s, first_checks);
     if !counted.good {
         return unsound();
     }
-    if !checks::checks_good(s, keepers) {
+    if !checks::checks_good(s, first_checks) {
         return unsound();
     }
     let fills = counted.fills;
@@ -58,7 +58,7 @@ pub fn survey_of(s: &[u8]) -> Survey
     Survey {
         sound: true,
         fills,
-        keepers,
+        first_checks,
         outs,
     }
 }

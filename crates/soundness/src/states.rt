@@ -7,7 +7,7 @@ ghost use Rattle.buffer.specs.Bytes.{byte};
 ghost use Rattle.buffer.specs.Range.{all, count};
 ghost use Rattle.buffer.specs.Loops.{entries};
 ghost use Rattle.model.specs.Layout.{view};
-ghost use Rattle.model.specs.Reads.{keeper, outsIn};
+ghost use Rattle.model.specs.Reads.{firstCheck, outsIn};
 ghost use Rattle.model.specs.Sound.{ranges, checksIn};
 ghost use Rattle.soundness.specs.Pieces.{Ranged, placed, groupPlaced};
 
@@ -139,15 +139,15 @@ pub fn groups_placed(s: &[u8]) -> bool
 }
 
 // The first check unit in service of each group.
-pub fn keepers_of(s: &[u8]) -> [u8; 4]
+pub fn first_checks_of(s: &[u8]) -> [u8; 4]
     requires { ⌜ 36 ≤ length (now s) ⌝ }
-    ensures { λ r. ⌜ r ≡ entries 4 (keeper (view (now (s .entry)))) ⌝ }
+    ensures { λ r. ⌜ r ≡ entries 4 (firstCheck (view (now (s .entry)))) ⌝ }
 {
     [
-        lookup::keeper(s, 0),
-        lookup::keeper(s, 1),
-        lookup::keeper(s, 2),
-        lookup::keeper(s, 3),
+        lookup::first_check(s, 0),
+        lookup::first_check(s, 1),
+        lookup::first_check(s, 2),
+        lookup::first_check(s, 3),
     ]
 }
 

@@ -9,7 +9,7 @@ ghost use Rattle.buffer.specs.Bytes.{byte};
 ghost use Rattle.buffer.specs.Choice.{pick};
 ghost use Rattle.buffer.specs.Loops.{entries};
 ghost use Rattle.model.specs.Layout.{view, slotAt, checkAt};
-ghost use Rattle.model.specs.Reads.{keeper};
+ghost use Rattle.model.specs.Reads.{firstCheck};
 ghost use Rattle.soundness.specs.Pieces.{Ranged, Kept, zeroBetween, dataFill, lostFill, served, lost, absent, unitCount};
 ghost use Rattle.soundness.specs.Survey.{Counted};
 
@@ -132,15 +132,15 @@ fn uncounted() -> Counts
 }
 
 // The keys of every data unit, counted as long as the units are good.
-pub fn count_units(s: &[u8], keepers: [u8; 4]) -> Counts
-    requires { ⌜ Ranged (now s) × (keepers ≡ entries 4 (keeper (view (now s)))) ⌝ }
+pub fn count_units(s: &[u8], first_checks: [u8; 4]) -> Counts
+    requires { ⌜ Ranged (now s) × («first_checks» ≡ entries 4 (firstCheck (view (now s)))) ⌝ }
     ensures { λ r. ⌜ Counted (now (s .entry)) (r .good) (r .fills) ⌝ }
 {
     let mut t = [0u8; 2048];
     let mut fills = [0u8; 16];
     let mut u: u8 = 0;
     while u < 16 {
-        let n = unit_count(&mut t, s, keepers[buffer::wide(u / 4)], u);
+        let n = unit_count(&mut t, s, first_checks[buffer::wide(u / 4)], u);
         if 64 < n {
             return uncounted();
         }

@@ -18,7 +18,7 @@ use Rattle.model.specs.Layout.{Store, bytes, view, levelIn, keyOf}
 use Rattle.model.specs.LayoutLaws.{Shaped, Same, bytes-ext, view-shaped}
 use Rattle.model.specs.StoreLaws.{withFront, withDstates, withCstates, slots-shaped, withSlots, withChecks}
 use Rattle.model.specs.Reads.{fillIn}
-use Rattle.model.specs.Changes.{keep, rows, recordsIn, dealt, grown, grownState}
+use Rattle.model.specs.Changes.{filterBy, rows, recordsIn, dealt, grown, grownState}
 use Rattle.splitting.specs.Steps.{Split, marked, levelled, madeRecord, remade, ofFirst, ofBoth}
 use Rattle.splitting.proofs.Lists.{kept-holds}
 use Rattle.splitting.proofs.Holding.{Holds, holds-step}
@@ -35,7 +35,7 @@ dealt-long : (v : Store) (m : ℕ) → Shaped v → splitPointer m < 16 → (u r
 unfolding dealt recordsIn
 dealt-long v m h hn u r a b =
     let n : ℕ = splitPointer m in
-    let each : (p : List ℕ → Bool) → length (getD (keep p (rows (fillIn v n) (v .slot n))) r (zeros slotBytes)) ≡ slotBytes =
+    let each : (p : List ℕ → Bool) → length (getD (filterBy p (rows (fillIn v n) (v .slot n))) r (zeros slotBytes)) ≡ slotBytes =
     λ p. kept-holds (λ x. length x ≡ slotBytes) p (fillIn v n) (v .slot n) (λ k l. h .slot n k hn (omega (arith, fill-most v n))) r (zeros slotBytes) (length-zeros slotBytes) in
     by-pick (λ (x : List ℕ). length x ≡ slotBytes) (eqb u m) _ _ (λ _. each (λ x. moves m (keyOf x))) (λ _.
     by-pick (λ (x : List ℕ). length x ≡ slotBytes) (eqb u n) _ _ (λ _. each (λ x. not (moves m (keyOf x)))) (λ _. h .slot u r a b))

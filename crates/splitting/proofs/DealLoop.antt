@@ -19,7 +19,7 @@ use Rattle.model.specs.LayoutLaws.{Shaped, bytes-ext, view-bytes, view-shaped, 
 use Rattle.model.specs.RunLaws.{upd2}
 use Rattle.model.specs.StoreLaws.{SlotIn, size-of, size-at, slots-shaped, slots-ext, slots-none, slots-again, slots-slot, slot-put, withSlots}
 use Rattle.model.specs.Reads.{fillIn}
-use Rattle.model.specs.Changes.{keep, rows, recordsIn, dealt}
+use Rattle.model.specs.Changes.{filterBy, rows, recordsIn, dealt}
 use Rattle.lookup.specs.Sized.{Sized}
 use Rattle.splitting.specs.Steps.{Split, cleared}
 use Rattle.splitting.proofs.Lists.{getD-snoc, length-snoc, getD-default, kept-none, kept-yes, kept-no, kept-holds}
@@ -29,10 +29,10 @@ use Rattle.splitting.proofs.Added.{fill-most}
 
 -- of the first t records of unit n, those that move to unit m and those that stay
 abbrev gone : Store → ℕ → ℕ → ℕ → List (List ℕ)
-gone v n m t = keep (λ x. moves m (keyOf x)) (rows t (v .slot n))
+gone v n m t = filterBy (λ x. moves m (keyOf x)) (rows t (v .slot n))
 
 abbrev kept : Store → ℕ → ℕ → ℕ → List (List ℕ)
-kept v n m t = keep (λ x. not (moves m (keyOf x))) (rows t (v .slot n))
+kept v n m t = filterBy (λ x. not (moves m (keyOf x))) (rows t (v .slot n))
 
 -- the slots while the records are dealt out: behind the dealt ones each unit holds what it held
 unfoldable pub dealing : Store → ℕ → ℕ → ℕ → ℕ → ℕ → List ℕ
@@ -43,7 +43,7 @@ dealing v n m t u r =
 
 module _ (v : Store) (n m : ℕ) (apart : n ≡ m → ⊥) where
   dealing-none : (u r : ℕ) → v .slot u r ≡ dealing v n m 0 u r
-  unfolding dealing pick keep rows
+  unfolding dealing pick filterBy rows
   dealing-none u r = go (eqb u m) (eqb u n) refl refl
     where
       go : (a b : Bool) → eqb u m ≡ a → eqb u n ≡ b → v .slot u r ≡ pick a (v .slot m r) (pick b (v .slot n r) (v .slot u r))
@@ -82,7 +82,7 @@ module _ (v : Store) (n m : ℕ) (apart : n ≡ m → ⊥) where
   dealing-long : (t : ℕ) → Shaped v → n < 16 → m < 16 → t ≤ v .size → (u r : ℕ) → u < 16 → r < v .size → length (dealing v n m t u r) ≡ slotBytes
   unfolding dealing
   dealing-long t h hn hm ht u r a b =
-      let each : (p : List ℕ → Bool) (w : ℕ) → w < 16 → length (getD (keep p (rows t (v .slot n))) r (v .slot w r)) ≡ slotBytes =
+      let each : (p : List ℕ → Bool) (w : ℕ) → w < 16 → length (getD (filterBy p (rows t (v .slot n))) r (v .slot w r)) ≡ slotBytes =
       λ p w hw. kept-holds (λ x. length x ≡ slotBytes) p t (v .slot n) (λ k l. h .slot n k hn (omega arith)) r (v .slot w r) (h .slot w r hw b) in
       by-pick (λ (x : List ℕ). length x ≡ slotBytes) (eqb u m) _ _ (λ _. each (λ x. moves m (keyOf x)) m hm) (λ _.
       by-pick (λ (x : List ℕ). length x ≡ slotBytes) (eqb u n) _ _ (λ _. each (λ x. not (moves m (keyOf x))) n hn) (λ _. h .slot u r a b))

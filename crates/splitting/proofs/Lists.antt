@@ -10,7 +10,7 @@ use borrow.Author.Tests.{eqb-true, le-leb, lt-leb, leb-true}
 use Rattle.buffer.specs.Choice.{pick}
 use Rattle.buffer.specs.ChoiceLaws.{by-test, by-pick, pick-true, pick-false}
 use Rattle.buffer.specs.TestLaws.{same-test}
-use Rattle.model.specs.Changes.{keep, rows}
+use Rattle.model.specs.Changes.{filterBy, rows}
 
 leb-suc : (a b : ℕ) → leb (suc a) (suc b) ≡ leb a b
 leb-suc a b =
@@ -65,38 +65,38 @@ module _ {A : Type 0} where
       ∙ by-pick (λ x. x ≡ f r) (eqb r (length (rows n f))) (f n) (getD (rows n f) r (f r)) (λ e. ap f (sym (eqb-true r (length (rows n f)) e ∙ length-rows n f))) (λ _. ih)
 
   -- ---- what is kept of the first elements
-  keep-snoc : (p : A → Bool) (xs : List A) (x : A) → keep p (xs ++ (x ∷ [])) ≡ pick (p x) (keep p xs ++ (x ∷ [])) (keep p xs)
-  unfolding keep pick
-  keep-snoc p [] x = refl
-  keep-snoc p (y ∷ xs) x = rw (keep-snoc p xs x) (go (p y) (p x))
+  filter-snoc : (p : A → Bool) (xs : List A) (x : A) → filterBy p (xs ++ (x ∷ [])) ≡ pick (p x) (filterBy p xs ++ (x ∷ [])) (filterBy p xs)
+  unfolding filterBy pick
+  filter-snoc p [] x = refl
+  filter-snoc p (y ∷ xs) x = rw (filter-snoc p xs x) (go (p y) (p x))
     where
-      go : (a b : Bool) → pick a (y ∷ pick b (keep p xs ++ (x ∷ [])) (keep p xs)) (pick b (keep p xs ++ (x ∷ [])) (keep p xs))
-          ≡ pick b (pick a (y ∷ keep p xs) (keep p xs) ++ (x ∷ [])) (pick a (y ∷ keep p xs) (keep p xs))
+      go : (a b : Bool) → pick a (y ∷ pick b (filterBy p xs ++ (x ∷ [])) (filterBy p xs)) (pick b (filterBy p xs ++ (x ∷ [])) (filterBy p xs))
+          ≡ pick b (pick a (y ∷ filterBy p xs) (filterBy p xs) ++ (x ∷ [])) (pick a (y ∷ filterBy p xs) (filterBy p xs))
       go true true = refl
       go true false = refl
       go false true = refl
       go false false = refl
 
-  pub kept-none : (p : A → Bool) (f : ℕ → A) → keep p (rows 0 f) ≡ []
-  unfolding keep rows
+  pub kept-none : (p : A → Bool) (f : ℕ → A) → filterBy p (rows 0 f) ≡ []
+  unfolding filterBy rows
   kept-none p f = refl
 
-  pub kept-yes : (p : A → Bool) (t : ℕ) (f : ℕ → A) → p (f t) ≡ true → keep p (rows (suc t) f) ≡ keep p (rows t f) ++ (f t ∷ [])
+  pub kept-yes : (p : A → Bool) (t : ℕ) (f : ℕ → A) → p (f t) ≡ true → filterBy p (rows (suc t) f) ≡ filterBy p (rows t f) ++ (f t ∷ [])
   unfolding rows
-  kept-yes p t f e = keep-snoc p (rows t f) (f t) ∙ pick-true e _ _
+  kept-yes p t f e = filter-snoc p (rows t f) (f t) ∙ pick-true e _ _
 
-  pub kept-no : (p : A → Bool) (t : ℕ) (f : ℕ → A) → p (f t) ≡ false → keep p (rows (suc t) f) ≡ keep p (rows t f)
+  pub kept-no : (p : A → Bool) (t : ℕ) (f : ℕ → A) → p (f t) ≡ false → filterBy p (rows (suc t) f) ≡ filterBy p (rows t f)
   unfolding rows
-  kept-no p t f e = keep-snoc p (rows t f) (f t) ∙ pick-false e _ _
+  kept-no p t f e = filter-snoc p (rows t f) (f t) ∙ pick-false e _ _
 
-  pub kept-holds : (P : A → Type 0) (p : A → Bool) (t : ℕ) (f : ℕ → A) → ((k : ℕ) → k < t → P (f k)) → (r : ℕ) (d : A) → P d → P (getD (keep p (rows t f)) r d)
+  pub kept-holds : (P : A → Type 0) (p : A → Bool) (t : ℕ) (f : ℕ → A) → ((k : ℕ) → k < t → P (f k)) → (r : ℕ) (d : A) → P d → P (getD (filterBy p (rows t f)) r d)
   kept-holds P p zero f h r d e = rw (kept-none p f) e
   kept-holds P p (suc t) f h r d e =
-      let ih : P (getD (keep p (rows t f)) r d) = kept-holds P p t f (λ k l. h k (omega arith)) r d e in
+      let ih : P (getD (filterBy p (rows t f)) r d) = kept-holds P p t f (λ k l. h k (omega arith)) r d e in
       by-test
-      (λ _. P (getD (keep p (rows (suc t) f)) r d))
+      (λ _. P (getD (filterBy p (rows (suc t) f)) r d))
       (p (f t))
       (λ q.
-      rw (kept-yes p t f q, getD-snoc (keep p (rows t f)) (f t) d r)
-      (by-pick P (eqb r (length (keep p (rows t f)))) (f t) (getD (keep p (rows t f)) r d) (λ _. h t (omega arith)) (λ _. ih)))
+      rw (kept-yes p t f q, getD-snoc (filterBy p (rows t f)) (f t) d r)
+      (by-pick P (eqb r (length (filterBy p (rows t f)))) (f t) (getD (filterBy p (rows t f)) r d) (λ _. h t (omega arith)) (λ _. ih)))
       (λ q. rw (kept-no p t f q) ih)

@@ -18,8 +18,8 @@ use Rattle.group.specs.Widths.{checkBytes}
 use Rattle.model.specs.Layout.{Store, bytes, view}
 use Rattle.model.specs.LayoutLaws.{Shaped, Same, Long, bytes-ext, bytes-view, view-shaped}
 use Rattle.model.specs.StoreLaws.{size-of, checks-shaped, checks-ext, checks-none, withChecks}
-use Rattle.model.specs.Reads.{keeper}
-use Rattle.lookup.specs.States.{inService, keeper-found}
+use Rattle.model.specs.Reads.{firstCheck}
+use Rattle.lookup.specs.States.{inService, first-check-found}
 use Rattle.splitting.specs.Steps.{RankIn, madeRecord, rankMade, remade, inGroup}
 use Rattle.splitting.proofs.Holding.{Holds, holds-step, holds-five, holds-long, holds-length}
 use Rattle.splitting.proofs.StepLaws.{made-long}
@@ -103,7 +103,7 @@ module _ (s₀ : List ℕ) (g : ℕ) (l : Long s₀) (hg : g < 4) where
   making-end {s} {t} d ht = d .holds .state ∙ checks-ext (view s₀) _ _ (λ c q a k. made-all (view s₀) g t c q (omega (arith, size-of s₀)))
 
 -- where no check unit of the group is in service there is nothing to make
-pub nothing-made : (s : List ℕ) (g : ℕ) → Long s → keeper (view s) g ≡ 3 * g + 3 → s ≡ bytes (remade (inGroup g) (view s))
+pub nothing-made : (s : List ℕ) (g : ℕ) → Long s → firstCheck (view s) g ≡ 3 * g + 3 → s ≡ bytes (remade (inGroup g) (view s))
 unfolding remade
 nothing-made s g l e =
     sym (bytes-view s l)
@@ -111,7 +111,7 @@ nothing-made s g l e =
     ∙ checks-ext (view s) (view s .check) _ (λ c r a b. sym (pick-false (and-ext (inGroup g c) (eqb (view s .cstate c) 1) false (λ t. off c (eqb-true (c / 3) g t)) ∙ and-false (inGroup g c)) _ _))
   where
     all : first 3 (inService s g) ≡ 3
-    all = let found = keeper-found s g (first 3 (inService s g)) refl in omega (arith, found, e)
+    all = let found = first-check-found s g (first 3 (inService s g)) refl in omega (arith, found, e)
 
     off : (c : ℕ) → c / 3 ≡ g → eqb (view s .cstate c) 1 ≡ false
     off c h =

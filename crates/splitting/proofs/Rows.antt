@@ -73,7 +73,7 @@ blank s e h c r a b out =
     same-true (view s .check c r) (zeros checkBytes) (or-other (eqb (view s .cstate c) 1) _ (ne-eqb (view s .cstate c) 1 (unfold view in out)) zero)
 
 -- ---- what the survey says of unit m and of the unit that it is split from
-module _ {s : List ℕ} {ok : Bool} {fills keepers outs : List ℕ} (g : Surveyed s ok fills keepers outs) (e : ok ≡ true) {m : ℕ} (some : 1 ≤ m) (l : m < 16) where
+module _ {s : List ℕ} {ok : Bool} {fills firstChecks outs : List ℕ} (g : Surveyed s ok fills firstChecks outs) (e : ok ≡ true) {m : ℕ} (some : 1 ≤ m) (l : m < 16) where
   pub outs-pair : pairOut (outsIn (view s)) m ≡ pairOut (λ h. getD outs h 0) m
   unfolding pairOut
   outs-pair = rw (outs-counted g e (m / 4) (omega arith), outs-counted g e (splitPointer m / 4) (omega (arith, split-below m some)))
@@ -151,7 +151,7 @@ module _ (s : List ℕ) {ok : Bool} {r : ℕ} (z : r ≡ 0) where
       record { sound = not-false ok (free .0); low = rw (level-of s) (leb-false _ _ (free .1 .1 .1 .0)) }
 
 -- ---- what the code reads for the unit that it adds or removes, at the indices i and j
-module _ {s : List ℕ} {ok : Bool} {fills keepers outs : List ℕ} (g : Surveyed s ok fills keepers outs) {n m i : ℕ} where
+module _ {s : List ℕ} {ok : Bool} {fills firstChecks outs : List ℕ} (g : Surveyed s ok fills firstChecks outs) {n m i : ℕ} where
   pub adds : Grows s ok m → m ≡ byte s 6 → (n ≡ splitPointer m) × (n < m) → i ≡ n → Split s n m × (getD fills i 0 ≡ fillIn (view s) n)
   adds h em en ei =
       let store = sized s (g .tested) (h .sound) in

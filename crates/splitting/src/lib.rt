@@ -75,7 +75,7 @@ fn row(holds: bool, number: u8, rest: u8) -> u8
 
 // The number of a grow, by the survey of the store.
 fn grow_number(s: &[u8], survey: soundness::Survey) -> u8
-    requires { ⌜ Surveyed (now s) (survey .sound) (survey .fills) (survey .keepers) (survey .outs) ⌝ }
+    requires { ⌜ Surveyed (now s) (survey .sound) (survey .fills) (survey .«first_checks») (survey .outs) ⌝ }
     ensures { λ r. ⌜ r ≡ firstOf (refusalsIn (survey .sound) (view (now (s .entry))) Call.grow) ⌝ }
 {
     if !survey.sound {
@@ -92,7 +92,7 @@ fn grow_number(s: &[u8], survey: soundness::Survey) -> u8
 
 // The number of a shrink.
 fn shrink_number(s: &[u8], survey: soundness::Survey) -> u8
-    requires { ⌜ Surveyed (now s) (survey .sound) (survey .fills) (survey .keepers) (survey .outs) ⌝ }
+    requires { ⌜ Surveyed (now s) (survey .sound) (survey .fills) (survey .«first_checks») (survey .outs) ⌝ }
     ensures { λ r. ⌜ r ≡ firstOf (refusalsIn (survey .sound) (view (now (s .entry))) Call.shrink) ⌝ }
 {
     if !survey.sound {

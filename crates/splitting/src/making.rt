@@ -94,7 +94,7 @@ fn make_group(s: &mut [u8], g: u8, eights: &[u8; 256], sevens: &[u8; 256])
     requires { ⌜ Long (now s) × (g < 4) × (now eights ≡ scaledRow 8) × (now sevens ≡ scaledRow 7) ⌝ }
     ensures { λ _. ⌜ now (s .exit) ≡ bytes (remade (inGroup g) (view (now (s .entry)))) ⌝ }
 {
-    if lookup::keeper(s, g) == 3 * g + 3 {
+    if lookup::first_check(s, g) == 3 * g + 3 {
         return;
     }
     let b = s[5];

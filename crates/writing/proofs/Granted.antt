@@ -20,7 +20,7 @@ use Rattle.model.specs.RowLaws.{Free, first-free, free-first, front-holds, fron
 use Rattle.model.specs.StoreLaws.{SlotIn, size-of}
 use Rattle.model.specs.Sound.{sound}
 use Rattle.lookup.specs.Sized.{Sized, sound-sized}
-use Rattle.writing.specs.Homes.{openingRows, Lives, Homed}
+use Rattle.writing.specs.Homes.{openingRows, Located, Homed}
 
 -- a store that was tested
 pub sized : (s : List ℕ) (ok : Bool) → ok ≡ sound s → ok ≡ true → Sized s
@@ -70,7 +70,7 @@ module _ {s : List ℕ} {k : ℕ} {fits : Bool} {c : Call} {own : ℕ → ℕ �
 
   own-number : number ≡ 0 → firstOf (refusalsIn (sound s) (view s) c) ≡ firstOf (own n r)
   own-number z =
-      let l = h .lives z in
+      let l = h .located z in
       o .rows ∙ front-free (openingRows s k fits) _ (free z) ∙ rw (l .unit, l .fill, l .rank) refl
 
   pub refused-then : {m : ℕ} → number ≡ 0 → firstOf (own n r) ≡ suc m → outcome (plain (suc m)) s ≡ perform s c
@@ -80,7 +80,7 @@ module _ {s : List ℕ} {k : ℕ} {fits : Bool} {c : Call} {own : ℕ → ℕ �
   granted-then z f e = granted s (o .alone) refl (sym (own-number z ∙ free-first (own n r) f)) refl e
 
 -- ---- the slots that they write, and what is left
-module _ {s : List ℕ} {k u n r : ℕ} (h : Lives s k u n r) where
+module _ {s : List ℕ} {k u n r : ℕ} (h : Located s k u n r) where
   pub next-slot : leb (byte s 5) n ≡ false → SlotIn s u n
   next-slot e = record { long = h .sized .long; unit = h .below; rank = leb-false (byte s 5) n e }
 

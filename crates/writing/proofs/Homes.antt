@@ -17,28 +17,28 @@ use Rattle.soundness.specs.Survey.{Surveyed, found-sound, fill-listed, fill-mos
 use Rattle.lookup.specs.Sized.{sound-sized}
 use Rattle.lookup.specs.Keys.{rank-in, own-fill}
 use Rattle.lookup.specs.Groups.{none-out}
-use Rattle.writing.specs.Homes.{openingRows, Lives, Homed}
+use Rattle.writing.specs.Homes.{openingRows, Located, Homed}
 
 -- a key that is refused
 pub homeless : {s : List ℕ} {k : ℕ} {fits : Bool} {number u n r m : ℕ} → number ≡ suc m → firstOf (openingRows s k fits) ≡ suc m → Homed s k fits number u n r
-homeless e f = record { found = e ∙ sym f; fitting = λ z. absurd (omega (arith, e, z)); lives = λ z. absurd (omega (arith, e, z)) }
+homeless e f = record { found = e ∙ sym f; fitting = λ z. absurd (omega (arith, e, z)); located = λ z. absurd (omega (arith, e, z)) }
 
 pub home-unit : (s : List ℕ) (k : ℕ) {u : ℕ} → u ≡ unitOf (byte s 6) k → homeIn (view s) k ≡ u
 unfolding homeIn
 home-unit s k e = ap (λ j. unitOf j k) (sym (units-of s)) ∙ sym e
 
 -- the number of units out of a unit's group, read at the index j
-pub outs-read : {s : List ℕ} {ok : Bool} {fills keepers outs : List ℕ} {u j : ℕ} → Surveyed s ok fills keepers outs → ok ≡ true → u < byte s 6 → j ≡ u / 4
+pub outs-read : {s : List ℕ} {ok : Bool} {fills firstChecks outs : List ℕ} {u j : ℕ} → Surveyed s ok fills firstChecks outs → ok ≡ true → u < byte s 6 → j ≡ u / 4
     → getD outs j 0 ≡ outsIn (view s) (u / 4)
 outs-read {outs = outs} {u = u} g e l ej =
     let store = sound-sized (found-sound g e) in
     ap (λ h. getD outs h 0) ej ∙ outs-counted g e (u / 4) (omega (arith, store .units))
 
 -- the code reads u, whether a unit of its group is out, n at the index i, and r
-pub lives : {s : List ℕ} {ok : Bool} {fills keepers outs : List ℕ} {u i r : ℕ} (k : ℕ) → Surveyed s ok fills keepers outs → ok ≡ true → (u ≡ unitOf (byte s 6) k) × (u < byte s 6)
+pub located : {s : List ℕ} {ok : Bool} {fills firstChecks outs : List ℕ} {u i r : ℕ} (k : ℕ) → Surveyed s ok fills firstChecks outs → ok ≡ true → (u ≡ unitOf (byte s 6) k) × (u < byte s 6)
     → ltb 0 (outsIn (view s) (u / 4)) ≡ false → i ≡ u → (r ≡ first (getD fills i 0) (λ q. eqb (keyOf (view s .slot u q)) k)) × (r ≤ getD fills i 0)
-    → Lives s k u (getD fills i 0) r
-lives {s} {ok} {fills} {u = u} {i = i} {r = r} k g e eu eo ei er =
+    → Located s k u (getD fills i 0) r
+located {s} {ok} {fills} {u = u} {i = i} {r = r} k g e eu eo ei er =
     let store = sound-sized (found-sound g e) in
     let low : u < 16 = omega (arith, store .units) in
     let serves : byte s (8 + u) ≡ 2 → ⊥ = none-out s u eo in

@@ -16,7 +16,7 @@ unfoldable pub openingRows : List ℕ → ℕ → Bool → List (Bool × ℕ)
 openingRows s k fits = (eqb k 0, 2) ∷ (not fits, 2) ∷ (not (sound s), 1) ∷ (ltb 0 (outsIn (view s) (homeIn (view s) k / 4)), 4) ∷ []
 
 -- u is the unit of key k, with n records, and r is the rank of k among them
-pub record Lives (s : List ℕ) (k u n r : ℕ) : Type 0 where
+pub record Located (s : List ℕ) (k u n r : ℕ) : Type 0 where
   pub sized : Sized s
   pub unit : homeIn (view s) k ≡ u
   pub fill : fillIn (view s) u ≡ n
@@ -28,4 +28,4 @@ pub record Lives (s : List ℕ) (k u n r : ℕ) : Type 0 where
 pub record Homed (s : List ℕ) (k : ℕ) (fits : Bool) (number u n r : ℕ) : Type 0 where
   pub found : number ≡ firstOf (openingRows s k fits)
   pub fitting : number ≡ 0 → fits ≡ true
-  pub lives : number ≡ 0 → Lives s k u n r
+  pub located : number ≡ 0 → Located s k u n r

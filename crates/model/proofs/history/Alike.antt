@@ -22,7 +22,7 @@ use Rattle.group.specs.Members.{outs, checks, beyond}
 use Rattle.model.specs.Units.{unitOf}
 use Rattle.model.specs.Layout.{Store, bytes, view, unitsIn, levelIn, keyOf}
 use Rattle.model.specs.LayoutLaws.{Shaped, Same, view-bytes, key-first}
-use Rattle.model.specs.Reads.{homeIn, fillIn, rankIn, stateIn, outsIn, beyondIn, keeper, listedKey, listedFill}
+use Rattle.model.specs.Reads.{homeIn, fillIn, rankIn, stateIn, outsIn, beyondIn, firstCheck, listedKey, listedFill}
 use Rattle.model.specs.Sound.{checksIn}
 
 -- two slots with one key; an empty slot is the same
@@ -30,7 +30,7 @@ pub record LikeSlot (x y : List ℕ) : Type 0 where
   pub key : take keyBytes x ≡ take keyBytes y
   pub left : length x ≡ slotBytes
   pub right : length y ≡ slotBytes
-  pub bare : keyOf x ≡ 0 → x ≡ y
+  pub keyless : keyOf x ≡ 0 → x ≡ y
 
 -- two check records with one list of keys
 pub record LikeCheck (x y : List ℕ) : Type 0 where
@@ -59,7 +59,7 @@ pick-both R false x y x′ y′ h k = k refl
 -- ---- one slot, and one check record
 
 pub slot-refl : (x : List ℕ) → length x ≡ slotBytes → LikeSlot x x
-slot-refl x e = record { key = refl; left = e; right = e; bare = λ _. refl }
+slot-refl x e = record { key = refl; left = e; right = e; keyless = λ _. refl }
 
 pub no-slot : LikeSlot (zeros slotBytes) (zeros slotBytes)
 no-slot = slot-refl (zeros slotBytes) (length-zeros slotBytes)
@@ -193,30 +193,30 @@ module _ (v w : Store) (a : Alike v w) where
   abbrev pub Served : ℕ → Type 0
   Served g = first 3 (λ j. eqb (v .cstate (3 * g + j)) 1) < 3
 
-  keeper-alike : (g : ℕ) → g < 4 → keeper v g ≡ keeper w g
-  unfolding keeper
-  keeper-alike g l = ap (λ (n : ℕ). 3 * g + n) (first-ext 3 _ _ (check-states (λ n. eqb n 1) g l))
+  first-check-alike : (g : ℕ) → g < 4 → firstCheck v g ≡ firstCheck w g
+  unfolding firstCheck
+  first-check-alike g l = ap (λ (n : ℕ). 3 * g + n) (first-ext 3 _ _ (check-states (λ n. eqb n 1) g l))
 
-  pub keeper-low : (g : ℕ) → g < 4 → Served g → keeper v g < 12
-  unfolding keeper
-  keeper-low g l h = omega arith
+  pub first-check-low : (g : ℕ) → g < 4 → Served g → firstCheck v g < 12
+  unfolding firstCheck
+  first-check-low g l h = omega arith
 
   -- the listed keys of a unit, where it is not out or a check unit of its group is in service
   module _ (u : ℕ) (hu : u < 16) (known : eqb (v .dstate u) 2 ≡ true → Served (u / 4)) where
     kept-alike : (r : ℕ) → r < v .size → Served (u / 4)
-        → part (keyBytes * (u % 4)) keyBytes (v .check (keeper v (u / 4)) r) ≡ part (keyBytes * (u % 4)) keyBytes (w .check (keeper w (u / 4)) r)
+        → part (keyBytes * (u % 4)) keyBytes (v .check (firstCheck v (u / 4)) r) ≡ part (keyBytes * (u % 4)) keyBytes (w .check (firstCheck w (u / 4)) r)
     kept-alike r m h =
-        listed-like (a .check (keeper v (u / 4)) r (keeper-low (u / 4) (omega arith) h) m) (u % 4) (omega arith)
-        ∙ ap (λ (c : ℕ). part (keyBytes * (u % 4)) keyBytes (w .check c r)) (keeper-alike (u / 4) (omega arith))
+        listed-like (a .check (firstCheck v (u / 4)) r (first-check-low (u / 4) (omega arith) h) m) (u % 4) (omega arith)
+        ∙ ap (λ (c : ℕ). part (keyBytes * (u % 4)) keyBytes (w .check c r)) (first-check-alike (u / 4) (omega arith))
 
     pub listed-alike : (r : ℕ) → r < v .size → listedKey v u r ≡ listedKey w u r
     unfolding listedKey
     listed-alike r m =
         pick-ext (eqb (v .dstate u) 2)
-        (part (keyBytes * (u % 4)) keyBytes (v .check (keeper v (u / 4)) r)) (take keyBytes (v .slot u r))
-        (part (keyBytes * (u % 4)) keyBytes (w .check (keeper w (u / 4)) r)) (take keyBytes (w .slot u r))
+        (part (keyBytes * (u % 4)) keyBytes (v .check (firstCheck v (u / 4)) r)) (take keyBytes (v .slot u r))
+        (part (keyBytes * (u % 4)) keyBytes (w .check (firstCheck w (u / 4)) r)) (take keyBytes (w .slot u r))
         (λ e. kept-alike r m (known e)) (λ e. a .slot u r hu m .key)
-        ∙ ap (λ (n : ℕ). pick (eqb n 2) (part (keyBytes * (u % 4)) keyBytes (w .check (keeper w (u / 4)) r)) (take keyBytes (w .slot u r))) (a .dstate u hu)
+        ∙ ap (λ (n : ℕ). pick (eqb n 2) (part (keyBytes * (u % 4)) keyBytes (w .check (firstCheck w (u / 4)) r)) (take keyBytes (w .slot u r))) (a .dstate u hu)
 
     pub listed-fill-alike : listedFill v u ≡ listedFill w u
     unfolding listedFill

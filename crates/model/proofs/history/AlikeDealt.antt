@@ -18,7 +18,7 @@ use Rattle.model.specs.Units.{splitPointer, moves, touched, broughtUp, e
 use Rattle.model.specs.Layout.{Store, levelIn, keyOf}
 use Rattle.model.specs.LayoutLaws.{Shaped}
 use Rattle.model.specs.Reads.{fillIn}
-use Rattle.model.specs.Changes.{keep, rows, recordsIn, dealt, grownState, grown, merged, shrunkState, shrunk}
+use Rattle.model.specs.Changes.{filterBy, rows, recordsIn, dealt, grownState, grown, merged, shrunkState, shrunk}
 use Rattle.model.proofs.history.Alike.{LikeSlot, LikeCheck, Alike, pick-both, no-slot, no-check, key-like, level-alike, fill-alike, fill-le}
 use Rattle.model.proofs.history.AlikeRepaired.{anew-like}
 
@@ -46,15 +46,15 @@ pairs-rows (suc n) f g h = pairs-append (pairs-rows n f g (λ r l. h r (omega ar
 -- those whose key passes a test
 module _ (p : ℕ → Bool) where
   abbrev kept : List (List ℕ) → List (List ℕ)
-  kept = keep (λ x. p (keyOf x))
+  kept = filterBy (λ x. p (keyOf x))
 
   pairs-more : {x y : List ℕ} (xs ys : List (List ℕ)) → LikeSlot x y → Pairs xs ys → Pairs (pick (p (keyOf x)) (x ∷ xs) xs) (pick (p (keyOf y)) (y ∷ ys) ys)
   pairs-more {x} {y} xs ys h t = rw (← (key-like h)) (pick-both Pairs (p (keyOf x)) (x ∷ xs) (y ∷ ys) xs ys (λ _. more h t) (λ _. t))
 
-  pairs-keep : {xs ys : List (List ℕ)} → Pairs xs ys → Pairs (keep (λ x. p (keyOf x)) xs) (keep (λ x. p (keyOf x)) ys)
-  unfolding keep
-  pairs-keep none = none
-  pairs-keep (more {xs = xs} {ys = ys} h t) = pairs-more (kept xs) (kept ys) h (pairs-keep t)
+  pairs-filter : {xs ys : List (List ℕ)} → Pairs xs ys → Pairs (filterBy (λ x. p (keyOf x)) xs) (filterBy (λ x. p (keyOf x)) ys)
+  unfolding filterBy
+  pairs-filter none = none
+  pairs-filter (more {xs = xs} {ys = ys} h t) = pairs-more (kept xs) (kept ys) h (pairs-filter t)
 
 -- ---- two alike stores; unit m is added or removed, n is the unit that it is split from
 
@@ -79,9 +79,9 @@ module _ (v w : Store) (a : Alike v w) (m : ℕ) (hm : m < 16) (hn : splitPointe
   unfolding dealt
   dealt-like u r l q =
       pick-both LikeSlot (eqb u m) _ _ _ _
-      (λ _. pairs-at (pairs-keep (moves m) (records-alike (splitPointer m) hn)) r)
+      (λ _. pairs-at (pairs-filter (moves m) (records-alike (splitPointer m) hn)) r)
       (λ _. pick-both LikeSlot (eqb u (splitPointer m)) _ _ (v .slot u r) (w .slot u r)
-      (λ _. pairs-at (pairs-keep (λ k. not (moves m k)) (records-alike (splitPointer m) hn)) r)
+      (λ _. pairs-at (pairs-filter (λ k. not (moves m k)) (records-alike (splitPointer m) hn)) r)
       (λ _. a .slot u r l q))
 
   grown-state : (c : ℕ) → c < 12 → grownState v m c ≡ grownState w m c

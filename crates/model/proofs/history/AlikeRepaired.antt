@@ -26,9 +26,9 @@ use Rattle.group.specs.CheckRecord.{checkRecord}
 use Rattle.group.specs.CheckRecordLaws.{length-body, length-checkRecord, checkRecord-keys}
 use Rattle.model.specs.Layout.{Store, keyOf}
 use Rattle.model.specs.LayoutLaws.{Shaped}
-use Rattle.model.specs.Reads.{beyondIn, servesIn, holds, keeper, listedKey, wholeSlot}
+use Rattle.model.specs.Reads.{beyondIn, servesIn, holds, firstCheck, listedKey, wholeSlot}
 use Rattle.model.specs.Changes.{repaired}
-use Rattle.model.proofs.history.Alike.{LikeSlot, LikeCheck, Alike, pick-both, no-slot, left-shaped, right-shaped, beyond-alike, Served, keeper-low, listed-alike}
+use Rattle.model.proofs.history.Alike.{LikeSlot, LikeCheck, Alike, pick-both, no-slot, left-shaped, right-shaped, beyond-alike, Served, first-check-low, listed-alike}
 
 -- check records made anew from alike slots
 pub anew-like : (j : ℕ) (f g : ℕ → List ℕ) → ((p : ℕ) → p < 4 → LikeSlot (f p) (g p)) → LikeCheck (checkRecord j f) (checkRecord j g)
@@ -79,11 +79,11 @@ module _ (v : Store) (h : Shaped v) (g : ℕ) (hg : g < 4) (low : (j : ℕ) → 
         length-weighed bodyBytes _ (λ i. holds v g r (getD (firstFour (servesIn v g)) i 0)) (λ i l. length-held (getD (firstFour (servesIn v g)) i 0) (four .low i l))
 
 -- the listed key of a unit out of that group
-length-listed : (v : Store) → Shaped v → (u r : ℕ) → keeper v (u / 4) < 12 → r < v .size → eqb (v .dstate u) 2 ≡ true → length (listedKey v u r) ≡ keyBytes
+length-listed : (v : Store) → Shaped v → (u r : ℕ) → firstCheck v (u / 4) < 12 → r < v .size → eqb (v .dstate u) 2 ≡ true → length (listedKey v u r) ≡ keyBytes
 unfolding listedKey
 length-listed v h u r l m e =
-    ap length (pick-true e (part (keyBytes * (u % 4)) keyBytes (v .check (keeper v (u / 4)) r)) (take keyBytes (v .slot u r)))
-    ∙ length-part (keyBytes * (u % 4)) keyBytes (v .check (keeper v (u / 4)) r) (omega (arith, h .check (keeper v (u / 4)) r l m))
+    ap length (pick-true e (part (keyBytes * (u % 4)) keyBytes (v .check (firstCheck v (u / 4)) r)) (take keyBytes (v .slot u r)))
+    ∙ length-part (keyBytes * (u % 4)) keyBytes (v .check (firstCheck v (u / 4)) r) (omega (arith, h .check (firstCheck v (u / 4)) r l m))
 
 -- slots with one key that is not 0
 joined-like : (k l x y : List ℕ) → k ≡ l → length k ≡ keyBytes → length l ≡ keyBytes → length x ≡ bodyBytes → length y ≡ bodyBytes → eqb (keyOf k) 0 ≡ false → LikeSlot (k ++ x) (l ++ y)
@@ -92,7 +92,7 @@ joined-like k l x y e a b c d n = record {
   key = take-at k x keyBytes a ∙ e ∙ sym (take-at l y keyBytes b);
   left = length-append k x ∙ omega arith;
   right = length-append l y ∙ omega arith;
-  bare = λ z. absurd (eqb-false (keyOf k) 0 n (sym (be32-left k x 0 (omega arith)) ∙ z));
+  keyless = λ z. absurd (eqb-false (keyOf k) 0 n (sym (be32-left k x 0 (omega arith)) ∙ z));
 }
 
 -- ---- the group g of two alike stores
@@ -119,7 +119,7 @@ module _ (v w : Store) (a : Alike v w) (g : ℕ) (hg : g < 4) (low : (c : ℕ) �
     rebuilt-like : eqb (v .dstate u) 2 ≡ true → eqb (keyOf (listedKey v u r)) 0 ≡ false
         → LikeSlot (listedKey v u r ++ rebuilt (servesIn v (u / 4)) (holds v (u / 4) r) (u % 4)) (listedKey w u r ++ rebuilt (servesIn w (u / 4)) (holds w (u / 4) r) (u % 4))
     rebuilt-like e n =
-        let lv : length (listedKey v u r) ≡ keyBytes = length-listed v (left-shaped v w a) u r (keeper-low v w a (u / 4) (omega arith) (served u d e)) hr e in
+        let lv : length (listedKey v u r) ≡ keyBytes = length-listed v (left-shaped v w a) u r (first-check-low v w a (u / 4) (omega arith) (served u d e)) hr e in
         rw d (joined-like (listedKey v u r) (listedKey w u r) _ _ keys-same lv (ap length (sym keys-same) ∙ lv)
         (length-rebuilt v (left-shaped v w a) g hg left-low nb r hr (u % 4))
         (length-rebuilt w (right-shaped v w a) g hg right-low right-near r (omega (arith, a .size)) (u % 4)) n)

@@ -68,7 +68,7 @@ module _ (v w : Store) (a : Alike v w) where
   slot-carry u r l m e = rw (← (a .dstate u l), ← (fill-alike v w a u l))
       (or-carry (eqb (v .dstate u) 1 && ltb r (fillIn v u)) (same (v .slot u r) (zeros slotBytes)) (same (w .slot u r) (zeros slotBytes))
       (λ _ q. ap (λ (x : List ℕ). same x (zeros slotBytes))
-      (sym (a .slot u r l m .bare (ap (λ (x : List ℕ). be32 x 0) (same-true (v .slot u r) (zeros slotBytes) q) ∙ be32-zeros slotBytes 0))) ∙ q) e)
+      (sym (a .slot u r l m .keyless (ap (λ (x : List ℕ). be32 x 0) (same-true (v .slot u r) (zeros slotBytes) q) ∙ be32-zeros slotBytes 0))) ∙ q) e)
 
   check-carry : (c r : ℕ) → c < 12 → r < v .size → check-test v c r ≡ true → check-test w c r ≡ true
   check-carry c r l m e = rw (← (a .cstate c l))

@@ -13,7 +13,7 @@ use borrow.Author.Tests.{ltb-true, ltb-false}
 use Rattle.buffer.specs.Choice.{pick}
 use Rattle.buffer.specs.ChoiceLaws.{by-test, by-pick, pick-map}
 use Rattle.buffer.specs.RangeLaws.{below-suc}
-use Rattle.model.specs.Changes.{keep, rows}
+use Rattle.model.specs.Changes.{filterBy, rows}
 
 -- ---- the list of f 0 to f (n - 1)
 
@@ -48,41 +48,41 @@ module _ {A B : Type 0} where
       ext-getD (f d) (rows (length l) (λ r. f (getD l r d))) (map f l) (n ∙ sym (length-map l f))
       (λ i a. getD-rows (length l) (λ r. f (getD l r d)) (f d) i (omega arith) ∙ sym (List·getD-map f l i d))
 
-  pub keep-map : (f : A → B) (p : B → Bool) (l : List A) → keep p (map f l) ≡ map f (keep (λ x. p (f x)) l)
-  unfolding keep
-  keep-map f p [] = refl
-  keep-map f p (x ∷ xs) = rw (keep-map f p xs) (sym (pick-map (map f) (p (f x)) (x ∷ keep (λ x. p (f x)) xs) (keep (λ x. p (f x)) xs)))
+  pub filter-map : (f : A → B) (p : B → Bool) (l : List A) → filterBy p (map f l) ≡ map f (filterBy (λ x. p (f x)) l)
+  unfolding filterBy
+  filter-map f p [] = refl
+  filter-map f p (x ∷ xs) = rw (filter-map f p xs) (sym (pick-map (map f) (p (f x)) (x ∷ filterBy (λ x. p (f x)) xs) (filterBy (λ x. p (f x)) xs)))
 
 -- ---- those for which a test holds
 
 module _ {A : Type 0} where
-  pub keep-length : (p : A → Bool) (l : List A) → length (keep p l) ≤ length l
-  unfolding keep
-  keep-length p [] = omega arith
-  keep-length p (x ∷ xs) =
-      let ih : length (keep p xs) ≤ length xs = keep-length p xs in
-      by-pick (λ ys. length ys ≤ suc (length xs)) (p x) (x ∷ keep p xs) (keep p xs) (λ e. omega arith) (λ e. omega arith)
+  pub filter-length : (p : A → Bool) (l : List A) → length (filterBy p l) ≤ length l
+  unfolding filterBy
+  filter-length p [] = omega arith
+  filter-length p (x ∷ xs) =
+      let ih : length (filterBy p xs) ≤ length xs = filter-length p xs in
+      by-pick (λ ys. length ys ≤ suc (length xs)) (p x) (x ∷ filterBy p xs) (filterBy p xs) (λ e. omega arith) (λ e. omega arith)
 
   -- of each that is kept the test holds, and what holds of all
   abbrev pub Kept : (A → Type 0) → (A → Bool) → A → List A → Type 0
   Kept P p d l = (r : ℕ) → r < length l → P (getD l r d) × (p (getD l r d) ≡ true)
 
-  pub keep-all : (P : A → Type 0) (p : A → Bool) (d : A) (l : List A) → ((r : ℕ) → r < length l → P (getD l r d)) → Kept P p d (keep p l)
-  unfolding keep
-  keep-all P p d [] h = λ r a. absurd (not-suc-le-zero a)
-  keep-all P p d (x ∷ xs) h = go (keep-all P p d xs (λ q b. h (suc q) (omega arith)))
+  pub filter-all : (P : A → Type 0) (p : A → Bool) (d : A) (l : List A) → ((r : ℕ) → r < length l → P (getD l r d)) → Kept P p d (filterBy p l)
+  unfolding filterBy
+  filter-all P p d [] h = λ r a. absurd (not-suc-le-zero a)
+  filter-all P p d (x ∷ xs) h = go (filter-all P p d xs (λ q b. h (suc q) (omega arith)))
     where
-      more : p x ≡ true → Kept P p d (keep p xs) → Kept P p d (x ∷ keep p xs)
+      more : p x ≡ true → Kept P p d (filterBy p xs) → Kept P p d (x ∷ filterBy p xs)
       more e ih zero a = (h zero (zero-lt-suc (length xs)), e)
       more e ih (suc r) a = ih r (omega arith)
 
-      go : Kept P p d (keep p xs) → Kept P p d (pick (p x) (x ∷ keep p xs) (keep p xs))
-      go ih = by-pick (Kept P p d) (p x) (x ∷ keep p xs) (keep p xs) (λ e. more e ih) (λ e. ih)
+      go : Kept P p d (filterBy p xs) → Kept P p d (pick (p x) (x ∷ filterBy p xs) (filterBy p xs))
+      go ih = by-pick (Kept P p d) (p x) (x ∷ filterBy p xs) (filterBy p xs) (λ e. more e ih) (λ e. ih)
 
-  pub keep-ext : (p q : A → Bool) (d : A) (l : List A) → ((r : ℕ) → r < length l → p (getD l r d) ≡ q (getD l r d)) → keep p l ≡ keep q l
-  unfolding keep
-  keep-ext p q d [] h = refl
-  keep-ext p q d (x ∷ xs) h = rw (h zero (zero-lt-suc (length xs)), keep-ext p q d xs (λ r a. h (suc r) (omega arith)))
+  pub filter-ext : (p q : A → Bool) (d : A) (l : List A) → ((r : ℕ) → r < length l → p (getD l r d) ≡ q (getD l r d)) → filterBy p l ≡ filterBy q l
+  unfolding filterBy
+  filter-ext p q d [] h = refl
+  filter-ext p q d (x ∷ xs) h = rw (h zero (zero-lt-suc (length xs)), filter-ext p q d xs (λ r a. h (suc r) (omega arith)))
 
   -- an element of one of two lists, one behind the other
   pub joint : (P : A → Type 0) (d : A) (xs ys : List A) (r : ℕ) → (r < length xs → P (getD xs r d)) → ((i : ℕ) → r ≡ length xs + i → P (getD ys i d)) → P (getD (xs ++ ys) r d)
@@ -102,15 +102,15 @@ module _ {A : Type 0} (key : A → ℕ) (d : A) where
   abbrev pub Differ : List A → Type 0
   Differ l = (r q : ℕ) → r < q → q < length l → key (getD l r d) ≢ key (getD l q d)
 
-  pub keep-differ : (p : A → Bool) (l : List A) → Differ l → Differ (keep p l)
-  unfolding keep
-  keep-differ p [] h = λ r q a b. absurd (not-suc-le-zero b)
-  keep-differ p (x ∷ xs) h = go (keep-differ p xs (λ r q a b. h (suc r) (suc q) (omega arith) (omega arith)))
+  pub filter-differ : (p : A → Bool) (l : List A) → Differ l → Differ (filterBy p l)
+  unfolding filterBy
+  filter-differ p [] h = λ r q a b. absurd (not-suc-le-zero b)
+  filter-differ p (x ∷ xs) h = go (filter-differ p xs (λ r q a b. h (suc r) (suc q) (omega arith) (omega arith)))
     where
-      more : Differ (keep p xs) → Differ (x ∷ keep p xs)
+      more : Differ (filterBy p xs) → Differ (x ∷ filterBy p xs)
       more ih r zero a b = absurd (omega arith)
-      more ih zero (suc q) a b = keep-all (λ (y : A). key x ≢ key y) p d xs (λ i c. h zero (suc i) (omega arith) (omega arith)) q (omega arith) .0
+      more ih zero (suc q) a b = filter-all (λ (y : A). key x ≢ key y) p d xs (λ i c. h zero (suc i) (omega arith) (omega arith)) q (omega arith) .0
       more ih (suc r) (suc q) a b = ih r q (omega arith) (omega arith)
 
-      go : Differ (keep p xs) → Differ (pick (p x) (x ∷ keep p xs) (keep p xs))
-      go ih = by-pick Differ (p x) (x ∷ keep p xs) (keep p xs) (λ e. more ih) (λ e. ih)
+      go : Differ (filterBy p xs) → Differ (pick (p x) (x ∷ filterBy p xs) (filterBy p xs))
+      go ih = by-pick Differ (p x) (x ∷ filterBy p xs) (filterBy p xs) (λ e. more ih) (λ e. ih)

@@ -19,12 +19,12 @@ use Rattle.model.specs.history.Ledger.{Ledger, opened, home}
 use Rattle.model.specs.history.Picture.{picture}
 use Rattle.model.specs.history.Table.{refusals, number}
 use Rattle.model.specs.history.Answers.{final}
-use Rattle.model.specs.history.Runs.{answersIn, finalIn, aloneIn, allGranted, lastTaught, told}
+use Rattle.model.specs.history.Runs.{answersIn, finalIn, aloneIn, allGranted, lastTaught, asTaught}
 use Rattle.model.specs.history.Typed.{AllTyped}
 use Rattle.model.specs.history.Claims.{Histories, Unlost, ReadsAsTaught, BeyondRecovery, Outlives}
-use Rattle.model.proofs.history.Alone.{bare, alone, allGrantedBy, final-bare, alone-again, bare-opened, bare-state, alone-typed}
-use Rattle.model.proofs.history.Stand.{stand}
-use Rattle.model.proofs.history.Taught.{lastTaughtBy, stand-final, stand-opened, read-tells}
+use Rattle.model.proofs.history.Alone.{lossless, alone, allGrantedBy, final-lossless, alone-again, lossless-opened, lossless-state, alone-typed}
+use Rattle.model.proofs.history.Recorded.{recorded}
+use Rattle.model.proofs.history.Taught.{lastTaughtBy, recorded-final, recorded-opened, read-tells}
 use Rattle.model.proofs.history.Picture.{Valid}
 use Rattle.model.proofs.history.Seen.{units-seen, state-seen, beyond-seen}
 use Rattle.model.proofs.history.Simulation.{number-agrees, answer-agrees}
@@ -33,7 +33,7 @@ use Rattle.model.proofs.history.Repair.{repair-simulated}
 use Rattle.model.specs.GrantedLayout.{layout-granted}
 use Rattle.model.proofs.history.Opened.{layout-is, layout-picture, opened-valid}
 use Rattle.model.proofs.history.History.{Run, ordered-of, run}
-use Rattle.model.proofs.history.Unlost.{bare-valid, same-unit}
+use Rattle.model.proofs.history.Unlost.{lossless-valid, same-unit}
 
 -- ---- on the picture of a valid ledger
 
@@ -41,11 +41,11 @@ module _ (l : Ledger) (rest : List ℕ) (h : Valid l) where
   -- a read tells what the ledger holds for the key
   tells : (k : ℕ) → 1 ≤ k → (out : List ℕ) → length out ≡ bodyBytes
       → perform (picture l rest) (read k out) .answer
-      ≡ pick (eqb (view (picture l rest) .dstate (homeIn (view (picture l rest)) k)) 2 && beyondIn (view (picture l rest)) (homeIn (view (picture l rest)) k / 4)) (copied 8 out) (told out (stand l k))
+      ≡ pick (eqb (view (picture l rest) .dstate (homeIn (view (picture l rest)) k)) 2 && beyondIn (view (picture l rest)) (homeIn (view (picture l rest)) k / 4)) (copied 8 out) (asTaught out (recorded l k))
   tells k a out fits =
       answer-agrees l rest (read k out) (read-simulated l rest h k out)
       ∙ read-tells l (ordered-of l h) k (omega arith) out fits (λ r. h .good (home l k) r .body .size)
-      ∙ ap (λ (t : Bool). pick t (copied 8 out) (told out (stand l k))) (sym (lost-row l rest h k))
+      ∙ ap (λ (t : Bool). pick t (copied 8 out) (asTaught out (recorded l k))) (sym (lost-row l rest h k))
 
   -- a repair is refused as beyond recovery exactly where it is
   repairs : (g : ℕ) → numberIn (picture l rest) (repair g) ≡ pick (ltb 3 g) 2 (pick (leb (unitsIn (view (picture l rest))) (4 * g)) 3 (pick (beyondIn (view (picture l rest)) g) 8 0))
@@ -83,12 +83,12 @@ module _ (s : List ℕ) (b : ℕ) (zero : layOutNumber s b ≡ 0) (cs : List Cal
   alone-is : aloneIn (layOut s b .store) cs ≡ alone (opened b) cs
   alone-is = ap (λ (x : List ℕ). aloneIn x cs) start ∙ whole .alone
 
-  alone-left : finalIn (layOut s b .store) (aloneIn (layOut s b .store) cs) ≡ picture (bare end) rest
+  alone-left : finalIn (layOut s b .store) (aloneIn (layOut s b .store) cs) ≡ picture (lossless end) rest
   alone-left =
       ap (finalIn (layOut s b .store)) alone-is
       ∙ ap (λ (x : List ℕ). finalIn x (alone (opened b) cs)) start
       ∙ lasting .left
-      ∙ ap (λ (l : Ledger). picture l rest) (ap (λ (l : Ledger). final l (alone (opened b) cs)) (sym (bare-opened b)) ∙ final-bare cs (opened b))
+      ∙ ap (λ (l : Ledger). picture l rest) (ap (λ (l : Ledger). final l (alone (opened b) cs)) (sym (lossless-opened b)) ∙ final-lossless cs (opened b))
 
   histories : Histories s b cs
   histories = record { answered = ap (λ (x : List ℕ). answersIn x cs) start ∙ whole .answered; pictured = left-is }
@@ -99,18 +99,18 @@ module _ (s : List ℕ) (b : ℕ) (zero : layOutNumber s b ≡ 0) (cs : List Cal
         ap (allGranted (layOut s b .store)) alone-is
         ∙ ap (λ (x : List ℕ). allGranted x (alone (opened b) cs)) start
         ∙ lasting .granted
-        ∙ ap (λ (l : Ledger). allGrantedBy l (alone (opened b) cs)) (sym (bare-opened b))
+        ∙ ap (λ (l : Ledger). allGrantedBy l (alone (opened b) cs)) (sym (lossless-opened b))
         ∙ alone-again cs (opened b);
     serves = λ w a. rw (alone-left, left-is) (λ e.
-        state-seen (bare end) rest (bare-valid end (whole .valid)) w a ∙ bare-state end w (sym (state-seen end rest (whole .valid) w a) ∙ e));
+        state-seen (lossless end) rest (lossless-valid end (whole .valid)) w a ∙ lossless-state end w (sym (state-seen end rest (whole .valid) w a) ∙ e));
     holds = λ w a. rw (alone-left, left-is) (λ e. same-unit end rest (whole .valid) w a (sym (state-seen end rest (whole .valid) w a) ∙ e));
   }
 
   -- the ledger holds for a key what was last taught
-  stands : (k : ℕ) → stand end k ≡ lastTaught k (layOut s b .store) cs none
+  stands : (k : ℕ) → recorded end k ≡ lastTaught k (layOut s b .store) cs none
   stands k =
-      stand-final k cs (opened b) (whole .ordered)
-      ∙ ap (lastTaughtBy k (opened b) cs) (stand-opened b k)
+      recorded-final k cs (opened b) (whole .ordered)
+      ∙ ap (lastTaughtBy k (opened b) cs) (recorded-opened b k)
       ∙ sym (ap (λ (x : List ℕ). lastTaught k x cs none) start ∙ whole .taught k none)
 
   reads-as-taught : ReadsAsTaught s b cs

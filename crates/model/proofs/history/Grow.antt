@@ -22,7 +22,7 @@ use Rattle.model.specs.Layout.{Store, bytes, view, keyOf, frontOf}
 use Rattle.model.specs.LayoutLaws.{Same, bytes-ext}
 use Rattle.model.specs.Numbers.{grow, refusalsIn}
 use Rattle.model.specs.Perform.{reply, givenIn, grantedIn}
-use Rattle.model.specs.Changes.{keep, recordsIn, dealt, grownState, grown}
+use Rattle.model.specs.Changes.{filterBy, recordsIn, dealt, grownState, grown}
 use Rattle.model.specs.history.Ledger.{Rec, empty, Ledger, recordAt, placed, isOut, state, outsOf, grownLedger, granted}
 use Rattle.model.specs.history.Picture.{recordBytes, pictureSlot, checkOver, pictureCheck, image, picture}
 use Rattle.model.specs.history.Table.{refusals}
@@ -33,7 +33,7 @@ use Rattle.model.proofs.history.Seen.{slot-kept, units-seen, level-seen
 use Rattle.model.proofs.history.RecordsSeen.{records-seen}
 use Rattle.model.proofs.history.Shared.{wording}
 use Rattle.model.proofs.history.Split.{not-moves}
-use Rattle.model.proofs.history.Dealt.{keep-ext, keep-map}
+use Rattle.model.proofs.history.Dealt.{filter-ext, filter-map}
 use Rattle.model.proofs.history.States.{data-state, check-state}
 use Rattle.model.proofs.history.Touched.{by-either, is-touched, not-touched, quiet-data, quiet-check}
 use Rattle.model.proofs.history.OneList.{sound-row}
@@ -78,24 +78,24 @@ module _ (l : Ledger) (rest : List ℕ) (h : Valid l) (top : l .units ≤ 15)
   -- ---- slots
 
   -- the records for whose key a test holds
-  dealt-list : (p : ℕ → Bool) (r : ℕ) → getD (keep (λ x. p (keyOf x)) (recordsIn v n)) r (zeros slotBytes) ≡ recordBytes (getD (keep (λ (x : Rec). p (x .key)) rs) r empty)
+  dealt-list : (p : ℕ → Bool) (r : ℕ) → getD (filterBy (λ x. p (keyOf x)) (recordsIn v n)) r (zeros slotBytes) ≡ recordBytes (getD (filterBy (λ (x : Rec). p (x .key)) rs) r empty)
   unfolding recordAt
   dealt-list p r =
-      let e : keep (λ x. p (keyOf x)) (map recordBytes rs) ≡ map recordBytes (keep (λ (x : Rec). p (x .key)) rs) =
-      keep-map recordBytes (λ x. p (keyOf x)) rs
-      ∙ ap (map recordBytes) (keep-ext (λ (x : Rec). p (keyOf (recordBytes x))) (λ (x : Rec). p (x .key)) empty rs (λ q a. ap p (key-record (getD rs q empty) (h .good n q .key)))) in
-      rw (records-seen l rest h n (omega (arith, before)) here, e, ← empty-bytes) (List·getD-map recordBytes (keep (λ (x : Rec). p (x .key)) rs) r empty)
+      let e : filterBy (λ x. p (keyOf x)) (map recordBytes rs) ≡ map recordBytes (filterBy (λ (x : Rec). p (x .key)) rs) =
+      filter-map recordBytes (λ x. p (keyOf x)) rs
+      ∙ ap (map recordBytes) (filter-ext (λ (x : Rec). p (keyOf (recordBytes x))) (λ (x : Rec). p (x .key)) empty rs (λ q a. ap p (key-record (getD rs q empty) (h .good n q .key)))) in
+      rw (records-seen l rest h n (omega (arith, before)) here, e, ← empty-bytes) (List·getD-map recordBytes (filterBy (λ (x : Rec). p (x .key)) rs) r empty)
 
-  to-new : (r : ℕ) → getD (keep (λ x. moves m (keyOf x)) (recordsIn v n)) r (zeros slotBytes) ≡ recordBytes (getD (dealtTo l m) r empty)
+  to-new : (r : ℕ) → getD (filterBy (λ x. moves m (keyOf x)) (recordsIn v n)) r (zeros slotBytes) ≡ recordBytes (getD (dealtTo l m) r empty)
   unfolding moves
   to-new r = dealt-list (λ k. eqb (unitOf (suc m) k) m) r
 
-  to-split : (r : ℕ) → getD (keep (λ x. not (moves m (keyOf x))) (recordsIn v n)) r (zeros slotBytes) ≡ recordBytes (getD (dealtTo l n) r empty)
+  to-split : (r : ℕ) → getD (filterBy (λ x. not (moves m (keyOf x))) (recordsIn v n)) r (zeros slotBytes) ≡ recordBytes (getD (dealtTo l n) r empty)
   unfolding recordAt
   to-split r =
       dealt-list (λ k. not (moves m k)) r
       ∙ ap (λ (xs : List Rec). recordBytes (getD xs r empty))
-      (keep-ext (λ (x : Rec). not (moves m (x .key))) (goesTo l n) empty rs (λ q a. not-moves m (getD rs q empty .key) (h .some) top (h .own n q a)))
+      (filter-ext (λ (x : Rec). not (moves m (x .key))) (goesTo l n) empty rs (λ q a. not-moves m (getD rs q empty .key) (h .some) top (h .own n q a)))
 
   record-dealt : (u r : ℕ) → (u ≡ m) ⊎ (u ≡ n) → recordAt (grownLedger l) u r ≡ getD (dealtTo l u) r empty
   unfolding recordAt

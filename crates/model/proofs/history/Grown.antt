@@ -13,12 +13,12 @@ use Rattle.buffer.specs.Choice.{pick}
 use Rattle.buffer.specs.ChoiceLaws.{by-test}
 use Rattle.model.specs.Units.{splitPointer, unitOf}
 use Rattle.model.specs.UnitLaws.{split-below}
-use Rattle.model.specs.Changes.{keep}
+use Rattle.model.specs.Changes.{filterBy}
 use Rattle.model.specs.history.Ledger.{Rec, empty, Ledger, recordAt, placed, grownLedger}
 use Rattle.model.proofs.history.Records.{Good, empty-good}
 use Rattle.model.proofs.history.Picture.{Valid}
 use Rattle.model.proofs.history.Split.{other-key}
-use Rattle.model.proofs.history.Dealt.{keep-all, keep-length, keep-differ}
+use Rattle.model.proofs.history.Dealt.{filter-all, filter-length, filter-differ}
 use Rattle.model.proofs.history.Touched.{by-either}
 
 -- by the new number of units a record goes to unit u; the records of the split unit that do
@@ -26,7 +26,7 @@ abbrev pub goesTo : Ledger → ℕ → Rec → Bool
 goesTo l u x = eqb (unitOf (suc (l .units)) (x .key)) u
 
 abbrev pub dealtTo : Ledger → ℕ → List Rec
-dealtTo l u = keep (goesTo l u) (l .records (splitPointer (l .units)))
+dealtTo l u = filterBy (goesTo l u) (l .records (splitPointer (l .units)))
 
 -- a unit's records are dealt to it, where it is the new unit or the split one, or are as they were
 pub by-dealt {ℓ} : (l : Ledger) (P : List Rec → Type ℓ) (u : ℕ) → ((u ≡ l .units) ⊎ (u ≡ splitPointer (l .units)) → P (dealtTo l u))
@@ -55,28 +55,28 @@ module _ (l : Ledger) (h : Valid l) (top : l .units ≤ 15) where
       by-test
       (λ (t : Bool). P (getD (dealtTo l u) r empty))
       (ltb r (length (dealtTo l u)))
-      (λ e. keep-all P (goesTo l u) empty (l .records (splitPointer (l .units))) (λ q b. a q) r (ltb-true r (length (dealtTo l u)) e) .0)
+      (λ e. filter-all P (goesTo l u) empty (l .records (splitPointer (l .units))) (λ q b. a q) r (ltb-true r (length (dealtTo l u)) e) .0)
       (λ e. subst P (sym (List·getD-eq-default (dealtTo l u) empty (ltb-false r (length (dealtTo l u)) e))) z)
 
   own-grown : (u r : ℕ) → r < length (grownLedger l .records u) → unitOf (suc (l .units)) (getD (grownLedger l .records u) r empty .key) ≡ u
   unfolding recordAt
   own-grown u r =
       by-dealt l (λ (xs : List Rec). r < length xs → unitOf (suc (l .units)) (getD xs r empty .key) ≡ u) u
-      (λ one a. eqb-true (unitOf (suc (l .units)) (getD (dealtTo l u) r empty .key)) u (keep-all (λ (x : Rec). Unit {0}) (goesTo l u) empty (l .records (splitPointer (l .units))) (λ q b. tt) r a .1))
+      (λ one a. eqb-true (unitOf (suc (l .units)) (getD (dealtTo l u) r empty .key)) u (filter-all (λ (x : Rec). Unit {0}) (goesTo l u) empty (l .records (splitPointer (l .units))) (λ q b. tt) r a .1))
       (λ d e a. other-key (l .units) (getD (l .records u) r empty .key) (h .some) top (λ f. e (sym (h .own u r a) ∙ f)) ∙ h .own u r a)
 
   keyed-grown : (u r : ℕ) → r < length (grownLedger l .records u) → getD (grownLedger l .records u) r empty .key ≢ 0
   unfolding recordAt
   keyed-grown u r =
       by-dealt l (λ (xs : List Rec). r < length xs → getD xs r empty .key ≢ 0) u
-      (λ one a. keep-all (λ (x : Rec). x .key ≢ 0) (goesTo l u) empty (l .records (splitPointer (l .units))) (h .keyed (splitPointer (l .units))) r a .0)
+      (λ one a. filter-all (λ (x : Rec). x .key ≢ 0) (goesTo l u) empty (l .records (splitPointer (l .units))) (h .keyed (splitPointer (l .units))) r a .0)
       (λ d e. h .keyed u r)
 
   differ-grown : (u r q : ℕ) → r < q → q < length (grownLedger l .records u) → getD (grownLedger l .records u) r empty .key ≢ getD (grownLedger l .records u) q empty .key
   unfolding recordAt
   differ-grown u r q a =
       by-dealt l (λ (xs : List Rec). q < length xs → getD xs r empty .key ≢ getD xs q empty .key) u
-      (λ one. keep-differ (λ (x : Rec). x .key) empty (goesTo l u) (l .records (splitPointer (l .units))) (h .differ (splitPointer (l .units))) r q a)
+      (λ one. filter-differ (λ (x : Rec). x .key) empty (goesTo l u) (l .records (splitPointer (l .units))) (h .differ (splitPointer (l .units))) r q a)
       (λ d e. h .differ u r q a)
 
   good-grown : (u r : ℕ) → Good (getD (grownLedger l .records u) r empty)
@@ -87,7 +87,7 @@ module _ (l : Ledger) (h : Valid l) (top : l .units ≤ 15) where
   fits-grown : (u : ℕ) → length (grownLedger l .records u) ≤ l .size
   fits-grown u =
       by-dealt l (λ (xs : List Rec). length xs ≤ l .size) u
-      (λ one. omega (arith, keep-length (goesTo l u) (l .records (splitPointer (l .units))), h .fits (splitPointer (l .units))))
+      (λ one. omega (arith, filter-length (goesTo l u) (l .records (splitPointer (l .units))), h .fits (splitPointer (l .units))))
       (λ d e. h .fits u)
 
   none-grown : (u : ℕ) → suc (l .units) ≤ u → grownLedger l .records u ≡ []

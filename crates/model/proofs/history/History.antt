@@ -10,7 +10,7 @@ use Rattle.model.specs.history.Answers.{after, answers, final}
 use Rattle.model.specs.history.Runs.{answersIn, finalIn, aloneIn, allGranted, lastTaught}
 use Rattle.model.specs.history.Typed.{Typed, AllTyped}
 use Rattle.model.proofs.history.Alone.{alone, allGrantedBy}
-use Rattle.model.proofs.history.Stand.{Ordered}
+use Rattle.model.proofs.history.Recorded.{Ordered}
 use Rattle.model.proofs.history.Taught.{lastTaughtBy, Throughout}
 use Rattle.model.proofs.history.Picture.{Valid}
 use Rattle.model.proofs.history.Simulation.{Simulated, number-agrees, answer-agrees, after-agrees, after-valid}

@@ -24,7 +24,7 @@ use Rattle.group.specs.Parity.{parity}
 use Rattle.group.specs.CheckRecordLaws.{length-key}
 use Rattle.model.specs.Layout.{Store, view, storeBytes, slotAt, checkAt, unitsIn, levelIn, keyOf, frontOf}
 use Rattle.model.specs.LayoutLaws.{Shaped, view-shaped, key-first}
-use Rattle.model.specs.Reads.{fillIn, keeper, listedKey, listedFill}
+use Rattle.model.specs.Reads.{fillIn, firstCheck, listedKey, listedFill}
 use Rattle.model.specs.Sound.{keysKnown, sound}
 use Rattle.model.specs.history.Ledger.{Rec, Ledger, empty, recordAt, state}
 use Rattle.model.specs.history.Picture.{recordBytes, pictureSlot, checkOver, pictureCheck, image}
@@ -133,7 +133,7 @@ module _ (s : List ℕ) (b : Bytes s) (h : sound s ≡ true) where
   -- the keys of a unit that is not out are its own
   own-key : (u r : ℕ) → eqb (v .dstate u) 2 ≡ false → listedKey v u r ≡ take keyBytes (v .slot u r)
   unfolding listedKey
-  own-key u r e = pick-false e (part (keyBytes * (u % 4)) keyBytes (v .check (keeper v (u / 4)) r)) (take keyBytes (v .slot u r))
+  own-key u r e = pick-false e (part (keyBytes * (u % 4)) keyBytes (v .check (firstCheck v (u / 4)) r)) (take keyBytes (v .slot u r))
 
   own-fill : (u : ℕ) → eqb (v .dstate u) 2 ≡ false → listedFill v u ≡ fillIn v u
   unfolding listedFill fillIn
@@ -180,7 +180,7 @@ module _ (s : List ℕ) (b : Bytes s) (h : sound s ≡ true) where
       key = taken r m e;
       left = pictured .slot u r hu m;
       right = stored .slot u r hu m;
-      bare = λ z. absurd (some-key r e (sym (key-first (v .slot u r)) ∙ ap keyOf (sym (taken r m e)) ∙ key-first (pictureSlot l u r) ∙ z));
+      keyless = λ z. absurd (some-key r e (sym (key-first (v .slot u r)) ∙ ap keyOf (sym (taken r m e)) ∙ key-first (pictureSlot l u r) ∙ z));
     }
 
   -- ---- every slot

@@ -21,7 +21,7 @@ use Rattle.group.specs.Widths.{keyBytes, bodyBytes, slotBytes, checkBytes}
 use Rattle.group.specs.BodyLaws.{zeros-is}
 use Rattle.model.specs.Units.{unitOf}
 use Rattle.model.specs.Layout.{Store, view, slotAt, checkAt, unitsIn, levelIn, keyOf}
-use Rattle.model.specs.Reads.{stateIn, keeper, listedKey, listedFill}
+use Rattle.model.specs.Reads.{stateIn, firstCheck, listedKey, listedFill}
 use Rattle.model.specs.Sound.{checksIn, checksAllowed, keysKnown, sound}
 use Rattle.model.specs.history.Ledger.{Rec, Ledger, empty, recordAt, placed, state}
 use Rattle.model.specs.history.Typed.{Bytes}
@@ -126,8 +126,8 @@ module _ (s : List ℕ) (b : Bytes s) (h : sound s ≡ true) where
   listed-bytes : (u r : ℕ) → Bytes (listedKey v u r)
   unfolding listedKey view
   listed-bytes u r =
-      by-pick Bytes (eqb (v .dstate u) 2) (part (keyBytes * (u % 4)) keyBytes (v .check (keeper v (u / 4)) r)) (take keyBytes (v .slot u r))
-      (λ _. bytes-part (keyBytes * (u % 4)) keyBytes (v .check (keeper v (u / 4)) r) (bytes-part (checkAt (byte s 5) (keeper v (u / 4)) r) checkBytes s b))
+      by-pick Bytes (eqb (v .dstate u) 2) (part (keyBytes * (u % 4)) keyBytes (v .check (firstCheck v (u / 4)) r)) (take keyBytes (v .slot u r))
+      (λ _. bytes-part (keyBytes * (u % 4)) keyBytes (v .check (firstCheck v (u / 4)) r) (bytes-part (checkAt (byte s 5) (firstCheck v (u / 4)) r) checkBytes s b))
       (λ _. unfold part in bytes-part 0 keyBytes (v .slot u r) (bytes-part (slotAt (byte s 5) u r) slotBytes s b))
 
   listed-low : (u r : ℕ) → keyOf (listedKey v u r) < 4294967296

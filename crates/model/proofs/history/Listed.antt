@@ -15,7 +15,7 @@ use Rattle.buffer.specs.Bytes.{bytes32, zeros, part}
 use Rattle.group.specs.Widths.{keyBytes, checkBytes}
 use Rattle.model.specs.Layout.{Store, view, keyOf}
 use Rattle.model.specs.LayoutLaws.{Same}
-use Rattle.model.specs.Reads.{keeper, listedKey, listedFill, listedRank}
+use Rattle.model.specs.Reads.{firstCheck, listedKey, listedFill, listedRank}
 use Rattle.model.specs.history.Ledger.{Rec, Ledger, empty, recordAt, rankOf, isOut, state}
 use Rattle.model.specs.history.Picture.{checkOver, pictureCheck, image, picture}
 use Rattle.model.proofs.history.Records.{key-bytes, take-record, listed-over}
@@ -45,8 +45,8 @@ module _ (l : Ledger) (rest : List ℕ) (h : Valid l) where
   -- ---- a unit that is in service, or of which a check unit lists the keys
 
   module _ (u : ℕ) (hu : u < 16) (known : isOut l u ≡ true → Kept (u / 4)) where
-    kept-key : (r : ℕ) → r < l .size → isOut l u ≡ true → part (keyBytes * (u % 4)) keyBytes (v .check (keeper v (u / 4)) r) ≡ bytes32 (recordAt l u r .key)
-    unfolding keeper
+    kept-key : (r : ℕ) → r < l .size → isOut l u ≡ true → part (keyBytes * (u % 4)) keyBytes (v .check (firstCheck v (u / 4)) r) ≡ bytes32 (recordAt l u r .key)
+    unfolding firstCheck
     kept-key r hr e =
         let g : ℕ = u / 4 in
         let on : ℕ → Bool = λ j. eqb (v .cstate (3 * g + j)) 1 in

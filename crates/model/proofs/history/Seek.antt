@@ -13,7 +13,7 @@ use borrow.Author.Tests.{eq-eqb, ne-eqb, eqb-true, eqb-false, ltb-true, ltb-fals
 use Rattle.buffer.specs.Choice.{pick}
 use Rattle.buffer.specs.ChoiceLaws.{by-test, by-pick, pick-true, pick-false, pick-same, pick-map}
 use Rattle.buffer.specs.RangeLaws.{first-holds, first-misses}
-use Rattle.model.specs.Changes.{keep}
+use Rattle.model.specs.Changes.{filterBy}
 use Rattle.model.specs.history.Ledger.{Rec, empty, rankOf}
 use Rattle.model.proofs.history.Dealt.{Differ}
 
@@ -53,13 +53,13 @@ seek-append (x ∷ xs) ys k =
 
 -- ---- the records for whose key a test holds
 
-pub seek-keep : (p : ℕ → Bool) (xs : List Rec) (k : ℕ) → seek (keep (λ (x : Rec). p (x .key)) xs) k ≡ pick (p k) (seek xs k) none
-unfolding seek keep pick
-seek-keep p [] k = sym (pick-same (p k) none)
-seek-keep p (x ∷ xs) k = go (p (x .key)) (eqb (x .key) k) refl refl (seek-keep p xs k)
+pub seek-filter : (p : ℕ → Bool) (xs : List Rec) (k : ℕ) → seek (filterBy (λ (x : Rec). p (x .key)) xs) k ≡ pick (p k) (seek xs k) none
+unfolding seek filterBy pick
+seek-filter p [] k = sym (pick-same (p k) none)
+seek-filter p (x ∷ xs) k = go (p (x .key)) (eqb (x .key) k) refl refl (seek-filter p xs k)
   where
     ks : List Rec
-    ks = keep (λ (x : Rec). p (x .key)) xs
+    ks = filterBy (λ (x : Rec). p (x .key)) xs
 
     go : (a b : Bool) → p (x .key) ≡ a → eqb (x .key) k ≡ b → seek ks k ≡ pick (p k) (seek xs k) none
         → seek (pick a (x ∷ ks) ks) k ≡ pick (p k) (pick b (some (x .body)) (seek xs k)) none

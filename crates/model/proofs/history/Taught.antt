@@ -17,9 +17,9 @@ use Rattle.model.specs.Perform.{copied, reply, output}
 use Rattle.model.specs.history.Ledger.{Rec, empty, Ledger, opened, home, recordAt, rankOf, isOut, beyondOf}
 use Rattle.model.specs.history.Table.{refusals, number}
 use Rattle.model.specs.history.Answers.{bodyOf, given, answer, after, final}
-use Rattle.model.specs.history.Runs.{taughtBy, told}
+use Rattle.model.specs.history.Runs.{taughtBy, asTaught}
 use Rattle.model.proofs.history.Seek.{seek, seek-rank}
-use Rattle.model.proofs.history.Stand.{Ordered, stand, different, stand-after}
+use Rattle.model.proofs.history.Recorded.{Ordered, recorded, different, recorded-after}
 
 -- what a list of calls says of a key, by the ledger
 unfoldable pub lastTaughtBy : ℕ → Ledger → List Call → Option (List ℕ) → Option (List ℕ)
@@ -32,21 +32,21 @@ Throughout l [] = Unit {0}
 Throughout l (c ∷ cs) = Ordered l × Throughout (after l c) cs
 
 -- AS LAST TAUGHT
-pub stand-final : (k : ℕ) (cs : List Call) (l : Ledger) → Throughout l cs → stand (final l cs) k ≡ lastTaughtBy k l cs (stand l k)
+pub recorded-final : (k : ℕ) (cs : List Call) (l : Ledger) → Throughout l cs → recorded (final l cs) k ≡ lastTaughtBy k l cs (recorded l k)
 unfolding final lastTaughtBy
-stand-final k [] l h = refl
-stand-final k (c ∷ cs) l h = stand-final k cs (after l c) (h .1) ∙ ap (lastTaughtBy k (after l c) cs) (stand-after l (h .0) k c)
+recorded-final k [] l h = refl
+recorded-final k (c ∷ cs) l h = recorded-final k cs (after l c) (h .1) ∙ ap (lastTaughtBy k (after l c) cs) (recorded-after l (h .0) k c)
 
-pub stand-opened : (b k : ℕ) → stand (opened b) k ≡ none
-unfolding stand opened seek
-stand-opened b k = refl
+pub recorded-opened : (b k : ℕ) → recorded (opened b) k ≡ none
+unfolding recorded opened seek
+recorded-opened b k = refl
 
 -- ---- what read answers, given a buffer that fits
 
 module _ (l : Ledger) (h : Ordered l) (k : ℕ) where
   pub read-tells : k ≢ 0 → (out : List ℕ) → length out ≡ bodyBytes → ((r : ℕ) → length (recordAt l (home l k) r .body) ≡ bodyBytes)
-      → answer l (read k out) ≡ pick (isOut l (home l k) && beyondOf l (home l k / 4)) (copied 8 out) (told out (stand l k))
-  unfolding answer number reply output refusals firstOf given bodyOf stand recordAt told pick
+      → answer l (read k out) ≡ pick (isOut l (home l k) && beyondOf l (home l k / 4)) (copied 8 out) (asTaught out (recorded l k))
+  unfolding answer number reply output refusals firstOf given bodyOf recorded recordAt asTaught pick
   read-tells z out fits sized =
       rw (ne-eqb k 0 z, eq-eqb (length out) bodyBytes fits, seek-rank rs k (different l h (home l k)))
       (go (isOut l (home l k) && beyondOf l (home l k / 4)) (leb (length rs) (rankOf rs k)))
@@ -62,7 +62,7 @@ module _ (l : Ledger) (h : Ordered l) (k : ℕ) where
       filled = ap (λ (n : ℕ). body ++ drop n out) (sized (rankOf rs k) ∙ sym fits) ∙ ap (λ (x : List ℕ). body ++ x) (drop-length out) ∙ append-nil body
 
       go : (x y : Bool) → copied (pick x 8 (pick y 6 0)) (pick (eqb (pick x 8 (pick y 6 0)) 0) (body ++ drop (length body) out) out)
-          ≡ pick x (copied 8 out) (told out (pick y none (some body)))
+          ≡ pick x (copied 8 out) (asTaught out (pick y none (some body)))
       go true y = refl
       go false true = refl
       go false false = ap (copied 0) filled

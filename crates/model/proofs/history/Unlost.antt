@@ -13,22 +13,22 @@ use Rattle.model.specs.LayoutLaws.{Same}
 use Rattle.model.specs.history.Ledger.{Ledger, recordAt, placed, state}
 use Rattle.model.specs.history.Picture.{pictureSlot, pictureCheck, image, picture}
 use Rattle.model.specs.history.Runs.{unitIn}
-use Rattle.model.proofs.history.Alone.{bare, bare-state}
+use Rattle.model.proofs.history.Alone.{lossless, lossless-state}
 use Rattle.model.proofs.history.Picture.{Valid, seen}
 
 -- ---- the ledger with no unit out
 
-bare-slot : (l : Ledger) (u r : ℕ) → state l u ≡ 1 → pictureSlot l u r ≡ pictureSlot (bare l) u r
-unfolding pictureSlot recordAt bare
-bare-slot l u r e = rw (e, bare-state l u e)
+lossless-slot : (l : Ledger) (u r : ℕ) → state l u ≡ 1 → pictureSlot l u r ≡ pictureSlot (lossless l) u r
+unfolding pictureSlot recordAt lossless
+lossless-slot l u r e = rw (e, lossless-state l u e)
 
-bare-check : (l : Ledger) (c r : ℕ) → state l (16 + c) ≡ 1 → pictureCheck l c r ≡ pictureCheck (bare l) c r
-unfolding pictureCheck recordAt bare
-bare-check l c r e = rw (e, bare-state l (16 + c) e)
+lossless-check : (l : Ledger) (c r : ℕ) → state l (16 + c) ≡ 1 → pictureCheck l c r ≡ pictureCheck (lossless l) c r
+unfolding pictureCheck recordAt lossless
+lossless-check l c r e = rw (e, lossless-state l (16 + c) e)
 
-pub bare-valid : (l : Ledger) → Valid l → Valid (bare l)
-unfolding bare recordAt placed
-bare-valid l h = record {
+pub lossless-valid : (l : Ledger) → Valid l → Valid (lossless l)
+unfolding lossless recordAt placed
+lossless-valid l h = record {
   some = h .some;
   few = h .few;
   least = h .least;
@@ -51,29 +51,29 @@ module _ (l : Ledger) (rest : List ℕ) (h : Valid l) where
   v = view (picture l rest)
 
   abbrev w : Store
-  w = view (picture (bare l) rest)
+  w = view (picture (lossless l) rest)
 
   s : Same (view (picture l rest)) (image l rest)
   s = seen l rest (h .good)
 
-  t : Same (view (picture (bare l) rest)) (image (bare l) rest)
-  t = seen (bare l) rest (bare-valid l h .good)
+  t : Same (view (picture (lossless l) rest)) (image (lossless l) rest)
+  t = seen (lossless l) rest (lossless-valid l h .good)
 
   slots : (u : ℕ) → u < 16 → state l u ≡ 1 → tab (v .size) (v .slot u) ≡ tab (w .size) (w .slot u)
-  unfolding image bare
+  unfolding image lossless
   slots u a e =
       ap (λ (n : ℕ). tab n (v .slot u)) (s .size)
-      ∙ tab-ext (l .size) (v .slot u) (w .slot u) (λ r b. s .slot u r a b ∙ bare-slot l u r e ∙ sym (t .slot u r a b))
+      ∙ tab-ext (l .size) (v .slot u) (w .slot u) (λ r b. s .slot u r a b ∙ lossless-slot l u r e ∙ sym (t .slot u r a b))
       ∙ ap (λ (n : ℕ). tab n (w .slot u)) (sym (t .size))
 
   checks : (c : ℕ) → c < 12 → state l (16 + c) ≡ 1 → tab (v .size) (v .check c) ≡ tab (w .size) (w .check c)
-  unfolding image bare
+  unfolding image lossless
   checks c a e =
       ap (λ (n : ℕ). tab n (v .check c)) (s .size)
-      ∙ tab-ext (l .size) (v .check c) (w .check c) (λ r b. s .check c r a b ∙ bare-check l c r e ∙ sym (t .check c r a b))
+      ∙ tab-ext (l .size) (v .check c) (w .check c) (λ r b. s .check c r a b ∙ lossless-check l c r e ∙ sym (t .check c r a b))
       ∙ ap (λ (n : ℕ). tab n (w .check c)) (sym (t .size))
 
-  pub same-unit : (i : ℕ) → i < 28 → state l i ≡ 1 → unitIn (view (picture l rest)) i ≡ unitIn (view (picture (bare l) rest)) i
+  pub same-unit : (i : ℕ) → i < 28 → state l i ≡ 1 → unitIn (view (picture l rest)) i ≡ unitIn (view (picture (lossless l) rest)) i
   unfolding unitIn
   same-unit i a e = pick-ext (ltb i 16) (tab (v .size) (v .slot i)) (tab (v .size) (v .check (i - 16))) (tab (w .size) (w .slot i)) (tab (w .size) (w .check (i - 16)))
       (λ q. slots i (ltb-true i 16 q) e)

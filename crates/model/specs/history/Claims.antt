@@ -16,7 +16,7 @@ use Rattle.model.specs.Perform.{copied, perform, layOut}
 use Rattle.model.specs.history.Ledger.{opened}
 use Rattle.model.specs.history.Picture.{picture}
 use Rattle.model.specs.history.Answers.{answers, final}
-use Rattle.model.specs.history.Runs.{answersIn, finalIn, aloneIn, allGranted, unitIn, lastTaught, told}
+use Rattle.model.specs.history.Runs.{answersIn, finalIn, aloneIn, allGranted, unitIn, lastTaught, asTaught}
 
 module _ (s : List ℕ) (b : ℕ) (cs : List Call) where
   -- the store as laid out, and as the list leaves it
@@ -44,7 +44,7 @@ module _ (s : List ℕ) (b : ℕ) (cs : List Call) where
   ReadsAsTaught = (k : ℕ) → 1 ≤ k → (out : List ℕ) → length out ≡ bodyBytes
       → perform left (read k out) .answer
       ≡ pick (eqb (view left .dstate (homeIn (view left) k)) 2 && beyondIn (view left) (homeIn (view left) k / 4)) (copied 8 out)
-      (told out (lastTaught k laid cs none))
+      (asTaught out (lastTaught k laid cs none))
 
   -- the repair of a group in place is refused as beyond recovery exactly where it has more units out than check units, and else granted
   abbrev pub BeyondRecovery : Type 0

@@ -1,5 +1,5 @@
 -- Document 01, "The ledger": lists of records, fed by the calls' arguments alone, never by an answer or a byte of the store. With the store it
--- shares what document 01 itself shares, the unit of a key, the split unit and the calls, and the general `keep`. Assumes nothing.
+-- shares what document 01 itself shares, the unit of a key, the split unit and the calls, and the general `filterBy`. Assumes nothing.
 use Prim.Native.Nat.{ℕ, suc, pred, _+_, _*_, _-_, _/_, _%_}
 use mathlib.Core.List.{List, [], _∷_, _++_}
 use mathlib.Core.Bool.{Bool, true, false, not, _&&_, _||_}
@@ -12,7 +12,7 @@ use Rattle.buffer.specs.Table.{upd}
 use Rattle.group.specs.Widths.{bodyBytes}
 use Rattle.model.specs.Units.{unitOf, splitPointer}
 use Rattle.model.specs.Numbers.{Call, teach, correct, erase, read, readInPlace, list, unitOut, repair, grow, shrink, raise}
-use Rattle.model.specs.Changes.{keep}
+use Rattle.model.specs.Changes.{filterBy}
 
 pub record Rec : Type 0 where
   pub key : ℕ
@@ -88,7 +88,7 @@ grownLedger l =
     let m : ℕ = l .units in
     let n : ℕ = splitPointer m in
     ledger (l .size) (suc m) (l .level)
-    (λ u. pick (eqb u m || eqb u n) (keep (λ x. eqb (unitOf (suc m) (x .key)) u) (l .records n)) (l .records u))
+    (λ u. pick (eqb u m || eqb u n) (filterBy (λ x. eqb (unitOf (suc m) (x .key)) u) (l .records n)) (l .records u))
     (λ g. pick (eqb (4 * g) m || eqb (4 * g) n) (l .level) (l .checks g)) (l .out)
 
 -- shrink puts the last list, of unit m, behind that of the unit it was split from; a group with no unit below m loses its check units

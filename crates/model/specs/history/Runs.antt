@@ -50,6 +50,6 @@ lastTaught k s [] t = t
 lastTaught k s (c ∷ cs) t = lastTaught k (perform s c .store) cs (taughtBy k c (numberIn s c) t)
 
 -- what read, given a buffer that fits, owes of a key: its body, or 6 and the buffer as it was
-unfoldable pub told : List ℕ → Option (List ℕ) → Answer
-told out none = copied 6 out
-told out (some x) = copied 0 x
+unfoldable pub asTaught : List ℕ → Option (List ℕ) → Answer
+asTaught out none = copied 6 out
+asTaught out (some x) = copied 0 x

@@ -7,7 +7,7 @@ use borrow.Author.Tests.{not-true, not-false}
 use Rattle.lookup.specs.Groups.{recoverable-known}
 use Rattle.soundness.specs.Survey.{found-sound}
 use Rattle.lookup.specs.Sized.{sound-sized}
-use Rattle.reading.proofs.Verdicts.{refusal, home-is, no-key, no-room, unsound, lost, absent, present, safe-unit, safe-fill, outs-read, safe-keeper}
+use Rattle.reading.proofs.Verdicts.{refusal, home-is, no-key, no-room, unsound, lost, absent, present, safe-unit, safe-fill, outs-read, safe-first-check}
 use Rattle.reading.proofs.look_up.Statement.{statement}
 use Rattle.reading.proofs.look_up.Tie as tie
 
@@ -67,8 +67,8 @@ array-read-n c =
     let good = unit .before .before in
     omega (arith, unit .unit-of .ensures .1, sound-sized (found-sound (good .before .before .before .before .before .pre) (not-false _ (good .if3 .left))) .units)
 
-array-read-keeper : tie.Need-array-read-keeper
-array-read-keeper c =
+array-read-first-check : tie.Need-array-read-first-check
+array-read-first-check c =
     let unit = c .before .before .before .before .before .before .before .before in
     let good = unit .before .before in
     omega (arith, unit .unit-of .ensures .1, sound-sized (found-sound (good .before .before .before .before .before .pre) (not-false _ (good .if3 .left))) .units)
@@ -84,7 +84,7 @@ listed-rank-requires c κs =
     let store = sound-sized (found-sound (start .pre) ok) in
     let there = safe-unit store (omega (arith, unit .unit-of .ensures .1, store .units)) (sym (safe .before .gone .ensures) ∙ safe .if4 .left) in
     let fill = safe-fill (start .pre) ok there (count .wide2 .ensures .0) in
-    (recoverable-known there, safe-keeper (start .pre) ok there (c .wide3 .ensures .0), fill .0, fill .1)
+    (recoverable-known there, safe-first-check (start .pre) ok there (c .wide3 .ensures .0), fill .0, fill .1)
 
 returns-5 : tie.Need-returns-5
 returns-5 c =
@@ -152,7 +152,7 @@ look-up-spec =
     (λ c κs. search needs)
     array-read-n
     (λ c κs. search needs)
-    array-read-keeper
+    array-read-first-check
     listed-rank-requires
     (λ c κs. search needs)
     returns-5

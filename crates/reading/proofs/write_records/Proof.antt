@@ -12,15 +12,15 @@ use Rattle.model.specs.Reads.{wholeSlot}
 use Rattle.lookup.specs.Keys.{listed-fill-small}
 use Rattle.lookup.specs.Groups.{whole-unit}
 use Rattle.buffer.specs.SpliceLaws.{length-lent, put-lent}
-use Rattle.reading.proofs.Lists.{fill-at, keeper-at, records, records-long, records-fit, listing-is}
+use Rattle.reading.proofs.Lists.{fill-at, first-check-at, records, records-long, records-fit, listing-is}
 use Rattle.reading.proofs.write_records.Statement.{statement}
 use Rattle.reading.proofs.write_records.Tie as tie
 
 abbrev Inv-loop : tie.InvT-loop
-Inv-loop s out₀ table fills keepers at₀ u₀ out at u = Appending (records s) 16 out₀ out u at
+Inv-loop s out₀ table fills firstChecks at₀ u₀ out at u = Appending (records s) 16 out₀ out u at
 
 abbrev μ-loop : tie.MeasureT-loop
-μ-loop s out₀ table fills keepers at₀ u₀ out at u = 16 - u
+μ-loop s out₀ table fills firstChecks at₀ u₀ out at u = 16 - u
 
 -- the next unit's records fit behind those that are written
 add-end : tie.Need-add-end Inv-loop μ-loop
@@ -52,7 +52,7 @@ copy-unit-requires c κs =
     let fill = fill-at (p .1) (read .before .loop-test .taken) (read .wide .ensures .0) in
     let fits = records-fit (p .0) u _ (length (start .args .out .now)) (read .before .loop-test .taken) fill (p .2) in
     let long = length-lent (l .loop .out) (l .loop .at) (20 * wide .wide2 .result) (omega (arith, l .loop .inv .place, l .loop .inv .long, wide .wide2 .ensures .0)) in
-    (whole-unit (p .0) u (read .before .loop-test .taken), rw fill (listed-fill-small (start .args .s .now) u), long ∙ ap (λ (n : ℕ). 20 * n) (wide .wide2 .ensures .0), p .3, keeper-at (p .1) (read .before .loop-test .taken) (kept .wide3 .ensures .0))
+    (whole-unit (p .0) u (read .before .loop-test .taken), rw fill (listed-fill-small (start .args .s .now) u), long ∙ ap (λ (n : ℕ). 20 * n) (wide .wide2 .ensures .0), p .3, first-check-at (p .1) (read .before .loop-test .taken) (kept .wide3 .ensures .0))
 
 loop-again : tie.Need-loop-again Inv-loop μ-loop
 loop-again c =

@@ -4,15 +4,15 @@ use mathlib.Core.Path.{refl, sym, _∙_}
 use mathlib.Core.Logic.{⊎-elim}
 use Prim.Native.Nat.{_-_}
 use Rattle.lookup.specs.States.{state-byte}
-use Rattle.repairing.proofs.Restoring.{Restoring, restoring-start, restoring-unit, restoring-members, restoring-keeper, restoring-off, restoring-on, restoring-end}
+use Rattle.repairing.proofs.Restoring.{Restoring, restoring-start, restoring-unit, restoring-members, restoring-first-check, restoring-off, restoring-on, restoring-end}
 use Rattle.repairing.proofs.rebuild_units.Statement.{statement}
 use Rattle.repairing.proofs.rebuild_units.Tie as tie
 
 abbrev Inv-loop : tie.InvT-loop
-Inv-loop s₀ g keeper table members p₀ s p = Restoring s₀ g s p
+Inv-loop s₀ g firstCheck table members p₀ s p = Restoring s₀ g s p
 
 abbrev μ-loop : tie.MeasureT-loop
-μ-loop s₀ g keeper table members p₀ s p = 4 - p
+μ-loop s₀ g firstCheck table members p₀ s p = 4 - p
 
 members-requires : tie.Need-members-requires Inv-loop μ-loop
 members-requires c κs = (c .before .before .pre .0 .sized, c .before .before .pre .0 .group)
@@ -31,7 +31,7 @@ keys-at-requires : tie.Need-keys-at-requires Inv-loop μ-loop
 keys-at-requires c κs =
     let l = c .before .before .before .before .before .before .before in
     let e = l .before .before .before .before in
-    (c .before .weights .ensures .unit .sized, restoring-keeper (e .pre .0) (l .loop .inv) (search needs) refl _ (e .pre .2))
+    (c .before .weights .ensures .unit .sized, restoring-first-check (e .pre .0) (l .loop .inv) (search needs) refl _ (e .pre .2))
 
 rebuild-unit-requires : tie.Need-rebuild-unit-requires Inv-loop μ-loop
 rebuild-unit-requires c κs =

@@ -2,7 +2,7 @@
 use native.Mathlib.Omega.{arith}
 use Rattle.model.specs.Perform.{grantedIn}
 use Rattle.model.specs.PerformLaws.{of-repair, refused, granted}
-use Rattle.repairing.proofs.Verdicts.{repairable, group-keeper}
+use Rattle.repairing.proofs.Verdicts.{repairable, group-first-check}
 use borrow.Author.Needs.{needs}
 use Rattle.repairing.proofs.repair.Statement.{statement}
 use Rattle.repairing.proofs.repair.Tie as tie
@@ -31,7 +31,7 @@ repair-group-requires : tie.Need-repair-group-requires
 repair-group-requires c κs =
     let i = c .before .before .before in
     let n = i .before in
-    group-keeper (n .before .before .survey-of .ensures) (n .repair-number .ensures) (i .if1 .left) (c .wide .ensures .0)
+    group-first-check (n .before .before .survey-of .ensures) (n .repair-number .ensures) (i .if1 .left) (c .wide .ensures .0)
 
 returns-2 : tie.Need-returns-2
 unfolding grantedIn

@@ -40,8 +40,8 @@ returns-3 c =
     not-sound (c .unsound3 .ensures)
     (rw (range, is-yes (states .units-placed .ensures) (groups .before .if2 .left), is-no (groups .groups-placed .ensures) (c .before .if3 .taken)))
 
-keepers-of-requires : tie.Need-keepers-of-requires
-keepers-of-requires c κs =
+first-checks-of-requires : tie.Need-first-checks-of-requires
+first-checks-of-requires c κs =
     let range = c .before .before .before .before in
     let h = ranged _ (is-yes (range .before .ranges-hold .ensures) (range .if1 .left)) in
     omega arith
@@ -49,7 +49,7 @@ keepers-of-requires c κs =
 count-units-requires : tie.Need-count-units-requires
 count-units-requires c κs =
     let range = c .before .before .before .before .before in
-    (ranged _ (is-yes (range .before .ranges-hold .ensures) (range .if1 .left)), c .keepers-of .ensures)
+    (ranged _ (is-yes (range .before .ranges-hold .ensures) (range .if1 .left)), c .first-checks-of .ensures)
 
 returns-4 : tie.Need-returns-4
 unfolding pieces
@@ -65,7 +65,7 @@ checks-good-requires : tie.Need-checks-good-requires
 checks-good-requires c κs =
     let kept = c .before .before .before in
     let range = kept .before .before .before .before .before in
-    (ranged _ (is-yes (range .before .ranges-hold .ensures) (range .if1 .left)), kept .keepers-of .ensures)
+    (ranged _ (is-yes (range .before .ranges-hold .ensures) (range .if1 .left)), kept .first-checks-of .ensures)
 
 returns-5 : tie.Need-returns-5
 unfolding pieces
@@ -99,7 +99,7 @@ returns-6 c =
     (units .count-units .ensures)
     (not-false _ (checks .before .if4 .left))
     (is-yes (checks .checks-good .ensures) (test .if5 .left))
-    (units .before .keepers-of .ensures)
+    (units .before .first-checks-of .ensures)
     (c .outs-of .ensures)
 
 pub survey-of-spec : {M : Type 1} → statement M
@@ -115,7 +115,7 @@ survey-of-spec =
     groups-placed-requires
     (λ c κs. search needs)
     returns-3
-    keepers-of-requires
+    first-checks-of-requires
     count-units-requires
     (λ c κs. search needs)
     returns-4

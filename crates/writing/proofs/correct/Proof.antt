@@ -24,7 +24,7 @@ write-record-requires c κs =
     let present = c .before in
     let fine = present .before .before in
     let found = fine .before .before .home-of .ensures in
-    (own-slot (found .lives (fine .if1 .left)) (present .if2 .left), eqb-true _ _ (found .fitting (fine .if1 .left)))
+    (own-slot (found .located (fine .if1 .left)) (present .if2 .left), eqb-true _ _ (found .fitting (fine .if1 .left)))
 
 returns-3 : tie.Need-returns-3
 returns-3 c =
@@ -34,7 +34,7 @@ returns-3 c =
     let home = fine .before .before in
     let a = home .before .before .before .before .args in
     granted-then (of-correcting (a .s .now) (a .key) (a .body .now)) (home .home-of .ensures) (fine .if1 .left)
-    (present .if2 .left, tt) (corrected (home .home-of .ensures .lives (fine .if1 .left)) (a .body .now) (write .write-record .ensures))
+    (present .if2 .left, tt) (corrected (home .home-of .ensures .located (fine .if1 .left)) (a .body .now) (write .write-record .ensures))
 
 pub correct-spec : {M : Type 1} → statement M
 correct-spec =

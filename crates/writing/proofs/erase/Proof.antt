@@ -23,14 +23,14 @@ sub-erase-at : tie.Need-sub-erase-at
 sub-erase-at c =
     let stands = c .before .before .before in
     let fine = stands .before .before in
-    omega (arith, present (fine .before .before .home-of .ensures .lives (fine .if1 .left)) (stands .if2 .left))
+    omega (arith, present (fine .before .before .home-of .ensures .located (fine .if1 .left)) (stands .if2 .left))
 
 erase-at-requires : tie.Need-erase-at-requires
 erase-at-requires c κs =
     let table = c .before .before .before in
     let stands = table .before in
     let fine = stands .before .before in
-    let place = fine .before .before .home-of .ensures .lives (fine .if1 .left) in
+    let place = fine .before .before .home-of .ensures .located (fine .if1 .left) in
     (own-slot place (stands .if2 .left), last-slot place (stands .if2 .left), table .table .ensures)
 
 returns-3 : tie.Need-returns-3
@@ -41,7 +41,7 @@ returns-3 c =
     let home = fine .before .before in
     let a = home .before .before .before .args in
     granted-then (of-erasing (a .s .now) (a .key)) (home .home-of .ensures) (fine .if1 .left)
-    (stands .if2 .left, tt) (removed (home .home-of .ensures .lives (fine .if1 .left)) (cut .erase-at .ensures))
+    (stands .if2 .left, tt) (removed (home .home-of .ensures .located (fine .if1 .left)) (cut .erase-at .ensures))
 
 pub erase-spec : {M : Type 1} → statement M
 erase-spec =

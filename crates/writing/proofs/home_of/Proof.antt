@@ -10,7 +10,7 @@ use Rattle.model.specs.Numbers.{firstOf}
 use Rattle.soundness.specs.Survey.{found-sound, fill-most}
 use Rattle.lookup.specs.Sized.{sound-sized}
 use Rattle.writing.specs.Homes.{openingRows}
-use Rattle.writing.proofs.Homes.{home-unit, homeless, outs-read, lives}
+use Rattle.writing.proofs.Homes.{home-unit, homeless, outs-read, located}
 use Rattle.writing.proofs.home_of.Statement.{statement}
 use Rattle.writing.proofs.home_of.Tie as tie
 
@@ -88,8 +88,8 @@ returns-5 c =
     record {
       found = simp (fits .before .if1 .left, fits .if2 .left, ← survey .survey-of .ensures .tested, good .if3 .left, home-unit (a .s .now) (a .key) (unit .unit-of .ensures .0), ← outs, free .if4 .left);
       fitting = λ _. not-false _ (fits .if2 .left);
-      lives = λ _.
-          lives (a .key) (survey .survey-of .ensures) (not-false _ (good .if3 .left)) (unit .unit-of .ensures) (ap (ltb 0) (sym outs) ∙ free .if4 .left)
+      located = λ _.
+          located (a .key) (survey .survey-of .ensures) (not-false _ (good .if3 .left)) (unit .unit-of .ensures) (ap (ltb 0) (sym outs) ∙ free .if4 .left)
           (read .wide2 .ensures .0) (c .rank .ensures);
     }
 

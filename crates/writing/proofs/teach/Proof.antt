@@ -36,7 +36,7 @@ write-record-requires c κs =
     let size = room .before .before in
     let fine = size .before .before .before .before in
     let found = fine .before .before .home-of .ensures in
-    (next-slot (found .lives (fine .if1 .left)) (rw (← size .byte-at .ensures) (room .if3 .left)), eqb-true _ _ (found .fitting (fine .if1 .left)))
+    (next-slot (found .located (fine .if1 .left)) (rw (← size .byte-at .ensures) (room .if3 .left)), eqb-true _ _ (found .fitting (fine .if1 .left)))
 
 returns-4 : tie.Need-returns-4
 returns-4 c =
@@ -48,7 +48,7 @@ returns-4 c =
     let home = fine .before .before in
     let a = home .before .before .before .before .args in
     granted-then (of-teaching (a .s .now) (a .key) (a .body .now)) (home .home-of .ensures) (fine .if1 .left)
-    (new .if2 .left, (rw (← size .byte-at .ensures) (room .if3 .left), tt)) (taught (home .home-of .ensures .lives (fine .if1 .left)) (a .body .now) (write .write-record .ensures))
+    (new .if2 .left, (rw (← size .byte-at .ensures) (room .if3 .left), tt)) (taught (home .home-of .ensures .located (fine .if1 .left)) (a .body .now) (write .write-record .ensures))
 
 pub teach-spec : {M : Type 1} → statement M
 teach-spec =

@@ -7,7 +7,7 @@ use Rattle.buffer.specs.Choice.{pick}
 use Rattle.buffer.specs.Bytes.{byte}
 use Rattle.buffer.specs.TestLaws.{is-eq, is-ne}
 use Rattle.soundness.specs.Pieces.{checkGood}
-use Rattle.soundness.proofs.Endings.{keeper-before, check-unit-zero, check-unit-same}
+use Rattle.soundness.proofs.Endings.{first-check-before, check-unit-zero, check-unit-same}
 use Rattle.soundness.proofs.checks.check_good.Statement.{statement}
 use Rattle.soundness.proofs.checks.check_good.Tie as tie
 
@@ -36,7 +36,7 @@ checks-at-requires-2 c κs =
     let start = read .before .before .before .before .before in
     let s = start .args .s .now in
     let state = ap (λ i. byte s (24 + i)) (read .wide2 .ensures .0) in
-    omega (arith, start .pre .1 .found, keeper-before s (start .args .c) (sym state ∙ c .before .if1 .left))
+    omega (arith, start .pre .1 .found, first-check-before s (start .args .c) (sym state ∙ c .before .if1 .left))
 
 returns-3 : tie.Need-returns-3
 unfolding checkGood pick
@@ -47,8 +47,8 @@ returns-3 c =
     let start = at .before .before .before .before in
     let s = start .args .s .now in
     let state = ap (λ i. byte s (24 + i)) (read .wide2 .ensures .0) in
-    let keeper = start .pre .1 .found in
-    rw (is-eq state refl (other .before .if1 .left), is-ne keeper refl (other .if2 .left)) (check-unit-same s (start .args .c) (at .before .wide .ensures .0) (at .checks-at .ensures .0) keeper (c .before .checks-at2 .ensures .0) (c .same-lists .ensures))
+    let firstCheck = start .pre .1 .found in
+    rw (is-eq state refl (other .before .if1 .left), is-ne firstCheck refl (other .if2 .left)) (check-unit-same s (start .args .c) (at .before .wide .ensures .0) (at .checks-at .ensures .0) firstCheck (c .before .checks-at2 .ensures .0) (c .same-lists .ensures))
 
 pub check-good-spec : {M : Type 1} → statement M
 check-good-spec = tie.close (tie.spec (λ c. search needs) (λ c κs. search needs) (λ c κs. search needs) (λ c κs. search needs) (λ c. search needs) (λ c. search needs) (λ c. search needs) (λ c. search needs) (λ c κs. search needs) returns returns-2 checks-at-requires-2 (λ c κs. search needs) returns-3)

@@ -10,10 +10,10 @@ use Rattle.soundness.proofs.checks.checks_good.Statement.{statement}
 use Rattle.soundness.proofs.checks.checks_good.Tie as tie
 
 abbrev Inv-loop : tie.InvT-loop
-Inv-loop s keepers c₀ c = Passing (checkGood s) 12 c
+Inv-loop s firstChecks c₀ c = Passing (checkGood s) 12 c
 
 abbrev μ-loop : tie.MeasureT-loop
-μ-loop s keepers c₀ c = 12 - c
+μ-loop s firstChecks c₀ c = 12 - c
 
 loop-holds : tie.Need-loop-holds Inv-loop μ-loop
 loop-holds c = passing-start

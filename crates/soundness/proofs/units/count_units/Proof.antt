@@ -13,10 +13,10 @@ use Rattle.soundness.proofs.units.count_units.Statement.{statement}
 use Rattle.soundness.proofs.units.count_units.Tie as tie
 
 abbrev Inv-loop : tie.InvT-loop
-Inv-loop s keepers t₀ fills₀ u₀ t fills u = Passing (unitGood s) 16 u × Filling (unitFill s) fills₀ fills u × (length t ≡ 2048)
+Inv-loop s firstChecks t₀ fills₀ u₀ t fills u = Passing (unitGood s) 16 u × Filling (unitFill s) fills₀ fills u × (length t ≡ 2048)
 
 abbrev μ-loop : tie.MeasureT-loop
-μ-loop s keepers t₀ fills₀ u₀ t fills u = 16 - u
+μ-loop s firstChecks t₀ fills₀ u₀ t fills u = 16 - u
 
 unit-count-requires : tie.Need-unit-count-requires Inv-loop μ-loop
 unit-count-requires c κs =

@@ -45,9 +45,9 @@ returns-3 c =
     let u = start .args .u in
     let width = place .before .wide .ensures .0 in
     let zero = unit-zero s u width (place .slots-at .ensures .0) (zeros .zero-between .ensures) in
-    let keeper = start .pre .1 .found in
-    let column = column-place s u keeper (to .checks-at .ensures .0) (c .before .wide2 .ensures .0) in
-    rw (is-yes zero (kept .before .if1 .left), is-kept s (u / 4) keeper (kept .if2 .left)) (column-none s u width column refl (c .no-keys .ensures))
+    let firstCheck = start .pre .1 .found in
+    let column = column-place s u firstCheck (to .checks-at .ensures .0) (c .before .wide2 .ensures .0) in
+    rw (is-yes zero (kept .before .if1 .left), is-kept s (u / 4) firstCheck (kept .if2 .left)) (column-none s u width column refl (c .no-keys .ensures))
 
 pub is-absent-spec : {M : Type 1} → statement M
 is-absent-spec = tie.close (tie.spec (λ c. search needs) (λ c κs. search needs) (λ c κs. search needs) (λ c. search needs) (λ c. search needs) (λ c κs. search needs) returns (λ c. search needs) (λ c. search needs) returns-2 (λ c κs. search needs) (λ c κs. search needs) (λ c. search needs) (λ c. search needs) no-keys-requires returns-3)

@@ -49,10 +49,10 @@ returns-3 c =
     let u = start .args .u in
     let width = place .before .wide .ensures .0 in
     let zero = unit-zero s u width (place .slots-at .ensures .0) (zeros .zero-between .ensures) in
-    let keeper = start .pre .1 .found in
-    let column = column-place s u keeper (to .checks-at .ensures .0) (found .before .before .wide2 .ensures .0) in
+    let firstCheck = start .pre .1 .found in
+    let column = column-place s u firstCheck (to .checks-at .ensures .0) (found .before .before .wide2 .ensures .0) in
     let fill = column-fill s u width column (found .reach .ensures .0) in
-    (rw (is-yes zero (kept .before .if1 .left), is-kept s (u / 4) keeper (kept .if2 .left), not-le fill refl (c .if3 .taken)), found .reach .ensures .1)
+    (rw (is-yes zero (kept .before .if1 .left), is-kept s (u / 4) firstCheck (kept .if2 .left), not-le fill refl (c .if3 .taken)), found .reach .ensures .1)
 
 no-keys-requires : tie.Need-no-keys-requires
 no-keys-requires c κs =
@@ -80,11 +80,11 @@ returns-4 c =
     let u = start .args .u in
     let width = place .before .wide .ensures .0 in
     let zero = unit-zero s u width (place .slots-at .ensures .0) (zeros .zero-between .ensures) in
-    let keeper = start .pre .1 .found in
-    let column = column-place s u keeper (to .checks-at .ensures .0) (found .before .before .wide2 .ensures .0) in
+    let firstCheck = start .pre .1 .found in
+    let column = column-place s u firstCheck (to .checks-at .ensures .0) (found .before .before .wide2 .ensures .0) in
     let fill = column-fill s u width column (found .reach .ensures .0) in
     let none = column-none s u width column fill (c .before .no-keys .ensures) in
-    (rw (is-yes zero (kept .before .if1 .left), is-kept s (u / 4) keeper (kept .if2 .left), is-le fill refl (some .if3 .left), is-no none (c .if4 .taken)), found .reach .ensures .1)
+    (rw (is-yes zero (kept .before .if1 .left), is-kept s (u / 4) firstCheck (kept .if2 .left), is-le fill refl (some .if3 .left), is-no none (c .if4 .taken)), found .reach .ensures .1)
 
 returns-5 : tie.Need-returns-5
 unfolding lost lostFill pick
@@ -100,11 +100,11 @@ returns-5 c =
     let u = start .args .u in
     let width = place .before .wide .ensures .0 in
     let zero = unit-zero s u width (place .slots-at .ensures .0) (zeros .zero-between .ensures) in
-    let keeper = start .pre .1 .found in
-    let column = column-place s u keeper (to .checks-at .ensures .0) (found .before .before .wide2 .ensures .0) in
+    let firstCheck = start .pre .1 .found in
+    let column = column-place s u firstCheck (to .checks-at .ensures .0) (found .before .before .wide2 .ensures .0) in
     let fill = column-fill s u width column (found .reach .ensures .0) in
     let none = column-none s u width column fill (c .before .no-keys .ensures) in
-    (rw (is-yes zero (kept .before .if1 .left), is-kept s (u / 4) keeper (kept .if2 .left), is-le fill refl (some .if3 .left), is-yes none (c .if4 .left)) fill, found .reach .ensures .1)
+    (rw (is-yes zero (kept .before .if1 .left), is-kept s (u / 4) firstCheck (kept .if2 .left), is-le fill refl (some .if3 .left), is-yes none (c .if4 .left)) fill, found .reach .ensures .1)
 
 pub lost-count-spec : {M : Type 1} → statement M
 lost-count-spec =

@@ -73,10 +73,10 @@ returns-3 c =
     let at = place .slots-at .ensures .0 in
     let fill = data-fill s u width at (found .reach .ensures .0) in
     let zero = rest-zero s u width at fill (zeros .zero-between .ensures) in
-    let keeper = start .pre .1 .found in
-    let column = column-place s u keeper (to .checks-at .ensures .0) (c .before .before .wide2 .ensures .0) in
+    let firstCheck = start .pre .1 .found in
+    let column = column-place s u firstCheck (to .checks-at .ensures .0) (c .before .before .wide2 .ensures .0) in
     let other = is-no (column-same s u width at column (c .before .same-column .ensures)) (c .if4 .taken) in
-    (rw (is-le fill refl (some .if1 .left), is-yes zero (kept .before .if2 .left), is-kept s (u / 4) keeper (kept .if3 .taken), other), found .reach .ensures .1)
+    (rw (is-le fill refl (some .if1 .left), is-yes zero (kept .before .if2 .left), is-kept s (u / 4) firstCheck (kept .if3 .taken), other), found .reach .ensures .1)
 
 returns-4 : tie.Need-returns-4
 unfolding served pick
@@ -92,13 +92,13 @@ returns-4 c =
     let at = place .slots-at .ensures .0 in
     let fill = data-fill s u width at (found .reach .ensures .0) in
     let zero = rest-zero s u width at fill (zeros .zero-between .ensures) in
-    let keeper = start .pre .1 .found in
+    let firstCheck = start .pre .1 .found in
     let listed : (unkept s (u / 4) || sameKeys (byte s 5) (dataKeys s u) (columnKeys s u)) ≡ true =
     ⊎-elim
     (λ w.
-    let column = column-place s u keeper (w .1 .ensures .0) (w .2 .ensures .0) in
-    rw (is-kept s (u / 4) keeper (w .0 .taken), is-yes (column-same s u width at column (w .3 .ensures)) (w .4 .left)))
-    (λ w. rw (is-unkept s (u / 4) keeper (w .left)))
+    let column = column-place s u firstCheck (w .1 .ensures .0) (w .2 .ensures .0) in
+    rw (is-kept s (u / 4) firstCheck (w .0 .taken), is-yes (column-same s u width at column (w .3 .ensures)) (w .4 .left)))
+    (λ w. rw (is-unkept s (u / 4) firstCheck (w .left)))
     (c .if3 .came) in
     (rw (is-le fill refl (some .if1 .left), is-yes zero (c .before .if2 .left), listed) fill, found .reach .ensures .1)
 

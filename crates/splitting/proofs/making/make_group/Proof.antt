@@ -17,7 +17,7 @@ returns : tie.Need-returns Inv-loop μ-loop
 returns c =
     let k = c .before in
     let e = k .before .before .before in
-    nothing-made (e .args .s .now) (e .args .g) (e .pre .0) (sym (k .keeper .ensures .0) ∙ c .if1 .taken)
+    nothing-made (e .args .s .now) (e .args .g) (e .pre .0) (sym (k .first-check .ensures .0) ∙ c .if1 .taken)
 
 loop-holds : tie.Need-loop-holds Inv-loop μ-loop
 loop-holds c = let e = c .before .before .before .before .before in making-start (e .args .s .now) (e .args .g) (e .pre .0) (e .pre .1)

@@ -17,7 +17,7 @@ use Rattle.buffer.specs.Table.{upd}
 use Rattle.model.specs.Units.{splitPointer, unitOf}
 use Rattle.model.specs.UnitLaws.{split-below, unit-below}
 use Rattle.model.specs.Numbers.{Call, teach, correct, erase, read, readInPlace, list, unitOut, repair, grow, shrink, raise}
-use Rattle.model.specs.Changes.{keep}
+use Rattle.model.specs.Changes.{filterBy}
 use Rattle.model.specs.history.Ledger.{Rec, empty, Ledger, home, recordAt, rankOf, withRecords, grownLedger, shrunkLedger, granted}
 use Rattle.model.specs.history.Table.{refusals, number}
 use Rattle.model.specs.history.Answers.{after}
@@ -25,7 +25,7 @@ use Rattle.model.specs.history.Runs.{taughtBy}
 use Rattle.model.specs.RowLaws.{Free}
 use Rattle.model.proofs.history.Granted.{granted-free, granted-after, refused-after}
 use Rattle.model.proofs.history.Split.{other-key, split-key, new-key, old-key}
-use Rattle.model.proofs.history.Seek.{seek, Different, Without, orElse, or-none, none-or, seek-append, seek-keep, seek-miss, seek-hit, rank-key, rank-without}
+use Rattle.model.proofs.history.Seek.{seek, Different, Without, orElse, or-none, none-or, seek-append, seek-filter, seek-miss, seek-hit, rank-key, rank-without}
 use Rattle.model.proofs.history.Changed.{set-seek, set-other, cut, cut-seek, cut-other}
 
 -- a ledger whose lists are in order: keys stand in their own unit, each once
@@ -36,8 +36,8 @@ pub record Ordered (l : Ledger) : Type 0 where
   pub differ : (u r q : ℕ) → r < q → q < length (l .records u) → recordAt l u r .key ≢ recordAt l u q .key
 
 -- what a ledger holds for a key
-unfoldable pub stand : Ledger → ℕ → Option (List ℕ)
-stand l k = seek (l .records (home l k)) k
+unfoldable pub recorded : Ledger → ℕ → Option (List ℕ)
+recorded l k = seek (l .records (home l k)) k
 
 module _ (l : Ledger) (h : Ordered l) where
   pub different : (u : ℕ) → Different (l .records u)
@@ -49,15 +49,15 @@ module _ (l : Ledger) (h : Ordered l) where
   own-unit u r a = h .own u r a
 
 module _ (l : Ledger) (k : ℕ) where
-  stand-with : (u : ℕ) (rs : List Rec) → stand (withRecords l u rs) k ≡ pick (eqb (home l k) u) (seek rs k) (stand l k)
-  unfolding stand withRecords home upd
-  stand-with u rs = pick-map (λ (xs : List Rec). seek xs k) (eqb (unitOf (l .units) k) u) rs (l .records (unitOf (l .units) k))
+  recorded-with : (u : ℕ) (rs : List Rec) → recorded (withRecords l u rs) k ≡ pick (eqb (home l k) u) (seek rs k) (recorded l k)
+  unfolding recorded withRecords home upd
+  recorded-with u rs = pick-map (λ (xs : List Rec). seek xs k) (eqb (unitOf (l .units) k) u) rs (l .records (unitOf (l .units) k))
 
   -- a call that gives the list rs to the unit of key j, after which key k stands in it as it should
   put-list : (j : ℕ) (rs : List Rec) (t : Option (List ℕ)) → (j ≡ k → seek rs k ≡ t) → ((j ≡ k → ⊥) → seek rs k ≡ seek (l .records (home l j)) k)
-      → stand (withRecords l (home l j) rs) k ≡ pick (eqb j k) t (stand l k)
-  unfolding stand pick
-  put-list j rs t a b = stand-with (home l j) rs ∙ go (eqb (home l k) (home l j)) (eqb j k) refl refl
+      → recorded (withRecords l (home l j) rs) k ≡ pick (eqb j k) t (recorded l k)
+  unfolding recorded pick
+  put-list j rs t a b = recorded-with (home l j) rs ∙ go (eqb (home l k) (home l j)) (eqb j k) refl refl
     where
       go : (x y : Bool) → eqb (home l k) (home l j) ≡ x → eqb j k ≡ y
           → pick x (seek rs k) (seek (l .records (home l k)) k) ≡ pick y t (seek (l .records (home l k)) k)
@@ -69,9 +69,9 @@ module _ (l : Ledger) (k : ℕ) where
 -- ---- teach, correct, erase
 
 module _ (l : Ledger) (h : Ordered l) (k : ℕ) where
-  stand-teach : (j : ℕ) (x : List ℕ) → Free (refusals l (teach j x)) → stand (granted l (teach j x)) k ≡ taughtBy k (teach j x) 0 (stand l k)
+  recorded-teach : (j : ℕ) (x : List ℕ) → Free (refusals l (teach j x)) → recorded (granted l (teach j x)) k ≡ taughtBy k (teach j x) 0 (recorded l k)
   unfolding granted taughtBy refusals
-  stand-teach j x f = put-list l k j (rs ++ (y ∷ [])) (some x)
+  recorded-teach j x f = put-list l k j (rs ++ (y ∷ [])) (some x)
       (λ e. seek-append rs (y ∷ []) k ∙ rw (seek-miss rs k (λ r a q. fresh r a (q ∙ sym e))) (none-or (seek (y ∷ []) k) ∙ one-hit e))
       (λ n. seek-append rs (y ∷ []) k ∙ rw (one-miss n) (or-none (seek rs k)))
     where
@@ -94,9 +94,9 @@ module _ (l : Ledger) (h : Ordered l) (k : ℕ) where
           alone zero a = n
           alone (suc r) a = absurd (omega arith)
 
-  stand-correct : (j : ℕ) (x : List ℕ) → Free (refusals l (correct j x)) → stand (granted l (correct j x)) k ≡ taughtBy k (correct j x) 0 (stand l k)
+  recorded-correct : (j : ℕ) (x : List ℕ) → Free (refusals l (correct j x)) → recorded (granted l (correct j x)) k ≡ taughtBy k (correct j x) 0 (recorded l k)
   unfolding granted taughtBy refusals
-  stand-correct j x f = put-list l k j (set rs (rankOf rs j) y) (some x)
+  recorded-correct j x f = put-list l k j (set rs (rankOf rs j) y) (some x)
       (λ e. ap (seek (set rs (rankOf rs j) y)) (sym e) ∙ set-seek rs d (rankOf rs j) y inside (rank-key rs j inside))
       (λ n. set-other rs d (rankOf rs j) y inside (rank-key rs j inside) k n)
     where
@@ -112,9 +112,9 @@ module _ (l : Ledger) (h : Ordered l) (k : ℕ) where
       inside : rankOf rs j < length rs
       inside = leb-false (length rs) (rankOf rs j) (f .1 .1 .1 .1 .0)
 
-  stand-erase : (j : ℕ) → Free (refusals l (erase j)) → stand (granted l (erase j)) k ≡ taughtBy k (erase j) 0 (stand l k)
+  recorded-erase : (j : ℕ) → Free (refusals l (erase j)) → recorded (granted l (erase j)) k ≡ taughtBy k (erase j) 0 (recorded l k)
   unfolding granted taughtBy refusals
-  stand-erase j f = put-list l k j (cut rs n (pred (length rs))) none
+  recorded-erase j f = put-list l k j (cut rs n (pred (length rs))) none
       (λ e. ap (seek (cut rs n (pred (length rs)))) (sym (hit ∙ e)) ∙ cut-seek rs d n (pred (length rs)) inside end)
       (λ e. cut-other rs d n (pred (length rs)) inside end k (λ w. e (sym hit ∙ w)))
     where
@@ -138,9 +138,9 @@ module _ (l : Ledger) (h : Ordered l) (k : ℕ) where
 
   -- ---- grow and shrink move records, and change none
 
-  stand-grown : l .units ≤ 15 → stand (grownLedger l) k ≡ stand l k
-  unfolding stand home grownLedger
-  stand-grown top =
+  recorded-grown : l .units ≤ 15 → recorded (grownLedger l) k ≡ recorded l k
+  unfolding recorded home grownLedger
+  recorded-grown top =
       by-pick
       (λ (xs : List Rec). seek xs k ≡ seek (l .records (unitOf m k)) k)
       (eqb u m || eqb u n)
@@ -160,10 +160,10 @@ module _ (l : Ledger) (h : Ordered l) (k : ℕ) where
       u = unitOf (suc m) k
 
       dealt : List Rec
-      dealt = keep (λ (x : Rec). eqb (unitOf (suc m) (x .key)) u) (l .records n)
+      dealt = filterBy (λ (x : Rec). eqb (unitOf (suc m) (x .key)) u) (l .records n)
 
       found : seek dealt k ≡ seek (l .records n) k
-      found = seek-keep (λ i. eqb (unitOf (suc m) i) u) (l .records n) k ∙ pick-true (eq-eqb u u refl) (seek (l .records n) k) none
+      found = seek-filter (λ i. eqb (unitOf (suc m) i) u) (l .records n) k ∙ pick-true (eq-eqb u u refl) (seek (l .records n) k) none
 
       split : (eqb u m || eqb u n) ≡ true → unitOf m k ≡ n
       split =
@@ -173,9 +173,9 @@ module _ (l : Ledger) (h : Ordered l) (k : ℕ) where
           (λ a e. new-key m k (h .some) top (eqb-true u m a))
           (λ a e. old-key m k (h .some) top (eqb-false u m a) ∙ eqb-true u n e)
 
-  stand-shrunk : (m : ℕ) → l .units ≡ suc m → 1 ≤ m → stand (shrunkLedger l m) k ≡ stand l k
-  unfolding stand home shrunkLedger
-  stand-shrunk m is pos =
+  recorded-shrunk : (m : ℕ) → l .units ≡ suc m → 1 ≤ m → recorded (shrunkLedger l m) k ≡ recorded l k
+  unfolding recorded home shrunkLedger
+  recorded-shrunk m is pos =
       ap (λ (xs : List Rec). seek xs k) (pick-false (ne-eqb u m (omega (arith, unit-below m k pos))) [] (pick (eqb u n) (l .records n ++ l .records m) (l .records u)))
       ∙ rw is (by-pick
       (λ (xs : List Rec). seek xs k ≡ seek (l .records (unitOf (suc m) k)) k)
@@ -205,29 +205,29 @@ module _ (l : Ledger) (h : Ordered l) (k : ℕ) where
       both (inl e) = rw (elsewhere m (λ f. apart (sym e ∙ f)), e) (or-none (seek (l .records n) k))
       both (inr e) = rw (elsewhere n (λ f. apart (sym f ∙ e)), e) (none-or (seek (l .records m) k))
 
-  stand-grow : Free (refusals l grow) → stand (granted l grow) k ≡ stand l k
+  recorded-grow : Free (refusals l grow) → recorded (granted l grow) k ≡ recorded l k
   unfolding granted refusals
-  stand-grow f = stand-grown (omega (arith, leb-false 16 (l .units) (f .1 .0)))
+  recorded-grow f = recorded-grown (omega (arith, leb-false 16 (l .units) (f .1 .0)))
 
-  stand-shrink : Free (refusals l shrink) → stand (granted l shrink) k ≡ stand l k
+  recorded-shrink : Free (refusals l shrink) → recorded (granted l shrink) k ≡ recorded l k
   unfolding granted refusals
-  stand-shrink f = stand-shrunk (pred (l .units)) (omega (arith, leb-false (l .units) 1 (f .1 .0))) (omega (arith, leb-false (l .units) 1 (f .1 .0)))
+  recorded-shrink f = recorded-shrunk (pred (l .units)) (omega (arith, leb-false (l .units) 1 (f .1 .0))) (omega (arith, leb-false (l .units) 1 (f .1 .0)))
 
   -- ---- any call
 
-  stand-granted : (c : Call) → Free (refusals l c) → stand (granted l c) k ≡ taughtBy k c 0 (stand l k)
-  unfolding granted taughtBy stand home
-  stand-granted (teach j x) f = stand-teach j x f
-  stand-granted (correct j x) f = stand-correct j x f
-  stand-granted (erase j) f = stand-erase j f
-  stand-granted (read j out) f = refl
-  stand-granted (readInPlace j) f = refl
-  stand-granted (list out) f = refl
-  stand-granted (unitOut w) f = refl
-  stand-granted (repair g) f = refl
-  stand-granted grow f = stand-grow f
-  stand-granted shrink f = stand-shrink f
-  stand-granted raise f = refl
+  recorded-granted : (c : Call) → Free (refusals l c) → recorded (granted l c) k ≡ taughtBy k c 0 (recorded l k)
+  unfolding granted taughtBy recorded home
+  recorded-granted (teach j x) f = recorded-teach j x f
+  recorded-granted (correct j x) f = recorded-correct j x f
+  recorded-granted (erase j) f = recorded-erase j f
+  recorded-granted (read j out) f = refl
+  recorded-granted (readInPlace j) f = refl
+  recorded-granted (list out) f = refl
+  recorded-granted (unitOut w) f = refl
+  recorded-granted (repair g) f = refl
+  recorded-granted grow f = recorded-grow f
+  recorded-granted shrink f = recorded-shrink f
+  recorded-granted raise f = refl
 
   refused : (c : Call) (n : ℕ) (t : Option (List ℕ)) → eqb n 0 ≡ false → taughtBy k c n t ≡ t
   unfolding taughtBy
@@ -243,13 +243,13 @@ module _ (l : Ledger) (h : Ordered l) (k : ℕ) where
   refused shrink n t e = refl
   refused raise n t e = refl
 
-  pub stand-after : (c : Call) → stand (after l c) k ≡ taughtBy k c (number l c) (stand l k)
-  stand-after c =
+  pub recorded-after : (c : Call) → recorded (after l c) k ≡ taughtBy k c (number l c) (recorded l k)
+  recorded-after c =
       by-test
-      (λ t. stand (after l c) k ≡ taughtBy k c (number l c) (stand l k))
+      (λ t. recorded (after l c) k ≡ taughtBy k c (number l c) (recorded l k))
       (eqb (number l c) 0)
       (λ e.
-      ap (λ (m : Ledger). stand m k) (granted-after l c e)
-      ∙ stand-granted c (granted-free l c e)
-      ∙ ap (λ (n : ℕ). taughtBy k c n (stand l k)) (sym (eqb-true (number l c) 0 e)))
-      (λ e. ap (λ (m : Ledger). stand m k) (refused-after l c e) ∙ sym (refused c (number l c) (stand l k) e))
+      ap (λ (m : Ledger). recorded m k) (granted-after l c e)
+      ∙ recorded-granted c (granted-free l c e)
+      ∙ ap (λ (n : ℕ). taughtBy k c n (recorded l k)) (sym (eqb-true (number l c) 0 e)))
+      (λ e. ap (λ (m : Ledger). recorded m k) (refused-after l c e) ∙ sym (refused c (number l c) (recorded l k) e))

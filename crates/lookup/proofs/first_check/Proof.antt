@@ -1,4 +1,4 @@
--- `lookup::keeper` meets its contract. Assumes nothing.
+-- `lookup::first_check` meets its contract. Assumes nothing.
 use Prim.Native.Nat.{_+_, _*_, _-_}
 use mathlib.Core.Path.{ap, refl}
 use lib.Dec.{eqb}
@@ -7,9 +7,9 @@ use Rattle.buffer.specs.TestLaws.{is-eq, is-ne}
 use Rattle.buffer.specs.LoopTests.{Missing, missing-start, missing-turn, missing-found, missing-end}
 use Rattle.buffer.specs.Bytes.{byte}
 use Rattle.model.specs.Layout.{view}
-use Rattle.model.specs.Reads.{keeper}
-use Rattle.lookup.proofs.keeper.Statement.{statement}
-use Rattle.lookup.proofs.keeper.Tie as tie
+use Rattle.model.specs.Reads.{firstCheck}
+use Rattle.lookup.proofs.first_check.Statement.{statement}
+use Rattle.lookup.proofs.first_check.Tie as tie
 
 abbrev Inv-loop : tie.InvT-loop
 Inv-loop s g j₀ j = Missing (λ i. eqb (byte s (24 + (3 * g + i))) 1) 3 j
@@ -21,15 +21,15 @@ loop-holds : tie.Need-loop-holds Inv-loop μ-loop
 loop-holds c = missing-start
 
 returns : tie.Need-returns Inv-loop μ-loop
-unfolding keeper view
+unfolding firstCheck view
 returns c = (ap (λ j. 3 * c .before .before .before .before .before .before .args .g + j) (missing-found (c .before .before .before .before .loop .inv) (c .before .before .before .loop-test .taken) (is-eq (ap (λ i. byte (c .before .before .before .before .before .before .args .s .now) (24 + i)) (c .before .before .wide .ensures .0)) refl (c .if1 .taken))), search needs)
 
 loop-again : tie.Need-loop-again Inv-loop μ-loop
 loop-again c = missing-turn (c .before .before .before .before .loop .inv) (c .before .before .before .loop-test .taken) (is-ne (ap (λ i. byte (c .before .before .before .before .before .before .args .s .now) (24 + i)) (c .before .before .wide .ensures .0)) refl (c .if1 .left))
 
 returns-2 : tie.Need-returns-2 Inv-loop μ-loop
-unfolding keeper view
+unfolding firstCheck view
 returns-2 c = (ap (λ j. 3 * c .before .before .before .args .g + j) (missing-end (c .before .loop .inv) (c .loop-test .left)), search needs)
 
-pub keeper-spec : {M : Type 1} → statement M
-keeper-spec = tie.close (tie.spec Inv-loop μ-loop loop-holds (λ c. search needs) (λ c. search needs) (λ c κs. search needs) (λ c. search needs) (λ c. search needs) (λ c. search needs) (λ c. search needs) returns (λ c. search needs) (λ c. search needs) loop-again (λ c. search needs) (λ c. search needs) returns-2)
+pub first-check-spec : {M : Type 1} → statement M
+first-check-spec = tie.close (tie.spec Inv-loop μ-loop loop-holds (λ c. search needs) (λ c. search needs) (λ c κs. search needs) (λ c. search needs) (λ c. search needs) (λ c. search needs) (λ c. search needs) returns (λ c. search needs) (λ c. search needs) loop-again (λ c. search needs) (λ c. search needs) returns-2)
