@@ -1,4 +1,5 @@
 pub mod Widths
+pub mod Products
 pub mod Body
 pub mod BodyLaws
 pub mod Four

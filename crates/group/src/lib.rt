@@ -7,8 +7,8 @@ ghost use mathlib.Core.Bool.{true};
 ghost use Prim.Native.Nat.{_+_, _≤_, _<_};
 ghost use lib.ListN.{length};
 ghost use Rattle.buffer.specs.Bytes.{byte};
-ghost use Rattle.field.specs.Table.{products};
-ghost use Rattle.field.specs.Byte.{scale};
+ghost use Rattle.code.specs.Scaling.{products};
+ghost use Rattle.code.specs.Scaling.{scale};
 ghost use Rattle.code.specs.Matrix.{within};
 ghost use lib.Dec.{ltb};
 ghost use Rattle.group.specs.Widths.{checkBytes};
@@ -18,6 +18,18 @@ ghost use Rattle.group.specs.CheckRecord.{patched};
 ghost use Rattle.group.specs.Members.{checks, serves, next, firstFour};
 ghost use Rattle.group.specs.Rebuilding.{weighed};
 ghost use Rattle.group.specs.Four.{fourBodies};
+
+// The widths of a record's parts, in bytes: a key, a body, a slot, which has both, the four keys of a check record, and a check record, which has these
+// and a parity.
+pub const KEY: usize = 4;
+
+pub const BODY: usize = 16;
+
+pub const SLOT: usize = KEY + BODY;
+
+pub const KEYS: usize = 4 * KEY;
+
+pub const CHECK: usize = KEYS + BODY;
 
 // The table of products, for the layer above; it is taken once and lent.
 pub fn table() -> [u8; 256]
@@ -75,16 +87,21 @@ pub fn follow(
     into: &mut [u8],
     check: u8,
     place: u8,
-    key: [u8; 4],
-    change: [u8; 16],
+    key: [u8; KEY],
+    change: [u8; BODY],
     table: &[u8; 256],
 )
     requires { ⌜ (length (now into) ≡ checkBytes) × (check < 3) × (place < 4) × (now table ≡ products) ⌝ }
     ensures { λ _. ⌜ now (into .exit) ≡ patched check place key change (now (into .entry)) ⌝ }
 {
-    let at = 4 * buffer::wide(place);
-    buffer::copy(&mut into[at..at + 4], &key);
-    add_scaled(&mut into[16..32], &change, coefficient(place, check), table);
+    let at = KEY * buffer::wide(place);
+    buffer::copy(&mut into[at..at + KEY], &key);
+    add_scaled(
+        &mut into[KEYS..CHECK],
+        &change,
+        coefficient(place, check),
+        table,
+    );
 }
 
 // How many check units are in place, out ones counted too.

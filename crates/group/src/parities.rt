@@ -1,14 +1,15 @@
-// The parities of four bodies at the three check places, by the products of every byte with 8 and with 7, looked up once for a call and lent.
+// The parities of four bodies at the three check places, by two rows of products, which a caller takes once and lends: every byte times 8, and
+// times 7.
 ghost use mathlib.Core.Path.{_≡_};
 ghost use Prim.Native.Nat.{_<_};
 ghost use lib.Bits.{bitXor};
 ghost use lib.ListN.{length};
-ghost use Rattle.field.specs.Byte.{scale};
-ghost use Rattle.field.specs.Table.{products};
+ghost use Rattle.code.specs.Scaling.{scale};
+ghost use Rattle.code.specs.Scaling.{products};
 ghost use Rattle.group.specs.Widths.{bodyBytes};
 ghost use Rattle.group.specs.Parity.{coefficient, parity};
 ghost use Rattle.group.specs.Four.{fourBodies};
-ghost use Rattle.group.specs.ScaledRow.{scaledRow};
+ghost use Rattle.group.specs.ScaledRow.{scaledRow, firstRow, secondRow};
 
 // The products of every byte with a symbol.
 fn fill_row(row: &mut [u8], w: u8, table: &[u8; 256])
@@ -23,7 +24,7 @@ fn fill_row(row: &mut [u8], w: u8, table: &[u8; 256])
 }
 
 // The same, from the product table.
-pub fn scaled_row(w: u8) -> [u8; 256]
+fn scaled_row(w: u8) -> [u8; 256]
     requires { ⌜ w < 16 ⌝ }
     ensures { λ r. ⌜ r ≡ scaledRow w ⌝ }
 {
@@ -33,9 +34,22 @@ pub fn scaled_row(w: u8) -> [u8; 256]
     row
 }
 
+// The two rows that a caller lends.
+pub fn first_row() -> [u8; 256]
+    ensures { λ r. ⌜ r ≡ firstRow ⌝ }
+{
+    scaled_row(8)
+}
+
+pub fn second_row() -> [u8; 256]
+    ensures { λ r. ⌜ r ≡ secondRow ⌝ }
+{
+    scaled_row(7)
+}
+
 // The sum of four bytes, each times its coefficient in check place 0: 8a + Fb + c + 7d. That is 8 times a + b, 7 times b + d, and c.
 fn mix(eights: &[u8; 256], sevens: &[u8; 256], a: u8, b: u8, c: u8, d: u8) -> u8
-    requires { ⌜ (now eights ≡ scaledRow 8) × (now sevens ≡ scaledRow 7) ⌝ }
+    requires { ⌜ (now eights ≡ firstRow) × (now sevens ≡ secondRow) ⌝ }
     ensures { λ r. ⌜ r ≡ bitXor (bitXor (bitXor (scale (coefficient 0 0) a) (scale (coefficient 1 0) b)) (scale (coefficient 2 0) c)) (scale (coefficient 3 0) d) ⌝ }
 {
     eights[buffer::wide(a ^ b)] ^ sevens[buffer::wide(b ^ d)] ^ c
@@ -53,11 +67,11 @@ pub fn fill(
     eights: &[u8; 256],
     sevens: &[u8; 256],
 )
-    requires { ⌜ (length (now x) ≡ bodyBytes) × (length (now y) ≡ bodyBytes) × (length (now z) ≡ bodyBytes) × (length (now a) ≡ bodyBytes) × (length (now b) ≡ bodyBytes) × (length (now c) ≡ bodyBytes) × (length (now d) ≡ bodyBytes) × (now eights ≡ scaledRow 8) × (now sevens ≡ scaledRow 7) ⌝ }
+    requires { ⌜ (length (now x) ≡ bodyBytes) × (length (now y) ≡ bodyBytes) × (length (now z) ≡ bodyBytes) × (length (now a) ≡ bodyBytes) × (length (now b) ≡ bodyBytes) × (length (now c) ≡ bodyBytes) × (length (now d) ≡ bodyBytes) × (now eights ≡ firstRow) × (now sevens ≡ secondRow) ⌝ }
     ensures { λ _. ⌜ (now (x .exit) ≡ parity 0 (fourBodies (now (a .entry)) (now (b .entry)) (now (c .entry)) (now (d .entry)))) × (now (y .exit) ≡ parity 1 (fourBodies (now (a .entry)) (now (b .entry)) (now (c .entry)) (now (d .entry)))) × (now (z .exit) ≡ parity 2 (fourBodies (now (a .entry)) (now (b .entry)) (now (c .entry)) (now (d .entry)))) ⌝ }
 {
     let mut i = 0;
-    while i < 16 {
+    while i < super::BODY {
         let e = a[i];
         let f = b[i];
         let g = c[i];

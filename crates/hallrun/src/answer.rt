@@ -25,7 +25,7 @@ fn number_of(store: &mut [u8], line: Line) -> u8 {
 
 // A granted read prints the body behind its number.
 fn answer_read(store: &[u8], key: u32) {
-    let mut body = [0u8; 16];
+    let mut body = [0u8; group::BODY];
     let number = reading::read(store, key, &mut body);
     if number == 0 {
         print_body(&body);
@@ -38,7 +38,7 @@ fn answer_read(store: &[u8], key: u32) {
 fn answer_list(store: &[u8], list: &mut [u8]) {
     let found = reading::list(store, list);
     print_number(found.number);
-    print_records(buffer::byte_at(store, 6), list, found.count);
+    print_records(buffer::byte_at(store, lookup::UNITS_AT), list, found.count);
 }
 
 pub fn answer(store: &mut [u8], list: &mut [u8], text: &[u8]) {

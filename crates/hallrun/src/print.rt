@@ -2,6 +2,7 @@
 use libc::STDOUT_FILENO;
 ghost use mathlib.Core.Path.{_≡_};
 ghost use lib.ListN.{length};
+ghost use Rattle.group.specs.Widths.{slotBytes};
 
 pub fn print_number(number: u8) {
     let line = lines::output::number_line(number);
@@ -10,7 +11,7 @@ pub fn print_number(number: u8) {
     io::write_all(STDOUT_FILENO, &bytes[..size]);
 }
 
-pub fn print_body(body: &[u8; 16]) {
+pub fn print_body(body: &[u8; group::BODY]) {
     let line = lines::output::body_line(body);
     io::write_all(STDOUT_FILENO, &line);
 }
@@ -38,7 +39,7 @@ fn next(before: Place, m: u8, key: u32) -> Place {
 }
 
 fn print_record(place: Place, slot: &[u8])
-    requires { ⌜ length (now slot) ≡ 20 ⌝ }
+    requires { ⌜ length (now slot) ≡ slotBytes ⌝ }
 {
     let line = lines::output::record_line(place.unit, place.rank, slot);
     io::write_all(STDOUT_FILENO, &line);
@@ -51,12 +52,12 @@ pub fn print_records(m: u8, list: &[u8], count: usize) {
     let mut i = 0;
     let mut at = 0;
     while i < count {
-        if list.len() - at < 20 {
+        if list.len() - at < group::SLOT {
             return;
         }
         place = next(place, m, buffer::load32(list, at));
-        print_record(place, &list[at..at + 20]);
-        at += 20;
+        print_record(place, &list[at..at + group::SLOT]);
+        at += group::SLOT;
         i += 1;
     }
 }

@@ -9,6 +9,7 @@ use Rattle.buffer.specs.Range.{all}
 use Rattle.buffer.specs.Loops.{entries}
 use Rattle.buffer.specs.Bytes.{byte, zeros}
 use Rattle.buffer.specs.Table.{tab}
+use Rattle.group.specs.Widths.{bodyBytes}
 
 -- the value of a digit, 0 to 9 and A to F; 16 for any other byte
 unfoldable pub digit : ℕ → ℕ
@@ -44,7 +45,7 @@ pub record Numbered (l : List ℕ) (at n : ℕ) (ok : Bool) (value : ℕ) : Type
   pub tested : ok ≡ hexAt l at n
   pub found : value ≡ pick (hexAt l at n) (numberAt l at n) 0
 
--- what reading a body of 16 bytes finds: whether its 32 places are digits, and the body, zeros where they are not
+-- what reading a body finds: whether its places, two for each byte, are digits, and the body, zeros where they are not
 pub record Embodied (l : List ℕ) (at : ℕ) (ok : Bool) (body : List ℕ) : Type 0 where
-  pub tested : ok ≡ hexAt l at 32
-  pub found : body ≡ pick (hexAt l at 32) (bytesAt l at 16) (zeros 16)
+  pub tested : ok ≡ hexAt l at (2 * bodyBytes)
+  pub found : body ≡ pick (hexAt l at (2 * bodyBytes)) (bytesAt l at bodyBytes) (zeros bodyBytes)

@@ -7,6 +7,7 @@ use lib.Dec.{ltb}
 use lib.ListN.{length, take, drop}
 use Rattle.buffer.specs.Choice.{pick}
 use Rattle.buffer.specs.Bytes.{zeros, splice}
+use Rattle.group.specs.Widths.{keyBytes, bodyBytes, slotBytes}
 use Rattle.lines.specs.Digits.{hex, hexBytes}
 
 -- a number below 100 in decimal
@@ -28,11 +29,15 @@ pub record Short (l bytes : List ℕ) (size : ℕ) : Type 0 where
 
 -- a granted R: 0, a space and the body
 unfoldable pub bodyLine : List ℕ → List ℕ
-bodyLine body = 48 ∷ 32 ∷ (hexBytes 16 body ++ (10 ∷ []))
+bodyLine body = 48 ∷ 32 ∷ (hexBytes bodyBytes body ++ (10 ∷ []))
 
 -- a record of unit u at rank r; the record is its key's four bytes and its body
 unfoldable pub recordLine : ℕ → ℕ → List ℕ → List ℕ
-recordLine u r x = hex 2 u ++ (32 ∷ (hex 2 r ++ (32 ∷ (hexBytes 4 (take 4 x) ++ (32 ∷ (hexBytes 16 (drop 4 x) ++ (10 ∷ [])))))))
+recordLine u r x = hex 2 u ++ (32 ∷ (hex 2 r ++ (32 ∷ (hexBytes keyBytes (take keyBytes x) ++ (32 ∷ (hexBytes bodyBytes (drop keyBytes x) ++ (10 ∷ [])))))))
+
+-- how long it is: four arguments of two digits a byte, each with a byte behind it
+abbrev pub recordBytes : ℕ
+recordBytes = 4 + 2 * (2 + slotBytes)
 
 -- a line with the digits of bytes x written at a place, and a byte behind them
 unfoldable pub argumentPut : List ℕ → ℕ → List ℕ → ℕ → List ℕ

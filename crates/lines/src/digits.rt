@@ -2,6 +2,7 @@
 ghost use mathlib.Core.Path.{_≡_};
 ghost use Prim.Native.Nat.{_+_, _*_, _≤_, _<_};
 ghost use lib.ListN.{length};
+ghost use Rattle.group.specs.Widths.{bodyBytes};
 ghost use Rattle.lines.specs.Digits.{digit, digitOf, hex, hexBytes, Numbered, Embodied};
 
 // The value of a digit, or 16.
@@ -59,22 +60,22 @@ pub fn number(l: &[u8], at: usize, n: usize) -> Digits
 
 pub struct Body {
     pub ok: bool,
-    pub bytes: [u8; 16],
+    pub bytes: [u8; group::BODY],
 }
 
-// The 16 bytes that 32 digits write; zeros, and not ok, where not all of them are digits.
+// The body that digits write, two for each byte; zeros, and not ok, where not all of them are digits.
 pub fn read_body(l: &[u8], at: usize) -> Body
-    requires { ⌜ at + 32 ≤ length (now l) ⌝ }
+    requires { ⌜ at + 2 * bodyBytes ≤ length (now l) ⌝ }
     ensures { λ r. ⌜ Embodied (now (l .entry)) at (r .ok) (r .bytes) ⌝ }
 {
-    let mut bytes = [0u8; 16];
+    let mut bytes = [0u8; group::BODY];
     let mut i = 0;
-    while i < 16 {
+    while i < group::BODY {
         let d = number(l, at + 2 * i, 2);
         if !d.ok {
             return Body {
                 ok: false,
-                bytes: [0u8; 16],
+                bytes: [0u8; group::BODY],
             };
         }
         bytes[i] = buffer::narrow(d.value);

@@ -2,15 +2,23 @@
 ghost use mathlib.Core.Path.{_≡_};
 ghost use Prim.Native.Nat.{_≤_};
 ghost use Rattle.buffer.specs.Bytes.{zeros};
+ghost use Rattle.group.specs.Widths.{bodyBytes};
 ghost use Rattle.lines.specs.Line.{line, parsed, unreadable, digitsOf, hasBody, lengthOf};
 use crate::digits::number;
 use crate::digits::read_body;
+
+// Where the space before a body and the body's digits stand, behind the letter and a key, and how long the space and the digits are.
+const SPACE_AT: usize = 2 + 2 * group::KEY;
+
+const BODY_AT: usize = SPACE_AT + 1;
+
+const BODY_LENGTH: usize = 1 + 2 * group::BODY;
 
 // What a line says. The letter is 0 where the line is not readable; where a letter has no number or no body, they are zero.
 pub struct Line {
     pub letter: u8,
     pub number: u32,
-    pub body: [u8; 16],
+    pub body: [u8; group::BODY],
 }
 
 // The digits of a letter's first argument, or 9 where no line starts with the letter.
@@ -39,17 +47,21 @@ fn length_of(c: u8) -> usize
     if n == 0 {
         return 1;
     }
-    if has_body(c) { 2 + n + 33 } else { 2 + n }
+    if has_body(c) {
+        2 + n + BODY_LENGTH
+    } else {
+        2 + n
+    }
 }
 
 // A line without a body.
 fn bodiless(letter: u8, number: u32) -> Line
-    ensures { λ r. ⌜ line (r .letter) (r .number) (r .body) ≡ line letter number (zeros 16) ⌝ }
+    ensures { λ r. ⌜ line (r .letter) (r .number) (r .body) ≡ line letter number (zeros bodyBytes) ⌝ }
 {
     Line {
         letter,
         number,
-        body: [0u8; 16],
+        body: [0u8; group::BODY],
     }
 }
 
@@ -84,10 +96,10 @@ pub fn parse(l: &[u8]) -> Line
     if !has_body(letter) {
         return bodiless(letter, d.value);
     }
-    if l[10] != 32 {
+    if l[SPACE_AT] != 32 {
         return unread();
     }
-    let b = read_body(l, 11);
+    let b = read_body(l, BODY_AT);
     if !b.ok {
         return unread();
     }

@@ -2,9 +2,19 @@
 ghost use mathlib.Core.Path.{_≡_};
 ghost use Prim.Native.Nat.{_+_, _*_, _≤_};
 ghost use lib.ListN.{length};
-ghost use Rattle.lines.specs.Output.{numberLine, bodyLine, recordLine, Short, argumentPut};
+ghost use Rattle.group.specs.Widths.{slotBytes};
+ghost use Rattle.lines.specs.Output.{numberLine, bodyLine, recordLine, recordBytes, Short, argumentPut};
 use crate::digits::put_byte;
 use crate::digits::put_bytes;
+
+// The line of a granted read, and of a record: unit, rank, key and body, two digits for each byte, with a byte behind each.
+const BODY_LINE: usize = 3 + 2 * group::BODY;
+
+const KEY_AT: usize = 6;
+
+const BODY_AT: usize = KEY_AT + 2 * group::KEY + 1;
+
+const RECORD_LINE: usize = BODY_AT + 2 * group::BODY + 1;
 
 // A line of two or three bytes, with zeros behind it.
 pub struct ShortLine {
@@ -40,10 +50,10 @@ fn put_argument(line: &mut [u8], at: usize, from: &[u8], behind: u8)
 }
 
 // The line of a granted read.
-pub fn body_line(body: &[u8; 16]) -> [u8; 35]
+pub fn body_line(body: &[u8; group::BODY]) -> [u8; BODY_LINE]
     ensures { λ r. ⌜ r ≡ bodyLine (now (body .entry)) ⌝ }
 {
-    let mut line = [0u8; 35];
+    let mut line = [0u8; BODY_LINE];
     line[0] = 48;
     line[1] = 32;
     put_argument(&mut line, 2, body, 10);
@@ -52,21 +62,21 @@ pub fn body_line(body: &[u8; 16]) -> [u8; 35]
 
 // The line of a record, from the front.
 fn put_record(line: &mut [u8], unit: u8, rank: u8, slot: &[u8])
-    requires { ⌜ (length (now line) ≡ 48) × (length (now slot) ≡ 20) ⌝ }
+    requires { ⌜ (length (now line) ≡ recordBytes) × (length (now slot) ≡ slotBytes) ⌝ }
     ensures { λ _. ⌜ now (line .exit) ≡ recordLine unit rank (now (slot .entry)) ⌝ }
 {
     put_argument(line, 0, &[unit], 32);
     put_argument(line, 3, &[rank], 32);
-    put_argument(line, 6, &slot[0..4], 32);
-    put_argument(line, 15, &slot[4..20], 10);
+    put_argument(line, KEY_AT, &slot[0..group::KEY], 32);
+    put_argument(line, BODY_AT, &slot[group::KEY..group::SLOT], 10);
 }
 
 // The line of a record in a granted list.
-pub fn record_line(unit: u8, rank: u8, slot: &[u8]) -> [u8; 48]
-    requires { ⌜ length (now slot) ≡ 20 ⌝ }
+pub fn record_line(unit: u8, rank: u8, slot: &[u8]) -> [u8; RECORD_LINE]
+    requires { ⌜ length (now slot) ≡ slotBytes ⌝ }
     ensures { λ r. ⌜ r ≡ recordLine unit rank (now (slot .entry)) ⌝ }
 {
-    let mut line = [0u8; 48];
+    let mut line = [0u8; RECORD_LINE];
     put_record(&mut line, unit, rank, slot);
     line
 }

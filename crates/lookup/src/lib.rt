@@ -6,19 +6,41 @@ ghost use lib.Dec.{eqb};
 ghost use lib.ListN.{length, getD};
 ghost use Rattle.buffer.specs.Bytes.{byte, part};
 ghost use Rattle.buffer.specs.Range.{first};
-ghost use Rattle.field.specs.Table.{products};
+ghost use Rattle.group.specs.Products.{products};
 ghost use Rattle.code.specs.Matrix.{within};
 ghost use Rattle.group.specs.Widths.{bodyBytes, slotBytes};
 ghost use Rattle.group.specs.Members.{firstFour};
 ghost use Rattle.group.specs.Rebuilding.{weighed};
 ghost use Rattle.model.specs.Units.{powerBelow, splitPointer, unitOf};
-ghost use Rattle.model.specs.Layout.{view, slotAt, checkAt, keyOf};
+ghost use Rattle.model.specs.Layout.{view, headerBytes, slotAt, checkAt, keyOf};
 ghost use Rattle.model.specs.Reads.{stateIn, outsIn, beyondIn, servesIn, holds, firstCheck, listedFill, listedRank, wholeSlot, lostIn};
 ghost use Rattle.lookup.specs.Sized.{Sized};
 ghost use Rattle.buffer.specs.Strided.{strided32, Within};
 ghost use Rattle.lookup.specs.Keys.{keysAt, Known, Lists};
 ghost use Rattle.lookup.specs.Groups.{Recoverable};
 ghost use Rattle.lookup.specs.Slots.{heldAt, Recipe};
+
+// The header of a store: what byte 0 holds, where the length, b, M, K and the states of data units and check units stand, and where the slots begin.
+pub const VERSION: u8 = 1;
+
+pub const LENGTH_AT: usize = 1;
+
+pub const SIZE_AT: usize = 5;
+
+pub const UNITS_AT: usize = 6;
+
+pub const LEVEL_AT: usize = 7;
+
+pub const DATA_STATES: usize = 8;
+
+pub const CHECK_STATES: usize = 24;
+
+pub const HEADER: usize = 36;
+
+// The bytes for each rank of the 16 data units, and of these with the 12 check units.
+pub const DATA_PER_RANK: usize = 16 * group::SLOT;
+
+pub const PER_RANK: usize = DATA_PER_RANK + 12 * group::CHECK;
 
 // The product of two bytes.
 fn product(a: u8, b: u8) -> usize
@@ -31,14 +53,14 @@ fn product(a: u8, b: u8) -> usize
 pub fn slot_at(b: u8, u: u8, r: u8) -> usize
     ensures { λ at. ⌜ (at ≡ slotAt b u r) × (at < 2000000) ⌝ }
 {
-    36 + (product(u, b) + buffer::wide(r)) * 20
+    HEADER + (product(u, b) + buffer::wide(r)) * group::SLOT
 }
 
 // Where the check record of rank r in check unit c stands.
 pub fn check_at(b: u8, c: u8, r: u8) -> usize
     ensures { λ at. ⌜ (at ≡ checkAt b c r) × (at < 3000000) ⌝ }
 {
-    36 + 320 * buffer::wide(b) + (product(c, b) + buffer::wide(r)) * 32
+    HEADER + DATA_PER_RANK * buffer::wide(b) + (product(c, b) + buffer::wide(r)) * group::CHECK
 }
 
 // The largest power of two that is at most m, for m from 1 to 16.
@@ -84,7 +106,7 @@ pub fn unit_of(m: u8, key: u32) -> u8
 pub fn state(s: &[u8], w: u8) -> u8
     ensures { λ r. ⌜ r ≡ stateIn (view (now (s .entry))) w ⌝ }
 {
-    buffer::byte_at(s, 8 + buffer::wide(w))
+    buffer::byte_at(s, DATA_STATES + buffer::wide(w))
 }
 
 // The first of n keys, one every step bytes from base on, that is the given one; n where there is none. All are looked at, from the last one down:
@@ -109,7 +131,7 @@ pub fn key_at(s: &[u8], u: u8, r: u8) -> u32
     requires { ⌜ Sized (now s) × (u < 16) × (r < byte (now s) 5) ⌝ }
     ensures { λ k. ⌜ k ≡ keyOf (view (now (s .entry)) .slot u r) ⌝ }
 {
-    buffer::load32(s, slot_at(s[5], u, r))
+    buffer::load32(s, slot_at(s[SIZE_AT], u, r))
 }
 
 // The rank of a key among the first n slots of data unit u; n where it is not there.
@@ -117,17 +139,17 @@ pub fn rank(s: &[u8], u: u8, n: u8, key: u32) -> u8
     requires { ⌜ Sized (now s) × (u < 16) × (n ≤ byte (now s) 5) ⌝ }
     ensures { λ r. ⌜ (r ≡ first n (λ q. eqb (keyOf (view (now (s .entry)) .slot u q)) key)) × (r ≤ n) ⌝ }
 {
-    find(s, slot_at(s[5], u, 0), 20, n, key)
+    find(s, slot_at(s[SIZE_AT], u, 0), group::SLOT, n, key)
 }
 
 // The first check unit in service of group g, or 3g + 3.
 pub fn first_check(s: &[u8], g: u8) -> u8
-    requires { ⌜ (g < 4) × (36 ≤ length (now s)) ⌝ }
+    requires { ⌜ (g < 4) × (headerBytes ≤ length (now s)) ⌝ }
     ensures { λ c. ⌜ (c ≡ firstCheck (view (now (s .entry))) g) × (c ≤ 3 * g + 3) ⌝ }
 {
     let mut j: u8 = 0;
     while j < 3 {
-        if s[24 + buffer::wide(3 * g + j)] == 1 {
+        if s[CHECK_STATES + buffer::wide(3 * g + j)] == 1 {
             return 3 * g + j;
         }
         j += 1;
@@ -140,7 +162,7 @@ pub fn keys_at(s: &[u8], u: u8, c: u8) -> usize
     requires { ⌜ Sized (now s) × (c ≡ firstCheck (view (now s)) (u / 4)) ⌝ }
     ensures { λ at. ⌜ at ≡ keysAt (now (s .entry)) u ⌝ }
 {
-    check_at(s[5], c, 0) + 4 * buffer::wide(u % 4)
+    check_at(s[SIZE_AT], c, 0) + group::KEY * buffer::wide(u % 4)
 }
 
 // Where the keys of a unit stand: the first, and how far each is from the one before.
@@ -157,12 +179,12 @@ pub fn keys_of(s: &[u8], u: u8, c: u8) -> Keys
     if state(s, u) == 2 {
         return Keys {
             base: keys_at(s, u, c),
-            step: 32,
+            step: group::CHECK,
         };
     }
     Keys {
-        base: slot_at(s[5], u, 0),
-        step: 20,
+        base: slot_at(s[SIZE_AT], u, 0),
+        step: group::SLOT,
     }
 }
 
@@ -180,7 +202,7 @@ fn data_states(s: &[u8], g: u8) -> &[u8]
     requires { ⌜ Sized (now s) × (g < 4) ⌝ }
     ensures { λ x. ⌜ now x ≡ part (8 + 4 * g) 4 (now (s .entry)) ⌝ }
 {
-    let at = 8 + 4 * buffer::wide(g);
+    let at = DATA_STATES + 4 * buffer::wide(g);
     &s[at..at + 4]
 }
 
@@ -189,7 +211,7 @@ fn check_states(s: &[u8], g: u8) -> &[u8]
     requires { ⌜ Sized (now s) × (g < 4) ⌝ }
     ensures { λ x. ⌜ now x ≡ part (24 + 3 * g) 3 (now (s .entry)) ⌝ }
 {
-    let at = 24 + 3 * buffer::wide(g);
+    let at = CHECK_STATES + 3 * buffer::wide(g);
     &s[at..at + 3]
 }
 
@@ -242,9 +264,9 @@ fn held_at(b: u8, g: u8, r: u8, m: u8) -> usize
     ensures { λ at. ⌜ (at ≡ heldAt b g r m) × (at < 4000000) ⌝ }
 {
     if m < 4 {
-        return slot_at(b, 4 * g + m, r) + 4;
+        return slot_at(b, 4 * g + m, r) + group::KEY;
     }
-    check_at(b, 3 * g + (m - 4), r) + 16
+    check_at(b, 3 * g + (m - 4), r) + group::KEYS
 }
 
 // The body or the parity that member m of group g holds at rank r.
@@ -252,8 +274,8 @@ pub fn held(s: &[u8], g: u8, r: u8, m: u8) -> &[u8]
     requires { ⌜ Sized (now s) × (g < 4) × (r < byte (now s) 5) × (m < 7) ⌝ }
     ensures { λ x. ⌜ now x ≡ holds (view (now (s .entry))) g r m ⌝ }
 {
-    let at = held_at(s[5], g, r, m);
-    &s[at..at + 16]
+    let at = held_at(s[SIZE_AT], g, r, m);
+    &s[at..at + group::BODY]
 }
 
 // The weights with which the slots of data unit u, which is out, are rebuilt from the first four members in service: the same for every rank.
@@ -298,11 +320,19 @@ pub fn rebuild_slot(
     requires { ⌜ (length (now out) ≡ slotBytes) × Recipe (now s) u members weights × (r < byte (now s) 5) × (keys ≡ keysAt (now s) u) × (now table ≡ products) ⌝ }
     ensures { λ _. ⌜ now (out .exit) ≡ wholeSlot (view (now (s .entry))) u r ⌝ }
 {
-    let at = keys + 32 * buffer::wide(r);
+    let at = keys + group::CHECK * buffer::wide(r);
     if buffer::load32(s, at) == 0 {
         buffer::clear(out);
     } else {
-        buffer::copy(&mut out[0..4], &s[at..at + 4]);
-        rebuild_body(&mut out[4..20], s, u / 4, r, members, weights, table);
+        buffer::copy(&mut out[0..group::KEY], &s[at..at + group::KEY]);
+        rebuild_body(
+            &mut out[group::KEY..group::SLOT],
+            s,
+            u / 4,
+            r,
+            members,
+            weights,
+            table,
+        );
     }
 }

@@ -7,7 +7,7 @@ ghost use denote.Ref.{ptr};
 ghost use Rattle.buffer.specs.Bytes.{byte, part};
 ghost use Rattle.buffer.specs.Range.{sum};
 ghost use Rattle.buffer.specs.Table.{tab};
-ghost use Rattle.field.specs.Table.{products};
+ghost use Rattle.group.specs.Products.{products};
 ghost use Rattle.group.specs.Widths.{keyBytes, bodyBytes, slotBytes};
 ghost use Rattle.model.specs.Layout.{view};
 ghost use Rattle.model.specs.Reads.{firstCheck, listedFill, wholeSlot, totalIn, listingIn};
@@ -43,13 +43,13 @@ fn look_up(s: &[u8], survey: soundness::Survey, key: u32, len: usize) -> Found
     if key == 0 {
         return refused(2);
     }
-    if len != 16 {
+    if len != group::BODY {
         return refused(2);
     }
     if !survey.sound {
         return refused(1);
     }
-    let unit = lookup::unit_of(s[6], key);
+    let unit = lookup::unit_of(s[lookup::UNITS_AT], key);
     let outs = survey.outs;
     if lookup::gone(s, unit, outs[buffer::wide(unit / 4)]) {
         return refused(8);
@@ -80,8 +80,8 @@ fn copy_body(s: &[u8], u: u8, r: u8, out: &mut [u8])
         let weights = lookup::weights(s, u, members, &table);
         lookup::rebuild_body(out, s, u / 4, r, members, weights, &table);
     } else {
-        let at = lookup::slot_at(s[5], u, r) + 4;
-        buffer::copy(out, &s[at..at + 16]);
+        let at = lookup::slot_at(s[lookup::SIZE_AT], u, r) + group::KEY;
+        buffer::copy(out, &s[at..at + group::BODY]);
     }
 }
 
@@ -104,15 +104,15 @@ pub fn read_in_place(s: &[u8], key: u32) -> &[u8]
     ensures place { λ r. ⌜ now r ≡ part (placeIn (now (s .entry)) key .at) (placeIn (now (s .entry)) key .size) (now (s .entry)) ⌝ }
     ensures start { λ r. ⌜ (placeIn (now (s .entry)) key .size ≡ bodyBytes → ptr r ≡ (ptr (s .entry) .0, ptr (s .entry) .1 + placeIn (now (s .entry)) key .at)) ⌝ }
 {
-    let place = look_up(s, soundness::survey_of(s), key, 16);
+    let place = look_up(s, soundness::survey_of(s), key, group::BODY);
     if place.number != 0 {
         return &s[0..0];
     }
     if lookup::state(s, place.unit) == 2 {
         return &s[0..0];
     }
-    let at = lookup::slot_at(s[5], place.unit, place.rank);
-    &s[at + 4..at + 20]
+    let at = lookup::slot_at(s[lookup::SIZE_AT], place.unit, place.rank);
+    &s[at + group::KEY..at + group::SLOT]
 }
 
 // A number, and how many records were listed.
@@ -154,7 +154,7 @@ fn count_records(s: &[u8], survey: soundness::Survey, len: usize) -> Listing
     }
     let fills = survey.fills;
     let count = total(fills);
-    if len < 20 * count {
+    if len < group::SLOT * count {
         return Listing {
             number: 7,
             count: 0,
@@ -175,7 +175,7 @@ fn rebuild_unit(s: &[u8], u: u8, n: u8, c: u8, out: &mut [u8], table: &[u8; 256]
     let mut r: u8 = 0;
     while r < n {
         lookup::rebuild_slot(
-            &mut out[at..at + 20],
+            &mut out[at..at + group::SLOT],
             s,
             u,
             r,
@@ -184,7 +184,7 @@ fn rebuild_unit(s: &[u8], u: u8, n: u8, c: u8, out: &mut [u8], table: &[u8; 256]
             weights,
             table,
         );
-        at += 20;
+        at += group::SLOT;
         r += 1;
     }
 }
@@ -197,8 +197,8 @@ fn copy_unit(s: &[u8], u: u8, n: u8, c: u8, out: &mut [u8], table: &[u8; 256])
     if lookup::state(s, u) == 2 {
         rebuild_unit(s, u, n, c, out, table);
     } else {
-        let at = lookup::slot_at(s[5], u, 0);
-        let end = at + 20 * buffer::wide(n);
+        let at = lookup::slot_at(s[lookup::SIZE_AT], u, 0);
+        let end = at + group::SLOT * buffer::wide(n);
         buffer::copy(out, &s[at..end]);
     }
 }
@@ -218,7 +218,7 @@ fn write_records(
     let mut u: u8 = 0;
     while u < 16 {
         let n = fills[buffer::wide(u)];
-        let end = at + 20 * buffer::wide(n); // where the records of this unit end
+        let end = at + group::SLOT * buffer::wide(n); // where the records of this unit end
         let first_check = first_checks[buffer::wide(u / 4)];
         copy_unit(s, u, n, first_check, &mut out[at..end], table);
         at = end;

@@ -2,7 +2,7 @@
 ghost use mathlib.Core.Path.{_≡_};
 ghost use mathlib.Core.List.{map};
 ghost use Prim.Native.Nat.{_+_, _*_, _<_};
-ghost use Rattle.field.specs.Table.{products};
+ghost use Rattle.group.specs.Products.{products};
 ghost use Rattle.group.specs.CheckRecord.{checkRecord};
 ghost use Rattle.model.specs.Layout.{bytes, view};
 ghost use Rattle.model.specs.Reads.{firstCheck};
@@ -27,13 +27,13 @@ fn rebuild_unit(
     requires { ⌜ Recipe (now s) u members weights × (now table ≡ products) × (keys ≡ keysAt (now s) u) ⌝ }
     ensures { λ _. ⌜ now (s .exit) ≡ bytes (unitRebuilt (view (now (s .entry))) u) ⌝ }
 {
-    let b = s[5];
+    let b = s[lookup::SIZE_AT];
     let mut r: u8 = 0;
     while r < b {
-        let mut slot = [0u8; 20];
+        let mut slot = [0u8; group::SLOT];
         lookup::rebuild_slot(&mut slot, s, u, r, keys, members, weights, table);
         let at = lookup::slot_at(b, u, r);
-        buffer::copy(&mut s[at..at + 20], &slot);
+        buffer::copy(&mut s[at..at + group::SLOT], &slot);
         r += 1;
     }
 }
@@ -57,19 +57,19 @@ fn rebuild_units(s: &mut [u8], g: u8, first_check: u8, table: &[u8; 256])
 }
 
 // The check record of rank r at check place j of group g, made from the data.
-fn check_record(s: &[u8], g: u8, j: u8, r: u8, table: &[u8; 256]) -> [u8; 32]
+fn check_record(s: &[u8], g: u8, j: u8, r: u8, table: &[u8; 256]) -> [u8; group::CHECK]
     requires { ⌜ CheckPlace (now s) g j r × (now table ≡ products) ⌝ }
     ensures { λ z. ⌜ z ≡ checkRecord j (slotsOf (view (now (s .entry))) g r) ⌝ }
 {
-    let b = s[5];
-    let mut made = [0u8; 32];
+    let b = s[lookup::SIZE_AT];
+    let mut made = [0u8; group::CHECK];
     let mut p: u8 = 0;
     while p < 4 {
         let at = lookup::slot_at(b, 4 * g + p, r);
-        let mut key = [0u8; 4];
-        buffer::copy(&mut key, &s[at..at + 4]);
-        let mut body = [0u8; 16];
-        buffer::copy(&mut body, &s[at + 4..at + 20]);
+        let mut key = [0u8; group::KEY];
+        buffer::copy(&mut key, &s[at..at + group::KEY]);
+        let mut body = [0u8; group::BODY];
+        buffer::copy(&mut body, &s[at + group::KEY..at + group::SLOT]);
         group::follow(&mut made, j, p, key, body, table);
         p += 1;
     }
@@ -81,12 +81,12 @@ fn make_unit(s: &mut [u8], g: u8, j: u8, table: &[u8; 256])
     requires { ⌜ Group (now s) g × (j < 3) × (now table ≡ products) ⌝ }
     ensures { λ _. ⌜ now (s .exit) ≡ bytes (unitMade (view (now (s .entry))) g j) ⌝ }
 {
-    let b = s[5];
+    let b = s[lookup::SIZE_AT];
     let mut r: u8 = 0;
     while r < b {
         let made = check_record(s, g, j, r, table);
         let at = lookup::check_at(b, 3 * g + j, r);
-        buffer::copy(&mut s[at..at + 32], &made);
+        buffer::copy(&mut s[at..at + group::CHECK], &made);
         r += 1;
     }
 }
@@ -98,7 +98,7 @@ fn make_units(s: &mut [u8], g: u8, table: &[u8; 256])
 {
     let mut j: u8 = 0;
     while j < 3 {
-        if s[24 + buffer::wide(3 * g + j)] == 2 {
+        if s[lookup::CHECK_STATES + buffer::wide(3 * g + j)] == 2 {
             make_unit(s, g, j, table);
         }
         j += 1;
@@ -124,9 +124,9 @@ fn serve_units(s: &mut [u8], g: u8)
     ensures { λ _. ⌜ now (s .exit) ≡ bytes (unitsServing (view (now (s .entry))) g) ⌝ }
 {
     let group = buffer::wide(g);
-    let data_at = 8 + 4 * group;
+    let data_at = lookup::DATA_STATES + 4 * group;
     put_in_service(&mut s[data_at..data_at + 4]);
-    let checks_at = 24 + 3 * group;
+    let checks_at = lookup::CHECK_STATES + 3 * group;
     put_in_service(&mut s[checks_at..checks_at + 3]);
 }
 
@@ -154,7 +154,7 @@ fn repair_number(s: &[u8], survey: soundness::Survey, group: u32) -> u8
         return 1;
     }
     let g = group as u8;
-    let absent = buffer::byte_at(s, 6) <= 4 * g;
+    let absent = buffer::byte_at(s, lookup::UNITS_AT) <= 4 * g;
     if absent {
         return 3;
     }

@@ -4,6 +4,7 @@ ghost use Prim.Native.Nat.{ℕ, _+_, _*_, _≤_, _<_};
 ghost use lib.Bits.{bitAnd};
 ghost use lib.Dec.{eqb};
 ghost use lib.ListN.{length};
+ghost use Rattle.group.specs.Widths.{slotBytes, checkBytes};
 ghost use Rattle.model.specs.Units.{unitOf};
 ghost use Rattle.buffer.specs.Strided.{strided32, Within};
 ghost use Rattle.soundness.specs.Keys.{placeOf, isNew, reached, sameKeys, noKeys, le32, samePair, sameLists};
@@ -97,12 +98,12 @@ pub fn reach(
 
 // Whether the slots of a unit have the keys that a check unit lists for it.
 pub fn same_column(s: &[u8], slots: usize, column: usize, b: usize) -> bool
-    requires { ⌜ Within (now s) slots 20 b × Within (now s) column 32 b ⌝ }
-    ensures { λ r. ⌜ r ≡ sameKeys b (strided32 (now (s .entry)) slots 20) (strided32 (now (s .entry)) column 32) ⌝ }
+    requires { ⌜ Within (now s) slots slotBytes b × Within (now s) column checkBytes b ⌝ }
+    ensures { λ r. ⌜ r ≡ sameKeys b (strided32 (now (s .entry)) slots slotBytes) (strided32 (now (s .entry)) column checkBytes) ⌝ }
 {
     let mut r = 0;
     while r < b {
-        if key(s, slots, 20, r) != key(s, column, 32, r) {
+        if key(s, slots, group::SLOT, r) != key(s, column, group::CHECK, r) {
             return false;
         }
         r += 1;
@@ -112,12 +113,12 @@ pub fn same_column(s: &[u8], slots: usize, column: usize, b: usize) -> bool
 
 // Whether a check unit lists no key from rank n on.
 pub fn no_keys(s: &[u8], column: usize, n: usize, b: usize) -> bool
-    requires { ⌜ Within (now s) column 32 b × (n ≤ b) ⌝ }
-    ensures { λ r. ⌜ r ≡ noKeys n b (strided32 (now (s .entry)) column 32) ⌝ }
+    requires { ⌜ Within (now s) column checkBytes b × (n ≤ b) ⌝ }
+    ensures { λ r. ⌜ r ≡ noKeys n b (strided32 (now (s .entry)) column checkBytes) ⌝ }
 {
     let mut r = n;
     while r < b {
-        if key(s, column, 32, r) != 0 {
+        if key(s, column, group::CHECK, r) != 0 {
             return false;
         }
         r += 1;
@@ -152,13 +153,13 @@ fn same_pair(s: &[u8], x: usize, y: usize) -> bool
 
 // Whether two check units list the same keys.
 pub fn same_lists(s: &[u8], x: usize, y: usize, b: usize) -> bool
-    requires { ⌜ (x + 32 * b ≤ length (now s)) × (y + 32 * b ≤ length (now s)) ⌝ }
+    requires { ⌜ (x + checkBytes * b ≤ length (now s)) × (y + checkBytes * b ≤ length (now s)) ⌝ }
     ensures { λ r. ⌜ r ≡ sameLists (now (s .entry)) x y b ⌝ }
 {
     let mut r = 0;
     while r < b {
-        let p = x + 32 * r;
-        let q = y + 32 * r;
+        let p = x + group::CHECK * r;
+        let q = y + group::CHECK * r;
         if !same_pair(s, p, q) {
             return false;
         }

@@ -6,7 +6,7 @@ ghost use lib.ListN.{length};
 ghost use Rattle.buffer.specs.Bytes.{byte};
 ghost use Rattle.buffer.specs.Range.{all, count};
 ghost use Rattle.buffer.specs.Loops.{entries};
-ghost use Rattle.model.specs.Layout.{view};
+ghost use Rattle.model.specs.Layout.{view, headerBytes};
 ghost use Rattle.model.specs.Reads.{firstCheck, outsIn};
 ghost use Rattle.model.specs.Sound.{ranges, checksIn};
 ghost use Rattle.soundness.specs.Pieces.{Ranged, placed, groupPlaced};
@@ -14,12 +14,12 @@ ghost use Rattle.soundness.specs.Pieces.{Ranged, placed, groupPlaced};
 pub fn ranges_hold(s: &[u8]) -> bool
     ensures { λ r. ⌜ r ≡ ranges (now (s .entry)) ⌝ }
 {
-    if buffer::byte_at(s, 0) != 1 {
+    if buffer::byte_at(s, 0) != lookup::VERSION {
         return false;
     }
-    let b = buffer::byte_at(s, 5);
-    let length = 36 + 704 * buffer::wide(b);
-    if buffer::index(buffer::get32(s, 1)) != length {
+    let b = buffer::byte_at(s, lookup::SIZE_AT);
+    let length = lookup::HEADER + lookup::PER_RANK * buffer::wide(b);
+    if buffer::index(buffer::get32(s, lookup::LENGTH_AT)) != length {
         return false;
     }
     if b < 1 {
@@ -28,14 +28,14 @@ pub fn ranges_hold(s: &[u8]) -> bool
     if 64 < b {
         return false;
     }
-    let m = buffer::byte_at(s, 6);
+    let m = buffer::byte_at(s, lookup::UNITS_AT);
     if m < 1 {
         return false;
     }
     if 16 < m {
         return false;
     }
-    let k = buffer::byte_at(s, 7);
+    let k = buffer::byte_at(s, lookup::LEVEL_AT);
     if k < 1 {
         return false;
     }
@@ -65,8 +65,8 @@ pub fn units_placed(s: &[u8]) -> bool
 {
     let mut u: u8 = 0;
     while u < 16 {
-        let inside = u < s[6];
-        if !is_placed(inside, s[8 + buffer::wide(u)]) {
+        let inside = u < s[lookup::UNITS_AT];
+        if !is_placed(inside, s[lookup::DATA_STATES + buffer::wide(u)]) {
             return false;
         }
         u += 1;
@@ -76,12 +76,12 @@ pub fn units_placed(s: &[u8]) -> bool
 
 // The check units in place of a group: the places before the first that is not.
 fn checks_in(s: &[u8], g: u8) -> u8
-    requires { ⌜ (g < 4) × (36 ≤ length (now s)) ⌝ }
+    requires { ⌜ (g < 4) × (headerBytes ≤ length (now s)) ⌝ }
     ensures { λ r. ⌜ (r ≡ checksIn (view (now (s .entry))) g) × (r ≤ 3) ⌝ }
 {
     let mut j: u8 = 0;
     while j < 3 {
-        if s[24 + buffer::wide(3 * g + j)] == 0 {
+        if s[lookup::CHECK_STATES + buffer::wide(3 * g + j)] == 0 {
             return j;
         }
         j += 1;
@@ -90,13 +90,13 @@ fn checks_in(s: &[u8], g: u8) -> u8
 }
 
 fn checks_placed(s: &[u8], g: u8, n: u8) -> bool
-    requires { ⌜ (g < 4) × (36 ≤ length (now s)) ⌝ }
+    requires { ⌜ (g < 4) × (headerBytes ≤ length (now s)) ⌝ }
     ensures { λ r. ⌜ r ≡ all 3 (λ j. placed (ltb j n) (byte (now (s .entry)) (24 + (3 * g + j)))) ⌝ }
 {
     let mut j: u8 = 0;
     while j < 3 {
         let inside = j < n;
-        if !is_placed(inside, s[24 + buffer::wide(3 * g + j)]) {
+        if !is_placed(inside, s[lookup::CHECK_STATES + buffer::wide(3 * g + j)]) {
             return false;
         }
         j += 1;
@@ -105,15 +105,15 @@ fn checks_placed(s: &[u8], g: u8, n: u8) -> bool
 }
 
 fn group_placed(s: &[u8], g: u8) -> bool
-    requires { ⌜ (g < 4) × (36 ≤ length (now s)) ⌝ }
+    requires { ⌜ (g < 4) × (headerBytes ≤ length (now s)) ⌝ }
     ensures { λ r. ⌜ r ≡ groupPlaced (now (s .entry)) g ⌝ }
 {
     let n = checks_in(s, g);
-    if 4 * g < s[6] {
+    if 4 * g < s[lookup::UNITS_AT] {
         if n < 1 {
             return false;
         }
-        if s[7] < n {
+        if s[lookup::LEVEL_AT] < n {
             return false;
         }
         return checks_placed(s, g, n);
@@ -125,7 +125,7 @@ fn group_placed(s: &[u8], g: u8) -> bool
 }
 
 pub fn groups_placed(s: &[u8]) -> bool
-    requires { ⌜ 36 ≤ length (now s) ⌝ }
+    requires { ⌜ headerBytes ≤ length (now s) ⌝ }
     ensures { λ r. ⌜ r ≡ all 4 (groupPlaced (now (s .entry))) ⌝ }
 {
     let mut g: u8 = 0;
@@ -140,7 +140,7 @@ pub fn groups_placed(s: &[u8]) -> bool
 
 // The first check unit in service of each group.
 pub fn first_checks_of(s: &[u8]) -> [u8; 4]
-    requires { ⌜ 36 ≤ length (now s) ⌝ }
+    requires { ⌜ headerBytes ≤ length (now s) ⌝ }
     ensures { λ r. ⌜ r ≡ entries 4 (firstCheck (view (now (s .entry)))) ⌝ }
 {
     [
@@ -169,15 +169,16 @@ fn out_from(s: &[u8], at: usize, n: u8) -> u8
 
 // How many units of a group are out.
 fn outs_in(s: &[u8], g: u8) -> u8
-    requires { ⌜ (g < 4) × (36 ≤ length (now s)) ⌝ }
+    requires { ⌜ (g < 4) × (headerBytes ≤ length (now s)) ⌝ }
     ensures { λ r. ⌜ r ≡ outsIn (view (now (s .entry))) g ⌝ }
 {
     let group = buffer::wide(g);
-    out_from(s, 8 + 4 * group, 4) + out_from(s, 24 + 3 * group, 3)
+    out_from(s, lookup::DATA_STATES + 4 * group, 4)
+        + out_from(s, lookup::CHECK_STATES + 3 * group, 3)
 }
 
 pub fn outs_of(s: &[u8]) -> [u8; 4]
-    requires { ⌜ 36 ≤ length (now s) ⌝ }
+    requires { ⌜ headerBytes ≤ length (now s) ⌝ }
     ensures { λ r. ⌜ r ≡ entries 4 (outsIn (view (now (s .entry)))) ⌝ }
 {
     [outs_in(s, 0), outs_in(s, 1), outs_in(s, 2), outs_in(s, 3)]

@@ -15,12 +15,12 @@ fn move_record(s: &mut [u8], u: u8, r: u8, v: u8, q: u8)
     requires { ⌜ SlotIn (now s) u r × SlotIn (now s) v q ⌝ }
     ensures { λ _. ⌜ now (s .exit) ≡ splice (slotAt (byte (now (s .entry)) 5) v q) slotBytes (view (now (s .entry)) .slot u r) (now (s .entry)) ⌝ }
 {
-    let b = s[5];
+    let b = s[lookup::SIZE_AT];
     let from = lookup::slot_at(b, u, r);
     let to = lookup::slot_at(b, v, q);
-    let mut held = [0u8; 20];
-    buffer::copy(&mut held, &s[from..from + 20]);
-    buffer::copy(&mut s[to..to + 20], &held);
+    let mut held = [0u8; group::SLOT];
+    buffer::copy(&mut held, &s[from..from + group::SLOT]);
+    buffer::copy(&mut s[to..to + group::SLOT], &held);
 }
 
 // Empties the slots of unit u from rank q on.
@@ -28,7 +28,7 @@ fn clear_from(s: &mut [u8], u: u8, q: u8)
     requires { ⌜ Long (now s) × (u < 16) × (q ≤ byte (now s) 5) ⌝ }
     ensures { λ _. ⌜ now (s .exit) ≡ bytes (cleared (view (now (s .entry))) u q) ⌝ }
 {
-    let b = s[5];
+    let b = s[lookup::SIZE_AT];
     let from = lookup::slot_at(b, u, q);
     let to = lookup::slot_at(b, u, b);
     buffer::clear(&mut s[from..to]);

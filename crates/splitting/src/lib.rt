@@ -23,7 +23,7 @@ fn add_unit(s: &mut [u8], n: u8, m: u8, count: u8)
     requires { ⌜ Split (now s) n m × (count ≡ fillIn (view (now s)) n) ⌝ }
     ensures { λ _. ⌜ now (s .exit) ≡ bytes (grown (view (now (s .entry))) m) ⌝ }
 {
-    let level = s[7];
+    let level = s[lookup::LEVEL_AT];
     dealing::deal_out(s, n, m, count);
     states::mark(s, m + 1, m, 1);
     states::set_first(s, m, level);
@@ -81,7 +81,7 @@ fn grow_number(s: &[u8], survey: soundness::Survey) -> u8
     if !survey.sound {
         return 1;
     }
-    let m = buffer::byte_at(s, 6);
+    let m = buffer::byte_at(s, lookup::UNITS_AT);
     let full = 16 <= m;
     if full {
         return 9;
@@ -98,13 +98,13 @@ fn shrink_number(s: &[u8], survey: soundness::Survey) -> u8
     if !survey.sound {
         return 1;
     }
-    let units = buffer::byte_at(s, 6);
+    let units = buffer::byte_at(s, lookup::UNITS_AT);
     let alone = units <= 1;
     if alone {
         return 9;
     }
     let m = units - 1;
-    let b = buffer::byte_at(s, 5);
+    let b = buffer::byte_at(s, lookup::SIZE_AT);
     let fills = survey.fills;
     let outs = survey.outs;
     row(pair_out(outs, m), 4, row(pair_crowded(b, fills, m), 7, 0))
@@ -118,10 +118,10 @@ fn raise_number(s: &[u8], ok: bool) -> u8
     if !ok {
         return 1;
     }
-    let m = buffer::byte_at(s, 6);
+    let m = buffer::byte_at(s, lookup::UNITS_AT);
     let between = 0 < lookup::split_pointer(m);
     let whole = 16 <= m;
-    let top = 3 <= buffer::byte_at(s, 7);
+    let top = 3 <= buffer::byte_at(s, lookup::LEVEL_AT);
     row(between, 9, row(whole, 9, row(top, 9, 0)))
 }
 
@@ -134,7 +134,7 @@ pub fn grow(s: &mut [u8]) -> u8
     if number != 0 {
         return number;
     }
-    let m = buffer::byte_at(s, 6);
+    let m = buffer::byte_at(s, lookup::UNITS_AT);
     let n = lookup::split_pointer(m);
     let fills = survey.fills;
     add_unit(s, n, m, fills[buffer::wide(n)]);
@@ -150,7 +150,7 @@ pub fn shrink(s: &mut [u8]) -> u8
     if number != 0 {
         return number;
     }
-    let m = buffer::byte_at(s, 6) - 1;
+    let m = buffer::byte_at(s, lookup::UNITS_AT) - 1;
     let n = lookup::split_pointer(m);
     let fills = survey.fills;
     remove_unit(s, n, m, fills[buffer::wide(n)], fills[buffer::wide(m)]);
@@ -166,6 +166,6 @@ pub fn raise(s: &mut [u8]) -> u8
     if number != 0 {
         return number;
     }
-    s[7] = s[7] + 1;
+    s[lookup::LEVEL_AT] = s[lookup::LEVEL_AT] + 1;
     0
 }

@@ -12,8 +12,8 @@ pub fn mark(s: &mut [u8], m: u8, u: u8, state: u8)
     requires { ⌜ Long (now s) × (u < 16) ⌝ }
     ensures { λ _. ⌜ now (s .exit) ≡ bytes (marked (view (now (s .entry))) m u state) ⌝ }
 {
-    s[6] = m;
-    s[8 + buffer::wide(u)] = state;
+    s[lookup::UNITS_AT] = m;
+    s[lookup::DATA_STATES + buffer::wide(u)] = state;
 }
 
 // The state of the check unit at place j of a group with this many in service.
@@ -29,7 +29,7 @@ fn set_checks(s: &mut [u8], g: u8, level: u8)
     requires { ⌜ Long (now s) × (g < 4) ⌝ }
     ensures { λ _. ⌜ now (s .exit) ≡ bytes (levelled (inGroup g) level (view (now (s .entry)))) ⌝ }
 {
-    let at = 24 + 3 * buffer::wide(g);
+    let at = lookup::CHECK_STATES + 3 * buffer::wide(g);
     s[at] = state_at(0, level);
     s[at + 1] = state_at(1, level);
     s[at + 2] = state_at(2, level);

@@ -18,7 +18,7 @@ fn layout_number(s: &[u8], b: u32) -> u8
     if many {
         return 2;
     }
-    let short = s.len() < 36 + 704 * buffer::index(b);
+    let short = s.len() < lookup::HEADER + lookup::PER_RANK * buffer::index(b);
     if short {
         return 7;
     }
@@ -26,22 +26,22 @@ fn layout_number(s: &[u8], b: u32) -> u8
 }
 
 // The header of an empty store: version, length, b, M = 1, K = 1, data unit 0 and check unit 0 in service.
-fn header(b: u32) -> [u8; 36]
+fn header(b: u32) -> [u8; lookup::HEADER]
     requires { ⌜ b ≤ 64 ⌝ }
     ensures { λ r. ⌜ r ≡ frontOf b 1 1 ++ ((1 ∷ zeros 15) ++ (1 ∷ zeros 11)) ⌝ }
 {
-    let size = 36 + 704 * b;
-    let mut head = [0u8; 36];
-    head[0] = 1;
+    let size = lookup::HEADER + lookup::PER_RANK * buffer::index(b);
+    let mut head = [0u8; lookup::HEADER];
+    head[0] = lookup::VERSION;
     head[1] = (size / 16777216 % 256) as u8;
     head[2] = (size / 65536 % 256) as u8;
     head[3] = (size / 256 % 256) as u8;
     head[4] = (size % 256) as u8;
-    head[5] = b as u8;
-    head[6] = 1;
-    head[7] = 1;
-    head[8] = 1;
-    head[24] = 1;
+    head[lookup::SIZE_AT] = b as u8;
+    head[lookup::UNITS_AT] = 1;
+    head[lookup::LEVEL_AT] = 1;
+    head[lookup::DATA_STATES] = 1;
+    head[lookup::CHECK_STATES] = 1;
     head
 }
 
@@ -54,9 +54,9 @@ pub fn lay_out(s: &mut [u8], b: u32) -> u8
     if refused {
         return number;
     }
-    let size = 36 + 704 * buffer::index(b);
-    buffer::clear(&mut s[36..size]);
+    let size = lookup::HEADER + lookup::PER_RANK * buffer::index(b);
+    buffer::clear(&mut s[lookup::HEADER..size]);
     let head = header(b);
-    buffer::copy(&mut s[0..36], &head);
+    buffer::copy(&mut s[0..lookup::HEADER], &head);
     0
 }

@@ -2,8 +2,8 @@
 ghost use mathlib.Core.Path.{_≡_};
 ghost use Prim.Native.Nat.{_+_, _*_, _-_, _<_};
 ghost use lib.ListN.{length, take};
-ghost use Rattle.field.specs.Table.{products};
-ghost use Rattle.group.specs.Widths.{keyBytes};
+ghost use Rattle.group.specs.Products.{products};
+ghost use Rattle.group.specs.Widths.{keyBytes, bodyBytes, slotBytes};
 ghost use Rattle.group.specs.Body.{addBody};
 ghost use Rattle.model.specs.Layout.{bytes, view, slotOf};
 ghost use Rattle.model.specs.StoreLaws.{SlotIn, withChecks};
@@ -16,55 +16,65 @@ ghost use Rattle.writing.specs.Homes.{Homed};
 ghost use Rattle.writing.specs.Places.{unitAt};
 
 // Each check unit in service of u's group follows, at rank r, the new key and the change of body of the record there.
-fn follow_checks(s: &mut [u8], u: u8, r: u8, key: [u8; 4], change: [u8; 16], table: &[u8; 256])
+fn follow_checks(
+    s: &mut [u8],
+    u: u8,
+    r: u8,
+    key: [u8; group::KEY],
+    change: [u8; group::BODY],
+    table: &[u8; 256],
+)
     requires { ⌜ SlotIn (now s) u r × (now table ≡ products) ⌝ }
     ensures { λ _. ⌜ now (s .exit) ≡ bytes (withChecks (view (now (s .entry))) (followed 3 (view (now (s .entry))) u r key change)) ⌝ }
 {
-    let b = s[5];
+    let b = s[lookup::SIZE_AT];
     let place = u % 4;
     let first = 3 * (u / 4);
     let mut j: u8 = 0;
     while j < 3 {
         let c = first + j;
-        if s[24 + buffer::wide(c)] == 1 {
+        if s[lookup::CHECK_STATES + buffer::wide(c)] == 1 {
             let at = lookup::check_at(b, c, r);
-            group::follow(&mut s[at..at + 32], j, place, key, change, table);
+            group::follow(&mut s[at..at + group::CHECK], j, place, key, change, table);
         }
         j += 1;
     }
 }
 
 // The sum of two bodies, which is the change from one to the other.
-fn change_of(old: &[u8], new: &[u8]) -> [u8; 16]
-    requires { ⌜ (length (now old) ≡ 16) × (length (now new) ≡ 16) ⌝ }
+fn change_of(old: &[u8], new: &[u8]) -> [u8; group::BODY]
+    requires { ⌜ (length (now old) ≡ bodyBytes) × (length (now new) ≡ bodyBytes) ⌝ }
     ensures { λ r. ⌜ r ≡ addBody (now (old .entry)) (now (new .entry)) ⌝ }
 {
-    let mut change = [0u8; 16];
+    let mut change = [0u8; group::BODY];
     buffer::copy(&mut change, old);
     group::add(&mut change, new);
     change
 }
 
 // The key of a slot.
-fn key_of(slot: &[u8]) -> [u8; 4]
-    requires { ⌜ length (now slot) ≡ 20 ⌝ }
+fn key_of(slot: &[u8]) -> [u8; group::KEY]
+    requires { ⌜ length (now slot) ≡ slotBytes ⌝ }
     ensures { λ r. ⌜ r ≡ take keyBytes (now (slot .entry)) ⌝ }
 {
-    let mut key = [0u8; 4];
-    buffer::copy(&mut key, &slot[0..4]);
+    let mut key = [0u8; group::KEY];
+    buffer::copy(&mut key, &slot[0..group::KEY]);
     key
 }
 
 // Slot r of unit u becomes these bytes, and each check unit in service of its group follows. They come by value: the compiler knows that they stand
 // apart from the store.
-fn write_slot(s: &mut [u8], u: u8, r: u8, slot: [u8; 20], table: &[u8; 256])
+fn write_slot(s: &mut [u8], u: u8, r: u8, slot: [u8; group::SLOT], table: &[u8; 256])
     requires { ⌜ SlotIn (now s) u r × (now table ≡ products) ⌝ }
     ensures { λ _. ⌜ now (s .exit) ≡ bytes (written (view (now (s .entry))) u r slot) ⌝ }
 {
-    let at = lookup::slot_at(s[5], u, r);
-    let change = change_of(&s[at + 4..at + 20], &slot[4..20]);
+    let at = lookup::slot_at(s[lookup::SIZE_AT], u, r);
+    let change = change_of(
+        &s[at + group::KEY..at + group::SLOT],
+        &slot[group::KEY..group::SLOT],
+    );
     follow_checks(s, u, r, key_of(&slot), change, table);
-    buffer::copy(&mut s[at..at + 20], &slot);
+    buffer::copy(&mut s[at..at + group::SLOT], &slot);
 }
 
 // The record of rank last moves into rank r of unit u, and its own slot becomes empty.
@@ -72,36 +82,36 @@ fn erase_at(s: &mut [u8], u: u8, r: u8, last: u8, table: &[u8; 256])
     requires { ⌜ SlotIn (now s) u r × SlotIn (now s) u last × (now table ≡ products) ⌝ }
     ensures { λ _. ⌜ now (s .exit) ≡ bytes (erased (view (now (s .entry))) u r last) ⌝ }
 {
-    let from = lookup::slot_at(s[5], u, last);
-    let mut held = [0u8; 20];
-    buffer::copy(&mut held, &s[from..from + 20]);
+    let from = lookup::slot_at(s[lookup::SIZE_AT], u, last);
+    let mut held = [0u8; group::SLOT];
+    buffer::copy(&mut held, &s[from..from + group::SLOT]);
     write_slot(s, u, r, held, table);
-    let empty = [0u8; 20];
+    let empty = [0u8; group::SLOT];
     write_slot(s, u, last, empty, table);
 }
 
 // A slot becomes a key and a body.
 fn put_record(slot: &mut [u8], key: u32, body: &[u8])
-    requires { ⌜ (length (now slot) ≡ 20) × (length (now body) ≡ 16) ⌝ }
+    requires { ⌜ (length (now slot) ≡ slotBytes) × (length (now body) ≡ bodyBytes) ⌝ }
     ensures { λ _. ⌜ now (slot .exit) ≡ slotOf key (now (body .entry)) ⌝ }
 {
-    buffer::put32(&mut slot[0..4], key);
-    buffer::copy(&mut slot[4..20], body);
+    buffer::put32(&mut slot[0..group::KEY], key);
+    buffer::copy(&mut slot[group::KEY..group::SLOT], body);
 }
 
 // The bytes of a slot with a key and a body.
-fn slot_of(key: u32, body: &[u8]) -> [u8; 20]
-    requires { ⌜ length (now body) ≡ 16 ⌝ }
+fn slot_of(key: u32, body: &[u8]) -> [u8; group::SLOT]
+    requires { ⌜ length (now body) ≡ bodyBytes ⌝ }
     ensures { λ r. ⌜ r ≡ slotOf key (now (body .entry)) ⌝ }
 {
-    let mut slot = [0u8; 20];
+    let mut slot = [0u8; group::SLOT];
     put_record(&mut slot, key, body);
     slot
 }
 
 // Slot r of unit u becomes a key and a body, and each check unit in service of its group follows.
 fn write_record(s: &mut [u8], u: u8, r: u8, key: u32, body: &[u8])
-    requires { ⌜ SlotIn (now s) u r × (length (now body) ≡ 16) ⌝ }
+    requires { ⌜ SlotIn (now s) u r × (length (now body) ≡ bodyBytes) ⌝ }
     ensures { λ _. ⌜ now (s .exit) ≡ bytes (written (view (now (s .entry))) u r (slotOf key (now (body .entry)))) ⌝ }
 {
     let table = group::table();
@@ -123,11 +133,11 @@ fn clear_unit(s: &mut [u8], w: u8)
     requires { ⌜ Long (now s) × (w < 28) ⌝ }
     ensures { λ _. ⌜ now (s .exit) ≡ bytes (unitLost (view (now (s .entry))) w) ⌝ }
 {
-    let b = s[5];
+    let b = s[lookup::SIZE_AT];
     let from = unit_at(b, w);
     let to = unit_at(b, w + 1);
     buffer::clear(&mut s[from..to]);
-    s[8 + buffer::wide(w)] = 2;
+    s[lookup::DATA_STATES + buffer::wide(w)] = 2;
 }
 
 // Where a key belongs, or why it is refused: the number, and where that is 0 the key's unit, how many records the unit has and the key's rank among
@@ -166,7 +176,7 @@ fn home_of(s: &[u8], key: u32, fits: bool) -> Home
     if !survey.sound {
         return refusal(1);
     }
-    let unit = lookup::unit_of(s[6], key);
+    let unit = lookup::unit_of(s[lookup::UNITS_AT], key);
     let outs = survey.outs;
     let out = 0 < outs[buffer::wide(unit / 4)];
     if out {
@@ -210,7 +220,7 @@ fn out_number(s: &[u8], ok: bool, unit: u32) -> u8
 pub fn teach(s: &mut [u8], key: u32, body: &[u8]) -> u8
     ensures { λ r. ⌜ outcome (plain r) (now (s .exit)) ≡ perform (now (s .entry)) (Call.teach key (now (body .entry))) ⌝ }
 {
-    let home = home_of(s, key, body.len() == 16);
+    let home = home_of(s, key, body.len() == group::BODY);
     if home.number != 0 {
         return home.number;
     }
@@ -218,7 +228,7 @@ pub fn teach(s: &mut [u8], key: u32, body: &[u8]) -> u8
     if known {
         return 5;
     }
-    let full = buffer::byte_at(s, 5) <= home.fill;
+    let full = buffer::byte_at(s, lookup::SIZE_AT) <= home.fill;
     if full {
         return 7;
     }
@@ -230,7 +240,7 @@ pub fn teach(s: &mut [u8], key: u32, body: &[u8]) -> u8
 pub fn correct(s: &mut [u8], key: u32, body: &[u8]) -> u8
     ensures { λ r. ⌜ outcome (plain r) (now (s .exit)) ≡ perform (now (s .entry)) (Call.correct key (now (body .entry))) ⌝ }
 {
-    let home = home_of(s, key, body.len() == 16);
+    let home = home_of(s, key, body.len() == group::BODY);
     if home.number != 0 {
         return home.number;
     }

@@ -8,10 +8,10 @@ use Rattle.splitting.proofs.making.make_group.Statement.{statement}
 use Rattle.splitting.proofs.making.make_group.Tie as tie
 
 abbrev Inv-loop : tie.InvT-loop
-Inv-loop s₀ g eights sevens b r₀ s r = Making s₀ g s r
+Inv-loop s₀ g first second b r₀ s r = Making s₀ g s r
 
 abbrev μ-loop : tie.MeasureT-loop
-μ-loop s₀ g eights sevens b r₀ s r = b - r
+μ-loop s₀ g first second b r₀ s r = b - r
 
 returns : tie.Need-returns Inv-loop μ-loop
 returns c =
