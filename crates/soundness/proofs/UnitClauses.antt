@@ -18,23 +18,8 @@ use Rattle.model.specs.Reads.{fillIn, firstCheck, listedKey, listedFill}
 use Rattle.model.specs.Sound.{same, keysKnown}
 use Rattle.buffer.specs.Strided.{strided32}
 use Rattle.soundness.specs.Keys.{fillOf, ownAndNew, reached, sameKeys, noKeys}
-use Rattle.soundness.specs.Pieces.{
-  Ranged,
-  placed,
-  dataKeys,
-  columnKeys,
-  unkept,
-  dataFill,
-  columnFill,
-  lostFill,
-  unitZero,
-  restZero,
-  served,
-  lost,
-  absent,
-  unitGood,
-  unitFill,
-}
+use Rattle.soundness.specs.Pieces.{Ranged, placed, dataKeys, columnKeys, unkept, dataFill, columnFill, lostFill, unitZero, restZero}
+use Rattle.soundness.specs.Pieces.{served, lost, absent, unitGood, unitFill}
 use Rattle.soundness.specs.Survey.{keysLost, knownFill}
 use Rattle.soundness.proofs.Joined.{or-right, or-left, either, behind, once}
 use Rattle.soundness.proofs.Places.{row-within}
