@@ -25,10 +25,8 @@ use Rattle.model.specs.Changes.{raised}
 use Rattle.model.specs.RowLaws.{row-pair, first-free}
 use Rattle.model.specs.PerformLaws.{none-holds}
 use Rattle.model.specs.SoundSays.{zeroed-says, clauses}
-use Rattle.soundness.specs.Survey.{Surveyed, outs-counted, fill-listed}
+use Rattle.soundness.specs.Survey.{Surveyed, outs-read, own-fill-read}
 use Rattle.lookup.specs.Sized.{Sized, sound-sized}
-use Rattle.lookup.specs.Keys.{own-fill}
-use Rattle.lookup.specs.Groups.{none-out}
 use Rattle.splitting.specs.Steps.{Split, Blank, pairOut, pairCrowded}
 use Rattle.splitting.proofs.StepLaws.{or-first, or-second}
 
@@ -76,23 +74,17 @@ blank s e h c r a b out =
 module _ {s : List ℕ} {ok : Bool} {fills firstChecks outs : List ℕ} (g : Surveyed s ok fills firstChecks outs) (e : ok ≡ true) {m : ℕ} (some : 1 ≤ m) (l : m < 16) where
   pub outs-pair : pairOut (outsIn (view s)) m ≡ pairOut (λ h. getD outs h 0) m
   unfolding pairOut
-  outs-pair = rw (outs-counted g e (m / 4) (omega arith), outs-counted g e (splitPointer m / 4) (omega (arith, split-below m some)))
-
-  -- the records of a unit of whose group none is out, read at the index i
-  fill-read : (u : ℕ) {i : ℕ} → i ≡ u → u < 16 → ltb 0 (outsIn (view s) (u / 4)) ≡ false → getD fills i 0 ≡ fillIn (view s) u
-  fill-read u ei k none =
-      let serves : byte s (8 + u) ≡ 2 → ⊥ = none-out s u none in
-      ap (λ i. getD fills i 0) ei ∙ fill-listed g e u k (λ w. absurd (serves w)) ∙ sym (own-fill s u serves)
+  outs-pair = rw (outs-read g e (m / 4) refl (omega arith), outs-read g e (splitPointer m / 4) refl (omega (arith, split-below m some)))
 
   module _ (free : pairOut (outsIn (view s)) m ≡ false) where
     pub unit-fill : {i : ℕ} → i ≡ m → getD fills i 0 ≡ fillIn (view s) m
     unfolding pairOut
-    unit-fill ei = fill-read m ei l (or-first (ltb 0 (outsIn (view s) (m / 4))) _ free)
+    unit-fill ei = own-fill-read g e m ei l (or-first (ltb 0 (outsIn (view s) (m / 4))) _ free)
 
     pub from-fill : {n i : ℕ} → n ≡ splitPointer m → n < m → i ≡ n → getD fills i 0 ≡ fillIn (view s) n
     unfolding pairOut
     from-fill {n} en k ei =
-        fill-read n ei (omega arith) (ap (λ u. ltb 0 (outsIn (view s) (u / 4))) en ∙ or-second (ltb 0 (outsIn (view s) (m / 4))) _ free)
+        own-fill-read g e n ei (omega arith) (ap (λ u. ltb 0 (outsIn (view s) (u / 4))) en ∙ or-second (ltb 0 (outsIn (view s) (m / 4))) _ free)
 
     crowded-pair : (b : ℕ) → pairCrowded b (fillIn (view s)) m ≡ pairCrowded b (λ u. getD fills u 0) m
     unfolding pairCrowded
