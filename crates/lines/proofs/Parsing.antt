@@ -93,7 +93,8 @@ module _ {l : List ℕ} {c n : ℕ} (a : Argued l c n) where
   pub numbered : {v : ℕ} → byte l 1 ≡ 32 → Numbered l 2 n true v → hasBody c ≡ false → line c v (zeros 16) ≡ parsed l
   numbered {v} s r b =
       ap (λ x. line c x (zeros 16)) (read r ∙ ap (numberAt l 2) (a .digits))
-      ∙ sym (parsed-number l c (a .letter) (lt-ltb (digitsOf c) 9 (omega (arith, a .digits, a .known))) some-digits b (rw (← a .digits) (number-length b)) s (rw (← a .digits) (sym (r .tested))) .1)
+      ∙ sym (parsed-number l c (a .letter) (lt-ltb (digitsOf c) 9 (omega (arith, a .digits, a .known))) some-digits b (rw (← a .digits) (number-length b)) s
+      (rw (← a .digits) (sym (r .tested))) .1)
 
   pub no-second-space : hasBody c ≡ true → (byte l 10 ≡ 32 → ⊥) → parsed l ≡ unreadable
   no-second-space b h = second-fails b (and-false-first (ne-eqb (byte l 10) 32 h) (hexAt l 11 32))

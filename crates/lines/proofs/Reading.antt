@@ -77,12 +77,14 @@ two-digits {l} {at} {v} r =
     let e : v ≡ numberAt l at 2 = r .found ∙ pick-true (sym (r .tested)) (numberAt l at 2) 0 in
     (e, omega (arith, numberAt-lt l at 2 (sym (r .tested))))
 
-pub bodying-turn : {l : List ℕ} {at : ℕ} {b₀ b : List ℕ} {i v : ℕ} (x : ℕ) → Bodying l at b₀ b i → i < 16 → i < length b → Numbered l (at + 2 * i) 2 true v → x ≡ v
+pub bodying-turn : {l : List ℕ} {at : ℕ} {b₀ b : List ℕ} {i v : ℕ} (x : ℕ) → Bodying l at b₀ b i → i < 16 → i < length b → Numbered l (at + 2 * i) 2 true v
+    → x ≡ v
     → Bodying l at b₀ (set b i x) (i + 1)
 bodying-turn {l} {at} {b₀} {b} {i} {v} x g h k r e =
     record { passed = passing-turn (g .passed) h (sym (r .tested)); filled = filling-turn x (g .filled) k (e ∙ two-digits r .0) }
 
-pub bodying-fail : {l : List ℕ} {at : ℕ} {b₀ b : List ℕ} {i v : ℕ} → Bodying l at b₀ b i → i < 16 → Numbered l (at + 2 * i) 2 false v → Embodied l at false (zeros 16)
+pub bodying-fail : {l : List ℕ} {at : ℕ} {b₀ b : List ℕ} {i v : ℕ} → Bodying l at b₀ b i → i < 16 → Numbered l (at + 2 * i) 2 false v
+    → Embodied l at false (zeros 16)
 bodying-fail {l} {at} g h r =
     let is : false ≡ hexAt l at 32 = passing-fail (g .passed) h (sym (r .tested)) ∙ sym (hexAt-pairs l at 16) in
     record { tested = is; found = sym (pick-false (sym is) (bytesAt l at 16) (zeros 16)) }

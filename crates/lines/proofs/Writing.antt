@@ -40,7 +40,8 @@ body-line r o body er eb e =
     ∙ rw (drop-of-length-le r {i = 33} (omega arith)) (ap (λ t. 48 ∷ 32 ∷ t) (append-nil (argument 16 body 10)))
 
 pub record-line : (l l₁ l₂ l₃ l₄ x : List ℕ) (u r : ℕ) → length l ≡ 48 → length x ≡ 20
-    → l₁ ≡ argumentPut l 0 (u ∷ []) 32 → l₂ ≡ argumentPut l₁ 3 (r ∷ []) 32 → l₃ ≡ argumentPut l₂ 6 (take 4 x) 32 → l₄ ≡ argumentPut l₃ 15 (take 16 (drop 4 x)) 10
+    → l₁ ≡ argumentPut l 0 (u ∷ []) 32 → l₂ ≡ argumentPut l₁ 3 (r ∷ []) 32 → l₃ ≡ argumentPut l₂ 6 (take 4 x) 32
+    → l₄ ≡ argumentPut l₃ 15 (take 16 (drop 4 x)) 10
     → l₄ ≡ recordLine u r x
 record-line l l₁ l₂ l₃ l₄ x u r el ex e₁ e₂ e₃ e₄ =
     let ek : length (take 4 x) ≡ 4 = length-take-le 4 x (omega arith) in
@@ -59,8 +60,10 @@ record-line l l₁ l₂ l₃ l₄ x u r el ex e₁ e₂ e₃ e₄ =
     let p₃ : l₃ ≡ splice 0 15 ((a ++ b) ++ c) l =
     e₃ ∙ argument-at 4 l₂ 6 (take 4 x) 32 ek ∙ ap (splice 6 9 c) p₂ ∙ splice-next 0 6 9 (a ++ b) c l (omega arith) (simp length-append (omega arith)) in
     let p₄ : l₄ ≡ splice 0 48 (((a ++ b) ++ c) ++ d) l =
-    e₄ ∙ ap (λ y. argumentPut l₃ 15 y 10) whole ∙ argument-at 16 l₃ 15 (drop 4 x) 10 eb ∙ ap (splice 15 33 d) p₃ ∙ splice-next 0 15 33 ((a ++ b) ++ c) d l (omega arith) (simp length-append (omega arith)) in
+    e₄ ∙ ap (λ y. argumentPut l₃ 15 y 10) whole ∙ argument-at 16 l₃ 15 (drop 4 x) 10 eb ∙ ap (splice 15 33 d) p₃
+    ∙ splice-next 0 15 33 ((a ++ b) ++ c) d l (omega arith) (simp length-append (omega arith)) in
     p₄ ∙ splice-whole 48 (((a ++ b) ++ c) ++ d) l (omega arith) ∙ joined u r x
   where
-    joined : (u r : ℕ) (x : List ℕ) → ((argument 1 (u ∷ []) 32 ++ argument 1 (r ∷ []) 32) ++ argument 4 (take 4 x) 32) ++ argument 16 (drop 4 x) 10 ≡ recordLine u r x
+    joined : (u r : ℕ) (x : List ℕ) → ((argument 1 (u ∷ []) 32 ++ argument 1 (r ∷ []) 32) ++ argument 4 (take 4 x) 32) ++ argument 16 (drop 4 x) 10
+        ≡ recordLine u r x
     joined u r x = unfold argument recordLine hexBytes in rw (tab-one, tab-one) (simp append-assoc)

@@ -299,7 +299,8 @@ parsed-written x p =
     let y : List ℕ = hex n (x .number) in
     let l : List ℕ = c ∷ 32 ∷ y in
     let e : written x ≡ l = written-number x d b in
-    let q = parsed-number l c refl (p .known) d b (omega (arith, length-hex n (x .number))) refl (hexAt-ext l 2 y 0 n (behind c y n) ∙ hexAt-hex n (x .number)) in
+    let q =
+    parsed-number l c refl (p .known) d b (omega (arith, length-hex n (x .number))) refl (hexAt-ext l 2 y 0 n (behind c y n) ∙ hexAt-hex n (x .number)) in
     let back : numberAt l 2 n ≡ x .number = numberAt-ext l 2 y 0 n (behind c y n) ∙ numberAt-hex n (x .number) (p .range) in
     (ap readable e ∙ q .0, ap parsed e ∙ q .1 ∙ ap (λ v. line c v (zeros 16)) back ∙ ap (λ y. line c (x .number) y) (sym (p .none b))))
     (λ d b.
@@ -312,7 +313,9 @@ parsed-written x p =
     let second : (i : ℕ) → i < 32 → byte l (11 + i) ≡ byte y (0 + i) = λ i q. body c k y (length-hex 8 (x .number)) i in
     let space : byte l 10 ≡ 32 = byte-right 8 k (32 ∷ y) 0 (length-hex 8 (x .number)) in
     let small : x .number < 16 ^ 8 = rw d at (p .range) in
-    let q = parsed-body l c refl b long refl (hexAt-ext l 2 k 0 8 first ∙ hexAt-hex 8 (x .number)) space (hexAt-ext l 11 y 0 32 second ∙ hexAt-hexBytes 16 (x .body)) in (
+    let q =
+    parsed-body l c refl b long refl (hexAt-ext l 2 k 0 8 first ∙ hexAt-hex 8 (x .number)) space
+    (hexAt-ext l 11 y 0 32 second ∙ hexAt-hexBytes 16 (x .body)) in (
       ap readable e ∙ q .0,
       ap parsed e
           ∙ q .1

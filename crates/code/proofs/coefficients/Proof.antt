@@ -20,8 +20,10 @@ coefficient-requires-4 c κs = search needs
 
 returns : tie.Need-returns
 returns c = (
-  four-path (c .before .before .before .coefficient .ensures .0) (c .before .before .coefficient2 .ensures .0) (c .before .coefficient3 .ensures .0) (c .coefficient4 .ensures .0),
-  within-four 15 _ _ _ _ (le-of-suc-le-suc (c .before .before .before .coefficient .ensures .1)) (le-of-suc-le-suc (c .before .before .coefficient2 .ensures .1))
+  four-path (c .before .before .before .coefficient .ensures .0) (c .before .before .coefficient2 .ensures .0) (c .before .coefficient3 .ensures .0)
+      (c .coefficient4 .ensures .0),
+  within-four 15 _ _ _ _ (le-of-suc-le-suc (c .before .before .before .coefficient .ensures .1))
+      (le-of-suc-le-suc (c .before .before .coefficient2 .ensures .1))
       (le-of-suc-le-suc (c .before .coefficient3 .ensures .1)) (le-of-suc-le-suc (c .coefficient4 .ensures .1)),
 )
 
