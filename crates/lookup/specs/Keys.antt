@@ -1,12 +1,13 @@
 -- The keys of a list of records: every step bytes from a place on. A data unit's keys stand in its slots; a unit that is out has its keys
 -- listed by a check unit. Assumes nothing.
 use Prim.Native.Nat.{ℕ, _+_, _*_, _/_, _%_, _≤_, _<_}
-use mathlib.Core.Path.{_≡_, sym, ap, _∙_}
+use mathlib.Core.Path.{_≡_, refl, sym, ap, _∙_}
 use mathlib.Core.List.{List}
 use native.Mathlib.Omega.{arith}
 use lib.Dec.{eqb}
-use borrow.Author.Tests.{eq-eqb, ne-eqb, eqb-false}
-use Rattle.buffer.specs.ChoiceLaws.{pick-true, pick-false}
+use borrow.Author.Tests.{eq-eqb, ne-eqb, eqb-true, eqb-false}
+use Rattle.buffer.specs.Choice.{pick}
+use Rattle.buffer.specs.ChoiceLaws.{by-test, pick-true, pick-false}
 use Rattle.buffer.specs.Range.{first}
 use Rattle.buffer.specs.RangeLaws.{first-ext, first-le, first-misses}
 use Rattle.buffer.specs.Bytes.{byte, be32, part}
@@ -45,7 +46,13 @@ out-within {s} h c p n at l q k e = record { fits = λ i m. omega (arith, check-
 abbrev pub keysAt : List ℕ → ℕ → ℕ
 keysAt s u = checkAt (byte s 5) (firstCheck (view s) (u / 4)) 0 + 4 * (u % 4)
 
--- ---- the keys of a unit, wherever they are listed
+-- ---- the keys of a unit, wherever they are listed: where the first stands, and how far each is from the one before
+unfoldable pub keysFrom : List ℕ → ℕ → ℕ
+keysFrom s u = pick (eqb (byte s (8 + u)) 2) (keysAt s u) (slotAt (byte s 5) u 0)
+
+unfoldable pub keysStep : List ℕ → ℕ → ℕ
+keysStep s u = pick (eqb (byte s (8 + u)) 2) checkBytes slotBytes
+
 -- they can be read: the unit is in service, or a check unit of its group is
 pub record Known (s : List ℕ) (u : ℕ) : Type 0 where
   pub sized : Sized s
@@ -80,11 +87,12 @@ out-bytes s u r i h place =
     ∙ sym (pick-true (eq-eqb (byte s (8 + u)) 2 h) _ _)
 
 module _ {s : List ℕ} {u : ℕ} (known : Known s u) where
-  pub lists-own : (at : ℕ) → (byte s (8 + u) ≡ 2 → ⊥) → at ≡ slotAt (byte s 5) u 0 → Lists s u at slotBytes
-  lists-own at h e =
+  lists-own : (byte s (8 + u) ≡ 2 → ⊥) → Lists s u (slotAt (byte s 5) u 0) slotBytes
+  lists-own h =
+      let at : ℕ = slotAt (byte s 5) u 0 in
       record {
         bytes = λ r. own-bytes s u r (at + slotBytes * r) h (omega arith);
-        within = unit-within (known .sized) u (byte s 5) at (known .unit) (omega arith) e;
+        within = unit-within (known .sized) u (byte s 5) at (known .unit) (omega arith) refl;
       }
 
   pub lists-out : (at : ℕ) → byte s (8 + u) ≡ 2 → at ≡ keysAt s u → Lists s u at checkBytes
@@ -93,6 +101,13 @@ module _ {s : List ℕ} {u : ℕ} (known : Known s u) where
         bytes = λ r. out-bytes s u r (at + checkBytes * r) h (omega arith);
         within = out-within (known .sized) (firstCheck (view s) (u / 4)) (u % 4) (byte s 5) at (omega (arith, known .listed h, known .unit)) (omega arith) (omega arith) e;
       }
+
+  pub lists-known : {base step : ℕ} → (base ≡ keysFrom s u) × (step ≡ keysStep s u) → Lists s u base step
+  unfolding keysFrom keysStep pick
+  lists-known e =
+      rw (e .0, e .1)
+      (by-test (λ t. Lists s u (pick t (keysAt s u) (slotAt (byte s 5) u 0)) (pick t checkBytes slotBytes)) (eqb (byte s (8 + u)) 2)
+      (λ h. lists-out (keysAt s u) (eqb-true (byte s (8 + u)) 2 h) refl) (λ h. lists-own (eqb-false (byte s (8 + u)) 2 h)))
 
 -- ---- a search through the keys finds what the definitions say
 pub rank-found : (s : List ℕ) (u n r at key : ℕ) → at ≡ slotAt (byte s 5) u 0 → r ≡ first n (λ i. eqb (strided32 s at slotBytes i) key)

@@ -4,6 +4,7 @@ ghost use mathlib.Core.Bool.{true, _&&_};
 ghost use Prim.Native.Nat.{_+_, _*_, _≤_, _<_, ℕ, _/_};
 ghost use lib.Dec.{eqb};
 ghost use lib.ListN.{length, getD};
+ghost use denote.Ref.{ptr};
 ghost use Rattle.buffer.specs.Bytes.{byte, part};
 ghost use Rattle.buffer.specs.Range.{first};
 ghost use Rattle.group.specs.Products.{products};
@@ -16,7 +17,7 @@ ghost use Rattle.model.specs.Layout.{view, headerBytes, slotAt, checkAt, keyOf}
 ghost use Rattle.model.specs.Reads.{stateIn, outsIn, beyondIn, servesIn, holds, firstCheck, listedFill, listedRank, wholeSlot, lostIn};
 ghost use Rattle.lookup.specs.Sized.{Sized};
 ghost use Rattle.buffer.specs.Strided.{strided32, Within};
-ghost use Rattle.lookup.specs.Keys.{keysAt, Known, Lists};
+ghost use Rattle.lookup.specs.Keys.{keysAt, keysFrom, keysStep, Known};
 ghost use Rattle.lookup.specs.Groups.{Recoverable};
 ghost use Rattle.lookup.specs.Slots.{heldAt, Recipe};
 
@@ -174,7 +175,7 @@ pub struct Keys {
 // The keys of data unit u: its own, or for a unit that is out those that c lists, the first check unit in service of its group.
 pub fn keys_of(s: &[u8], u: u8, c: u8) -> Keys
     requires { ⌜ Known (now s) u × (c ≡ firstCheck (view (now s)) (u / 4)) ⌝ }
-    ensures { λ k. ⌜ Lists (now (s .entry)) u (k .base) (k .step) ⌝ }
+    ensures { λ k. ⌜ (k .base ≡ keysFrom (now (s .entry)) u) × (k .step ≡ keysStep (now (s .entry)) u) ⌝ }
 {
     if state(s, u) == 2 {
         return Keys {
@@ -197,10 +198,12 @@ pub fn listed_rank(s: &[u8], u: u8, c: u8, n: u8, key: u32) -> u8
     find(s, keys.base, keys.step, n, key)
 }
 
-// The states of the four data units of group g.
+// The states of the four data units of group g. A pointer is a block and a place in it: `start` says that the part is handed back where it stands in
+// the store; so it does of the parts below.
 fn data_states(s: &[u8], g: u8) -> &[u8]
     requires { ⌜ Sized (now s) × (g < 4) ⌝ }
-    ensures { λ x. ⌜ now x ≡ part (8 + 4 * g) 4 (now (s .entry)) ⌝ }
+    ensures bytes { λ x. ⌜ now x ≡ part (8 + 4 * g) 4 (now (s .entry)) ⌝ }
+    ensures start { λ x. ⌜ ptr x ≡ (ptr (s .entry) .0, ptr (s .entry) .1 + (8 + 4 * g)) ⌝ }
 {
     let at = DATA_STATES + 4 * buffer::wide(g);
     &s[at..at + 4]
@@ -209,7 +212,8 @@ fn data_states(s: &[u8], g: u8) -> &[u8]
 // The states of the three check units of group g.
 fn check_states(s: &[u8], g: u8) -> &[u8]
     requires { ⌜ Sized (now s) × (g < 4) ⌝ }
-    ensures { λ x. ⌜ now x ≡ part (24 + 3 * g) 3 (now (s .entry)) ⌝ }
+    ensures bytes { λ x. ⌜ now x ≡ part (24 + 3 * g) 3 (now (s .entry)) ⌝ }
+    ensures start { λ x. ⌜ ptr x ≡ (ptr (s .entry) .0, ptr (s .entry) .1 + (24 + 3 * g)) ⌝ }
 {
     let at = CHECK_STATES + 3 * buffer::wide(g);
     &s[at..at + 3]
@@ -272,7 +276,8 @@ fn held_at(b: u8, g: u8, r: u8, m: u8) -> usize
 // The body or the parity that member m of group g holds at rank r.
 pub fn held(s: &[u8], g: u8, r: u8, m: u8) -> &[u8]
     requires { ⌜ Sized (now s) × (g < 4) × (r < byte (now s) 5) × (m < 7) ⌝ }
-    ensures { λ x. ⌜ now x ≡ holds (view (now (s .entry))) g r m ⌝ }
+    ensures bytes { λ x. ⌜ now x ≡ holds (view (now (s .entry))) g r m ⌝ }
+    ensures start { λ x. ⌜ ptr x ≡ (ptr (s .entry) .0, ptr (s .entry) .1 + heldAt (byte (now (s .entry)) 5) g r m) ⌝ }
 {
     let at = held_at(s[SIZE_AT], g, r, m);
     &s[at..at + group::BODY]

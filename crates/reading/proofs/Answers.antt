@@ -13,6 +13,7 @@ use Rattle.buffer.specs.TestLaws.{and-true, and-false-first, and-false-second}
 use Rattle.buffer.specs.Bytes.{byte, zeros, part}
 use Rattle.group.specs.Widths.{keyBytes, bodyBytes}
 use Rattle.lookup.specs.Keys.{own-rank}
+use Rattle.lookup.specs.Parts.{part-start}
 use Rattle.model.specs.Layout.{view, slotAt}
 use Rattle.model.specs.Reads.{homeIn, bodyIn, listedRank, wholeSlot, totalIn, listingIn}
 use Rattle.model.specs.Numbers.{Call, numberIn, refusalsIn, firstOf}
@@ -63,8 +64,7 @@ start-empty p e h =
 pub start-body : (block o : ℕ) (p : Place) (slot at : ℕ) → p ≡ record { at = slot + keyBytes; size = bodyBytes } → at ≡ slot → _≡_ {A = ℕ × ℕ} (block, at + 4 + o) (block, o + p .at)
 start-body block o p slot at e f =
     let there : p .at ≡ slot + keyBytes = ap (λ (q : Place). q .at) e in
-    let same : at + 4 + o ≡ o + p .at = omega arith in
-    ap (λ (n : ℕ). (block, n)) same
+    part-start block o (at + 4) (p .at) (omega arith)
 
 module _ (s : List ℕ) (k : ℕ) where
   -- refused as read into a buffer that fits

@@ -28,8 +28,10 @@ use Rattle.reading.specs.Found.{Verdict}
 use Rattle.reading.specs.Listing.{Counted, Learned}
 
 -- a refusal hands no place on
-pub refusal : {s : List ℕ} {ok : Bool} {k n : ℕ} (m : ℕ) {number unit rank : ℕ} → number ≡ suc m → suc m ≡ readNumber ok (view s) k n → Verdict s ok k n number unit rank
-refusal m e f = record { given = e ∙ f; placed = λ z. absurd (omega arith); room = λ z. absurd (omega arith) }
+pub refusal : {s : List ℕ} {ok : Bool} {k n : ℕ} (m : ℕ) {number unit rank : ℕ} → (number ≡ suc m) × (unit ≡ 0) × (rank ≡ 0)
+    → suc m ≡ readNumber ok (view s) k n → Verdict s ok k n number unit rank
+refusal m e f =
+    record { given = e .0 ∙ f; placed = λ z. absurd (omega arith); room = λ z. absurd (omega arith); nowhere = λ _. (e .1, e .2) }
 
 -- the unit that the code looks in is the key's
 pub home-is : (s : List ℕ) (k u : ℕ) → u ≡ unitOf (byte s 6) k → u ≡ homeIn (view s) k

@@ -1,4 +1,4 @@
--- What a verdict on read hands on: its number, and where it is 0 the key's place. Assumes nothing.
+-- What a verdict on read hands on: its number, and where it is 0 the key's place, else 0 and 0. Assumes nothing.
 use Prim.Native.Nat.{ℕ, _<_}
 use mathlib.Core.Path.{_≡_}
 use mathlib.Core.Bool.{Bool}
@@ -22,3 +22,4 @@ pub record Verdict (s : List ℕ) (ok : Bool) (k n number unit rank : ℕ) : Typ
   pub given : number ≡ readNumber ok (view s) k n
   pub placed : number ≡ 0 → Placed s k unit rank
   pub room : number ≡ 0 → n ≡ bodyBytes
+  pub nowhere : (number ≡ 0 → ⊥) → (unit ≡ 0) × (rank ≡ 0)

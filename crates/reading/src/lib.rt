@@ -18,7 +18,7 @@ ghost use Rattle.model.specs.Perform.{copied, lent, listed, outcome, perform, p
 ghost use Rattle.reading.specs.Found.{Verdict};
 ghost use Rattle.reading.specs.Listing.{Counted, Learned};
 
-// The verdict on a read: its number, and where that is 0 the unit and the rank of the key.
+// The verdict on a read: its number, and where that is 0 the unit and the rank of the key; else 0 and 0.
 struct Found {
     number: u8,
     unit: u8,
@@ -26,7 +26,7 @@ struct Found {
 }
 
 fn refused(number: u8) -> Found
-    ensures { λ f. ⌜ f .number ≡ number ⌝ }
+    ensures { λ f. ⌜ (f .number ≡ number) × (f .unit ≡ 0) × (f .rank ≡ 0) ⌝ }
 {
     Found {
         number,

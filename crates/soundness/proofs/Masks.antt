@@ -1,14 +1,18 @@
 -- Linear hashing's rule by a mask: whether a key belongs to unit u of m is told by its low bits alone. Assumes nothing.
 use mathlib.Core.Path.{_≡_, refl, sym, ap, _∙_}
-use mathlib.Core.Bool.{false}
-use Prim.Native.Nat.{ℕ, _+_, _*_, _-_, _%_, _≤_, _<_}
+use mathlib.Core.Bool.{Bool, _&&_}
+use Prim.Native.Nat.{ℕ, suc, _+_, _*_, _-_, _/_, _%_, _^_, _≤_, _<_}
 use native.Mathlib.Omega.{arith}
+use native.Mathlib.Nat.{mod-lt, pow-succ', one-le-pow}
+use lib.Arith.{mod-mul}
 use lib.Bits.{bitAnd, and-mask}
-use lib.Dec.{eqb, ltb}
-use borrow.Author.Tests.{eqb-true, eqb-false, ltb-true, ltb-false, ne-eqb}
+use lib.Dec.{eqb, ltb, leb}
+use borrow.Author.Tests.{lt-ltb, le-leb, eqb-true, eqb-false, leb-true, ltb-true, ltb-false, ne-eqb}
 use Rattle.buffer.specs.Choice.{pick}
-use Rattle.buffer.specs.ChoiceLaws.{by-test, by-pick}
+use Rattle.buffer.specs.ChoiceLaws.{by-test, by-pick, pick-true, pick-false, pick-map}
+use Rattle.buffer.specs.TestLaws.{not-both, and-true, and-first, and-second}
 use Rattle.model.specs.Units.{powerBelow, splitPointer, unitOf}
+use Rattle.soundness.specs.Keys.{maskOf}
 
 -- a proof for each power of two that may be the largest that is at most m
 by-power : (Q : ℕ → Type 0) (m : ℕ) → 1 ≤ m → m ≤ 16
@@ -20,81 +24,48 @@ by-power Q m lo hi q1 q2 q4 q8 q16 =
     by-pick Q (ltb m 8) 4 (pick (ltb m 16) 8 16) (λ g. q4 (ltb-false m 4 f) (ltb-true m 8 g)) (λ g.
     by-pick Q (ltb m 16) 8 16 (λ h. q8 (ltb-false m 8 g) (ltb-true m 16 h)) (λ h. q16 (let l : 16 ≤ m = ltb-false m 16 h in omega arith)))))
 
--- x and y are a key's remainders by p = 2^j and by 2p; u is a unit that was not split in this round
-lower : (x y p m u : ℕ) → x < p → ((y ≡ x → ⊥) → y ≡ x + p) → u < p → m - p ≤ u → eqb x u ≡ eqb (pick (ltb x (m - p)) y x) u
-lower x y p m u hx hy hu hm =
-    by-pick
-    (λ z. eqb x u ≡ eqb z u)
-    (ltb x (m - p))
-    y
-    x
+-- the remainder by 2p is that by p, or p more
+remainder-twice : (k p : ℕ) → 0 < p → (k % (2 * p) ≡ k % p → ⊥) → k % (2 * p) ≡ k % p + p
+remainder-twice k p pos d =
+    let e : k % (2 * p) ≡ k / p % 2 * p + k % p = mod-mul k {m = 2} {c = p} (omega arith) pos in
+    by-test (λ _. k % (2 * p) ≡ k % p + p) (eqb (k / p % 2) 0)
+    (λ t. absurd (d (e ∙ rw (eqb-true (k / p % 2) 0 t) (omega arith))))
+    (λ t. let one : k / p % 2 ≡ 1 = let h = eqb-false (k / p % 2) 0 t in omega arith in e ∙ rw one (omega arith))
+
+-- x and y are a key's remainders by p = 2^j and by 2p, and neither is u
+neither : (x y p u : ℕ) → ((y ≡ x → ⊥) → y ≡ x + p) → (x ≡ u → ⊥) → (x + p ≡ u → ⊥) → eqb x u ≡ eqb y u
+neither x y p u hy a b = ne-eqb x u a ∙ sym (ne-eqb y u (λ h. b (sym (hy (λ e. a (sym e ∙ h))) ∙ h)))
+
+-- a unit that was not split in this round goes by x, one that was split, or made by a split, by y
+remainder-tells : (x y p m u : ℕ) → x < p → ((y ≡ x → ⊥) → y ≡ x + p) → p ≤ m → u < m
+    → eqb (pick (ltb u p && leb (m - p) u) x y) u ≡ eqb (pick (ltb x (m - p)) y x) u
+remainder-tells x y p m u hx hy hp hu =
+    by-test (λ t. eqb (pick t x y) u ≡ eqb (pick (ltb x (m - p)) y x) u) (ltb u p && leb (m - p) u)
     (λ e.
-    let l : x < m - p = ltb-true x (m - p) e in
-    by-test
-    (λ t. eqb x u ≡ eqb y u)
-    (eqb y x)
-    (λ f. ap (λ z. eqb z u) (sym (eqb-true y x f)))
-    (λ f. let g : y ≡ x + p = hy (eqb-false y x f) in ne-eqb x u (λ h. omega arith) ∙ sym (ne-eqb y u (λ h. omega arith))))
-    (λ e. refl)
-
--- u is a unit that was split, or made by a split
-upper : (x y p m u : ℕ) → x < p → ((y ≡ x → ⊥) → y ≡ x + p) → p ≤ m → u < m → (u < p → m - p ≤ u → ⊥) → eqb y u ≡ eqb (pick (ltb x (m - p)) y x) u
-upper x y p m u hx hy hp hu hm =
-    by-pick
-    (λ z. eqb y u ≡ eqb z u)
-    (ltb x (m - p))
-    y
-    x
-    (λ e. refl)
+    let a : u < p = ltb-true u p (and-first _ _ e) in
+    let b : m - p ≤ u = leb-true (m - p) u (and-second (ltb u p) _ e) in
+    rw (pick-true refl x y)
+    (by-pick (λ z. eqb x u ≡ eqb z u) (ltb x (m - p)) y x (λ f. neither x y p u hy (λ h. omega (arith, ltb-true x (m - p) f)) (λ h. omega arith)) (λ _. refl)))
     (λ e.
-    let l : m - p ≤ x = ltb-false x (m - p) e in
-    let other : eqb x u ≡ false = ne-eqb x u (λ h. hm (omega arith) (omega arith)) in
-    by-test
-    (λ t. eqb y u ≡ eqb x u)
-    (eqb y x)
-    (λ f. ap (λ z. eqb z u) (eqb-true y x f))
-    (λ f. let g : y ≡ x + p = hy (eqb-false y x f) in ne-eqb y u (λ h. omega arith) ∙ sym other))
+    rw (pick-false refl x y)
+    (by-pick (λ z. eqb y u ≡ eqb z u) (ltb x (m - p)) y x (λ _. refl) (λ f.
+    let l : m - p ≤ x = ltb-false x (m - p) f in
+    sym (neither x y p u hy (λ h. not-both (and-true (lt-ltb u p (omega arith)) (le-leb (m - p) u (omega arith))) e) (λ h. omega arith)))))
 
-module _ (m u k : ℕ) (lo : 1 ≤ m) (hi : m ≤ 16) where
-  Lower : ℕ → Type 0
-  Lower p = u < p → m - p ≤ u → eqb (bitAnd k (p - 1)) u ≡ eqb (pick (ltb (k % p) (m - p)) (k % (2 * p)) (k % p)) u
+module _ (m u k : ℕ) (some : 1 ≤ m) (most : m ≤ 16) (unit : u < m) where
+  Tells : ℕ → Type 0
+  Tells p = eqb (bitAnd k (pick (ltb u p && leb (m - p) u) (p - 1) (2 * p - 1))) u ≡ eqb (pick (ltb (k % p) (m - p)) (k % (2 * p)) (k % p)) u
 
-  lowers : Lower (powerBelow m)
-  unfolding Lower
-  lowers =
-      by-power
-      Lower
-      m
-      lo
-      hi
-      (λ a h l. ap (λ z. eqb z u) (and-mask k 0) ∙ lower (k % 1) (k % 2) 1 m u (omega arith) (λ d. omega arith) h l)
-      (λ a b h l. ap (λ z. eqb z u) (and-mask k 1) ∙ lower (k % 2) (k % 4) 2 m u (omega arith) (λ d. omega arith) h l)
-      (λ a b h l. ap (λ z. eqb z u) (and-mask k 2) ∙ lower (k % 4) (k % 8) 4 m u (omega arith) (λ d. omega arith) h l)
-      (λ a b h l. ap (λ z. eqb z u) (and-mask k 3) ∙ lower (k % 8) (k % 16) 8 m u (omega arith) (λ d. omega arith) h l)
-      (λ a h l. ap (λ z. eqb z u) (and-mask k 4) ∙ lower (k % 16) (k % 32) 16 m u (omega arith) (λ d. omega arith) h l)
+  -- the masks of a power of two leave the remainders
+  tells : (j : ℕ) → 2 ^ j ≤ m → Tells (2 ^ j)
+  unfolding Tells
+  tells j l =
+      let p : ℕ = 2 ^ j in
+      let pos : 0 < p = one-le-pow j 2 (omega arith) in
+      let twice : bitAnd k (2 * p - 1) ≡ k % (2 * p) = rw (pow-succ' 2 j) at (and-mask k (suc j)) in
+      ap (λ z. eqb z u) (pick-map (bitAnd k) (ltb u p && leb (m - p) u) (p - 1) (2 * p - 1) ∙ rw (and-mask k j, twice) refl)
+      ∙ remainder-tells (k % p) (k % (2 * p)) p m u (mod-lt k pos) (remainder-twice k p pos) l unit
 
-  Upper : ℕ → Type 0
-  Upper p = u < m → (u < p → m - p ≤ u → ⊥) → eqb (bitAnd k (2 * p - 1)) u ≡ eqb (pick (ltb (k % p) (m - p)) (k % (2 * p)) (k % p)) u
-
-  uppers : Upper (powerBelow m)
-  unfolding Upper
-  uppers =
-      by-power
-      Upper
-      m
-      lo
-      hi
-      (λ a h l. ap (λ z. eqb z u) (and-mask k 1) ∙ upper (k % 1) (k % 2) 1 m u (omega arith) (λ d. omega arith) (omega arith) h l)
-      (λ a b h l. ap (λ z. eqb z u) (and-mask k 2) ∙ upper (k % 2) (k % 4) 2 m u (omega arith) (λ d. omega arith) (omega arith) h l)
-      (λ a b h l. ap (λ z. eqb z u) (and-mask k 3) ∙ upper (k % 4) (k % 8) 4 m u (omega arith) (λ d. omega arith) (omega arith) h l)
-      (λ a b h l. ap (λ z. eqb z u) (and-mask k 4) ∙ upper (k % 8) (k % 16) 8 m u (omega arith) (λ d. omega arith) (omega arith) h l)
-      (λ a h l. ap (λ z. eqb z u) (and-mask k 5) ∙ upper (k % 16) (k % 32) 16 m u (omega arith) (λ d. omega arith) (omega arith) h l)
-
-  -- the mask that the code takes, from the power of two that it found
-  pub mask-low : {p w : ℕ} → p ≡ powerBelow m → w ≡ p - 1 → u < p → m - p ≤ u → eqb (bitAnd k w) u ≡ eqb (unitOf m k) u
-  unfolding unitOf splitPointer Lower
-  mask-low {p} {w} e f = rw (f, e) lowers
-
-  pub mask-high : {p w : ℕ} → p ≡ powerBelow m → w ≡ 2 * p - 1 → u < m → (u < p → m - p ≤ u → ⊥) → eqb (bitAnd k w) u ≡ eqb (unitOf m k) u
-  unfolding unitOf splitPointer Upper
-  mask-high {p} {w} e f = rw (f, e) uppers
+  pub mask-tells : eqb (bitAnd k (maskOf m u)) u ≡ eqb (unitOf m k) u
+  unfolding maskOf unitOf splitPointer Tells
+  mask-tells = by-power Tells m some most (λ _. tells 0 some) (λ a _. tells 1 a) (λ a _. tells 2 a) (λ a _. tells 3 a) (λ a. tells 4 (omega arith))

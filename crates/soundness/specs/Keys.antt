@@ -1,17 +1,21 @@
 -- Lists of keys within bytes, and what is asked of the keys of one unit. A list is a function, rank → key; ranks are counted from 0.
 -- Assumes nothing.
-use Prim.Native.Nat.{ℕ, _+_, _*_, _/_, _%_}
+use Prim.Native.Nat.{ℕ, _+_, _*_, _-_, _/_, _%_}
 use mathlib.Core.List.{List}
 use mathlib.Core.Bool.{Bool, not, _&&_, _||_}
-use lib.Dec.{eqb, ltb}
+use lib.Dec.{eqb, ltb, leb}
 use Rattle.buffer.specs.Choice.{pick}
 use Rattle.buffer.specs.Range.{all, first}
 use Rattle.buffer.specs.Bytes.{byte, be32}
-use Rattle.model.specs.Units.{unitOf}
+use Rattle.model.specs.Units.{powerBelow, splitPointer, unitOf}
 
 -- the place of a key in the table of stamps
 unfoldable pub placeOf : ℕ → ℕ
 placeOf k = k * 2654435761 / 2097152 % 2048
+
+-- a mask of the low bits of a key that tell whether it belongs to unit u of m (`mask-tells`): one bit more where u was split, or made by a split
+unfoldable pub maskOf : ℕ → ℕ → ℕ
+maskOf m u = pick (ltb u (powerBelow m) && leb (splitPointer m) u) (powerBelow m - 1) (2 * powerBelow m - 1)
 
 -- the ranks before the first key 0
 unfoldable pub fillOf : ℕ → (ℕ → ℕ) → ℕ

@@ -1,13 +1,10 @@
 // Lists of keys within a store: one key every `step` bytes, from `base` on.
 ghost use mathlib.Core.Path.{_≡_};
-ghost use Prim.Native.Nat.{ℕ, _+_, _*_, _≤_, _<_};
-ghost use lib.Bits.{bitAnd};
-ghost use lib.Dec.{eqb};
+ghost use Prim.Native.Nat.{_+_, _*_, _≤_, _<_};
 ghost use lib.ListN.{length};
 ghost use Rattle.group.specs.Widths.{slotBytes, checkBytes};
-ghost use Rattle.model.specs.Units.{unitOf};
 ghost use Rattle.buffer.specs.Strided.{strided32, Within};
-ghost use Rattle.soundness.specs.Keys.{placeOf, isNew, reached, sameKeys, noKeys, le32, samePair, sameLists};
+ghost use Rattle.soundness.specs.Keys.{placeOf, maskOf, isNew, reached, sameKeys, noKeys, le32, samePair, sameLists};
 
 fn wide64(x: u32) -> u64
     ensures { λ r. ⌜ (r ≡ x) × (r < 4294967296) ⌝ }
@@ -47,7 +44,7 @@ fn place(k: u32) -> usize
 // The low bits of a key that tell whether it belongs to unit u of m: one bit more where u was split, or made by a split.
 fn mask_of(m: u8, u: u8) -> u32
     requires { ⌜ (1 ≤ m) × (m ≤ 16) × (u < m) ⌝ }
-    ensures { λ r. ⌜ ((k : ℕ) → eqb (bitAnd k r) u ≡ eqb (unitOf m k) u) ⌝ }
+    ensures { λ r. ⌜ r ≡ maskOf m u ⌝ }
 {
     let low = lookup::power_below(m);
     if u < low {

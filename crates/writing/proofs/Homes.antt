@@ -20,8 +20,15 @@ use Rattle.lookup.specs.Groups.{none-out}
 use Rattle.writing.specs.Homes.{openingRows, Located, Homed}
 
 -- a key that is refused
-pub homeless : {s : List ℕ} {k : ℕ} {fits : Bool} {number u n r m : ℕ} → number ≡ suc m → firstOf (openingRows s k fits) ≡ suc m → Homed s k fits number u n r
-homeless e f = record { found = e ∙ sym f; fitting = λ z. absurd (omega (arith, e, z)); located = λ z. absurd (omega (arith, e, z)) }
+pub homeless : {s : List ℕ} {k : ℕ} {fits : Bool} {number u n r m : ℕ} → (number ≡ suc m) × (u ≡ 0) × (n ≡ 0) × (r ≡ 0)
+    → firstOf (openingRows s k fits) ≡ suc m → Homed s k fits number u n r
+homeless e f =
+    record {
+      found = e .0 ∙ sym f;
+      fitting = λ z. absurd (omega (arith, e .0, z));
+      located = λ z. absurd (omega (arith, e .0, z));
+      nowhere = λ _. (e .1, e .2, e .3);
+    }
 
 pub home-unit : (s : List ℕ) (k : ℕ) {u : ℕ} → u ≡ unitOf (byte s 6) k → homeIn (view s) k ≡ u
 unfolding homeIn

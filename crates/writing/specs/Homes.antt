@@ -24,8 +24,9 @@ pub record Located (s : List ℕ) (k u n r : ℕ) : Type 0 where
   pub below : u < 16
   pub most : n ≤ byte s 5
 
--- what is found of key k in a call whose body fits or not: the number of these rows, and where it is 0 the key's place
+-- what is found of key k in a call whose body fits or not: the number of these rows, and where it is 0 the key's place, else 0, 0 and 0
 pub record Homed (s : List ℕ) (k : ℕ) (fits : Bool) (number u n r : ℕ) : Type 0 where
   pub found : number ≡ firstOf (openingRows s k fits)
   pub fitting : number ≡ 0 → fits ≡ true
   pub located : number ≡ 0 → Located s k u n r
+  pub nowhere : (number ≡ 0 → ⊥) → (u ≡ 0) × (n ≡ 0) × (r ≡ 0)

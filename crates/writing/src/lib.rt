@@ -141,7 +141,7 @@ fn clear_unit(s: &mut [u8], w: u8)
 }
 
 // Where a key belongs, or why it is refused: the number, and where that is 0 the key's unit, how many records the unit has and the key's rank among
-// them.
+// them; else 0, 0 and 0.
 struct Home {
     number: u8,
     unit: u8,
@@ -151,7 +151,7 @@ struct Home {
 
 // A key that is refused with this number.
 fn refusal(number: u8) -> Home
-    ensures { λ h. ⌜ h .number ≡ number ⌝ }
+    ensures { λ h. ⌜ (h .number ≡ number) × (h .unit ≡ 0) × (h .fill ≡ 0) × (h .rank ≡ 0) ⌝ }
 {
     Home {
         number,

@@ -3,8 +3,8 @@ use mathlib.Core.Path.{sym, _∙_}
 use native.Mathlib.Omega.{arith}
 use borrow.Author.Needs.{needs}
 use Rattle.buffer.specs.Bytes.{byte}
+use Rattle.lookup.specs.Parts.{handed-back}
 use Rattle.lookup.specs.Slots.{heldAt, held-fits, held-part}
-use Rattle.buffer.specs.SpliceLaws.{part-lent}
 use Rattle.lookup.proofs.held.Statement.{statement}
 use Rattle.lookup.proofs.held.Tie as tie
 
@@ -15,10 +15,10 @@ part-result-end c =
 
 returns : tie.Need-returns
 returns c =
-    let start = c .before .before .before .before in
-    let s = start .args .s .now in
-    part-lent s (c .before .held-at .result) 16 (heldAt (byte s 5) (start .args .g) (start .args .r) (start .args .m)) (c .before .held-at .ensures .0)
-    ∙ sym (held-part s (start .args .g) (start .args .r) (start .args .m))
+    let a = c .before .before .before .before .args in
+    let s = a .s .now in
+    let lent = handed-back s _ _ (c .before .held-at .result) 16 (heldAt (byte s 5) (a .g) (a .r) (a .m)) (c .before .held-at .ensures .0) in
+    (lent .0 ∙ sym (held-part s (a .g) (a .r) (a .m)), lent .1)
 
 pub held-spec : {M : Type 1} → statement M
 held-spec =

@@ -9,7 +9,7 @@ returns : tie.Need-returns
 returns c =
     let lent = c .before in
     let start = lent .before .before .before in
-    rw (lent .before .data-states .ensures, lent .check-states .ensures) at (c .first-four .ensures) ∙ four-states (start .args .s .now) (start .args .g)
+    rw (lent .before .data-states .ensures .0, lent .check-states .ensures .0) at (c .first-four .ensures) ∙ four-states (start .args .s .now) (start .args .g)
 
 pub members-spec : {M : Type 1} → statement M
 members-spec = tie.close (tie.spec (λ c κs. search needs) (λ c κs. search needs) (λ c κs. search needs) returns)

@@ -32,10 +32,10 @@ rebuild-body-requires c κs =
     let p = start .pre in
     let long : (i : ℕ) → i < 4 → length (holds (view (start .args .s .now)) (start .args .g) (start .args .r) (getD (start .args .t5) i 0)) ≡ length (start .args .out .now) =
     λ i l. length-holds (p .1) (start .args .g) (start .args .r) (getD (start .args .t5) i 0) (p .2) (p .3) (p .4 i l) ∙ sym (p .0) in (
-      ap length (a .held .ensures) ∙ long 0 (omega arith),
-      ap length (b .held2 .ensures) ∙ long 1 (omega arith),
-      ap length (e .held3 .ensures) ∙ long 2 (omega arith),
-      ap length (d .held4 .ensures) ∙ long 3 (omega arith),
+      ap length (a .held .ensures .0) ∙ long 0 (omega arith),
+      ap length (b .held2 .ensures .0) ∙ long 1 (omega arith),
+      ap length (e .held3 .ensures .0) ∙ long 2 (omega arith),
+      ap length (d .held4 .ensures .0) ∙ long 3 (omega arith),
       p .5,
       p .6,
     )
@@ -48,7 +48,7 @@ returns c =
     let a = b .before in
     let start = a .before .before .before in
     c .before .before .rebuild-body .ensures
-    ∙ weighed-held _ _ _ _ _ (λ i. holds (view (start .args .s .now)) (start .args .g) (start .args .r) (getD (start .args .t5) i 0)) (a .held .ensures) (b .held2 .ensures) (e .held3 .ensures) (d .held4 .ensures)
+    ∙ weighed-held _ _ _ _ _ (λ i. holds (view (start .args .s .now)) (start .args .g) (start .args .r) (getD (start .args .t5) i 0)) (a .held .ensures .0) (b .held2 .ensures .0) (e .held3 .ensures .0) (d .held4 .ensures .0)
 
 pub rebuild-body-spec : {M : Type 1} → statement M
 rebuild-body-spec =

@@ -1,6 +1,6 @@
 -- `reading::look_up` meets its contract. Assumes nothing.
 use Prim.Native.Nat.{_<_}
-use mathlib.Core.Path.{sym, _∙_}
+use mathlib.Core.Path.{refl, sym, _∙_}
 use native.Mathlib.Omega.{arith}
 use borrow.Author.Needs.{needs}
 use borrow.Author.Tests.{not-true, not-false}
@@ -130,6 +130,7 @@ returns-6 c =
         small = omega (arith, c .if5 .left, fill .1);
       };
       room = λ z. room .if2 .left;
+      nowhere = λ z. absurd (z refl);
     }
 
 pub look-up-spec : {M : Type 1} → statement M

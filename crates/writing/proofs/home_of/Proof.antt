@@ -1,6 +1,6 @@
 -- `writing::home_of` meets its contract. Assumes nothing.
 use Prim.Native.Nat.{_<_}
-use mathlib.Core.Path.{ap, sym, _∙_}
+use mathlib.Core.Path.{refl, ap, sym, _∙_}
 use native.Mathlib.Omega.{arith}
 use lib.Dec.{ltb}
 use borrow.Author.Tests.{not-false}
@@ -91,6 +91,7 @@ returns-5 c =
       located = λ _.
           located (a .key) (survey .survey-of .ensures) (not-false _ (good .if3 .left)) (unit .unit-of .ensures) (ap (ltb 0) (sym outs) ∙ free .if4 .left)
           (read .wide2 .ensures .0) (c .rank .ensures);
+      nowhere = λ z. absurd (z refl);
     }
 
 pub home-of-spec : {M : Type 1} → statement M

@@ -1,13 +1,14 @@
 -- `soundness::keys::reach` meets its contract. Assumes nothing.
 use Prim.Native.Nat.{_-_}
 use mathlib.Core.Logic.{⊎-elim}
-use mathlib.Core.Path.{refl, sym, ap, _∙_}
+use mathlib.Core.Path.{refl, sym, ap, ap₂, _∙_}
 use native.Mathlib.Omega.{arith}
 use lib.Bits.{bitAnd}
 use borrow.Author.Needs.{needs}
 use Rattle.buffer.specs.TestLaws.{is-eq, is-ne, is-no, is-yes}
 use Rattle.buffer.specs.Strided.{strided32, within-fewer}
 use Rattle.soundness.specs.Keys.{placeOf, isNew}
+use Rattle.soundness.proofs.Masks.{mask-tells}
 use Rattle.soundness.proofs.Reaching.{Reaching, reaching-start, reaching-turn, reaching-new, own-new, not-own, not-new, reaching-stop, reaching-full, reaching-fail}
 use Rattle.soundness.proofs.keys.reach.Statement.{statement}
 use Rattle.soundness.proofs.keys.reach.Tie as tie
@@ -36,8 +37,9 @@ returns-2 c =
     let turn = c .before .before .before .before .loop in
     let key = c .before .before .key .ensures in
     let some = is-ne key refl (c .before .if1 .left) in
-    let masked = ap (λ x. bitAnd x (c .before .before .before .before .before .before .mask-of .result)) key in
-    let other = sym (c .before .before .before .before .before .before .mask-of .ensures _) ∙ is-ne masked (c .before .before .before .before .before .wide32 .ensures .0) (c .if2 .taken) in
+    let asked = c .before .before .before .before .before .before .before .before .pre in
+    let masked = ap₂ bitAnd key (c .before .before .before .before .before .before .mask-of .ensures) in
+    let other = sym (mask-tells _ _ _ (asked .1) (asked .2) (asked .3)) ∙ is-ne masked (c .before .before .before .before .before .wide32 .ensures .0) (c .if2 .taken) in
     (reaching-fail (turn .inv) (c .before .before .before .loop-test .taken) some (not-own (given .m) (given .u) keys (turn .r) other), turn .inv .sized)
 
 is-new-requires : tie.Need-is-new-requires Inv-loop μ-loop
@@ -60,10 +62,11 @@ loop-again c =
     let turn = c .before .before .before .before .before .before .before .loop in
     let key = c .before .before .before .before .before .key .ensures in
     let some = is-ne key refl (c .before .before .before .before .if1 .left) in
-    let masked = ap (λ x. bitAnd x (c .before .before .before .before .before .before .before .before .before .mask-of .result)) key in
+    let asked = c .before .before .before .before .before .before .before .before .before .before .before .pre in
+    let masked = ap₂ bitAnd key (c .before .before .before .before .before .before .before .before .before .mask-of .ensures) in
     let place = c .before .before .place .ensures .0 ∙ ap placeOf key in
     let new = ap (isNew (turn .r) keys) key in
-    let own = sym (c .before .before .before .before .before .before .before .before .before .mask-of .ensures _) ∙ is-eq masked (c .before .before .before .before .before .before .before .before .wide32 .ensures .0) (c .before .before .before .if2 .left) in
+    let own = sym (mask-tells _ _ _ (asked .1) (asked .2) (asked .3)) ∙ is-eq masked (c .before .before .before .before .before .before .before .before .wide32 .ensures .0) (c .before .before .before .if2 .left) in
     let fresh = ⊎-elim (λ w. is-yes (w .1 .ensures ∙ new) (w .2 .left)) (λ w. reaching-new (turn .inv) place (w .left)) (c .if3 .came) in
     reaching-turn (turn .inv) (c .before .before .before .before .before .before .loop-test .taken) some (own-new (given .m) (given .u) keys (turn .r) own fresh) place (c .before .before .place .ensures .1)
 
