@@ -33,6 +33,9 @@ extern "C" {
 /* The bytes of a body. */
 #define LHRS_BODY 16u
 
+/* The bytes of a record as lhrs_list writes it: its key, big-endian, and its body. */
+#define LHRS_RECORD 20u
+
 /* The bytes of a store whose units have b slots. */
 #define LHRS_LENGTH(b) (36u + 704u * (b))
 
@@ -59,10 +62,11 @@ enum lhrs_number {
     /* The key is not taught. */
     LHRS_KEY_NOT_PRESENT = 6,
     /* There is no room: the key's unit is full (teach), the records of both units do not fit into
-       one (shrink), or the block is shorter than LHRS_LENGTH(b) (lay out). */
+       one (shrink), the block is shorter than LHRS_LENGTH(b) (lay out), or the output is too short
+       for all records (list). */
     LHRS_NO_ROOM = 7,
-    /* More units of the group are out than it has check units: nothing can be rebuilt (repair; read
-       of a key whose unit is out). */
+    /* More units of a group are out than it has check units: nothing can be rebuilt (repair; read of
+       a key whose unit is out there; list with a data unit out there). */
     LHRS_BEYOND_RECOVERY = 8,
     /* A limit: grow at 16 units, shrink at 1, or a raise that is not granted. */
     LHRS_LIMIT = 9
@@ -101,6 +105,15 @@ uint8_t lhrs_erase(uint8_t *store, size_t len, uint32_t key);
  * Returns 0, 1, 2, 6 or 8.
  */
 uint8_t lhrs_read(const uint8_t *store, size_t len, uint32_t key, uint8_t *out, size_t out_len);
+
+/*
+ * Writes all records to out, key (big-endian) and body, LHRS_RECORD bytes each, by unit and then in
+ * the order of the unit; the bodies of units that are out are rebuilt. count becomes the number of
+ * records written, 0 when refused. out must hold all of them, and may be longer: what lies behind
+ * them is not written. The store is not changed; out is written only when 0 is returned.
+ * Returns 0, 1, 7 or 8.
+ */
+uint8_t lhrs_list(const uint8_t *store, size_t len, uint8_t *out, size_t out_len, size_t *count);
 
 /*
  * Takes a unit out of service, as when it is swapped: its bytes become zero. Units 0 to 15 are data
