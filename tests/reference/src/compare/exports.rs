@@ -1,9 +1,9 @@
 //! This crate's byte store under the C names of the store under test, so that the comparison and
 //! the C programs can be tried on it.
 
-use super::faults::spoil;
+use super::faults::{seeded, spoil};
 use crate::call::Kind;
-use crate::store;
+use crate::store::{self, matrix};
 use std::slice::{from_raw_parts, from_raw_parts_mut};
 
 #[no_mangle]
@@ -50,6 +50,69 @@ unsafe extern "C" fn lhrs_read(
 ) -> u8 {
     let out = from_raw_parts_mut(out, out_len);
     spoil(Kind::Read, from_raw_parts_mut(store, len), |store| store::read(store, key, out))
+}
+
+#[no_mangle]
+unsafe extern "C" fn lhrs_list(
+    store: *const u8,
+    len: usize,
+    out: *mut u8,
+    out_len: usize,
+    count: *mut usize,
+) -> u8 {
+    let out = from_raw_parts_mut(out, out_len);
+    let (number, listed) = store::list(from_raw_parts(store, len), out);
+    let end = 20 * listed as usize;
+    if seeded("list-writes-behind") && number == 0 && end < out_len {
+        out[end] ^= 1;
+    }
+    let refused_count = seeded("list-leaves-the-count-when-refused") && number != 0;
+    if !refused_count {
+        *count = listed as usize + seeded("list-invents-its-count") as usize;
+    }
+    number
+}
+
+#[no_mangle]
+unsafe extern "C" fn compared_read_in_place(
+    store: *const u8,
+    len: usize,
+    key: u32,
+    out: *mut u8,
+    out_len: usize,
+) -> usize {
+    let store = from_raw_parts(store, len);
+    let mut part = store::read_in_place(store, key);
+    if seeded("read-in-place-of-a-unit-out") && store::read(store, key, &mut [0; 16]) == 0 {
+        part = if part.is_empty() { &store[40..56] } else { part };
+    }
+    if part.len() <= out_len {
+        from_raw_parts_mut(out, part.len()).copy_from_slice(part);
+    }
+    part.len()
+}
+
+#[no_mangle]
+unsafe extern "C" fn compared_rebuild(
+    columns: *const [u8; 4],
+    symbols: *const [u8; 4],
+    data: *mut [u8; 4],
+) -> u8 {
+    let columns = (*columns).map(usize::from);
+    let (number, found) = matrix::rebuild(columns, *symbols);
+    if !(seeded("rebuild-leaves-data-when-refused") && number != 0) {
+        *data = found;
+    }
+    if seeded("rebuild-without-column-16") && columns.contains(&16) {
+        return 2;
+    }
+    number
+}
+
+#[no_mangle]
+extern "C" fn compared_coefficient(place: usize, column: usize) -> u8 {
+    let entry = matrix::entry(place % 4, column % 17);
+    entry ^ (seeded("a-wrong-coefficient") && place == 2 && column == 11) as u8
 }
 
 #[no_mangle]
