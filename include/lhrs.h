@@ -8,8 +8,15 @@
  * touched.
  *
  * Memory. Every block passed in stays the caller's. It is used during the call only. The blocks
- * passed to one call must not overlap, a pointer must be valid for its length, and it must not be
- * null, not even with length 0. Calls on one store must not run at the same time.
+ * passed to one call must not overlap, and a pointer must be valid for its length; with length 0 it
+ * may be null. The pointer count of lhrs_list must be that of a size_t, and not null.
+ *
+ * At the same time. The library has no state. Calls on different stores may run at the same time.
+ * On one store lhrs_read and lhrs_list may run beside each other and beside themselves; while any
+ * other call runs, none may run beside it on that store.
+ *
+ * Where it runs. The archive libstore.a is compiled for x86-64 Linux (ELF objects, System V calling
+ * convention) and needs memcpy and memset of a C library, nothing else.
  *
  * Records. A record is a key, 1 to 4,294,967,295, and a body of 16 bytes; any body will do, all
  * zeros too. Records are spread over 1 to 16 data units of b slots each. Each four data units form
@@ -39,8 +46,21 @@ extern "C" {
 /* The bytes of a store whose units have b slots. */
 #define LHRS_LENGTH(b) (36u + 704u * (b))
 
-/* The number by which lhrs_out calls check unit j (0 to 2) of group g (0 to 3). */
+/* Units have numbers 0 to 27: data units 0 to 15, then check unit j (0 to 2) of group g (0 to 3). */
 #define LHRS_CHECK_UNIT(g, j) (16u + 3u * (g) + (j))
+
+/* Of a store that was laid out, by a pointer to its first byte: the number of its data units, 1 to
+   16; its level, the number of check units that new groups get, 1 to 3; the state of a unit, one of
+   enum lhrs_state. They read one byte and test nothing. */
+#define LHRS_UNITS(store) ((store)[6])
+#define LHRS_LEVEL(store) ((store)[7])
+#define LHRS_STATE(store, unit) ((store)[8u + (unit)])
+
+enum lhrs_state {
+    LHRS_STATE_NOT_IN_PLACE = 0,
+    LHRS_STATE_IN_SERVICE = 1,
+    LHRS_STATE_OUT = 2
+};
 
 enum lhrs_number {
     /* The call was granted and has done what it says. */
@@ -116,8 +136,7 @@ uint8_t lhrs_read(const uint8_t *store, size_t len, uint32_t key, uint8_t *out, 
 uint8_t lhrs_list(const uint8_t *store, size_t len, uint8_t *out, size_t out_len, size_t *count);
 
 /*
- * Takes a unit out of service, as when it is swapped: its bytes become zero. Units 0 to 15 are data
- * units, LHRS_CHECK_UNIT(g, j) are check units.
+ * Takes a unit (0 to 27) out of service, as when it is swapped: its bytes become zero.
  * Returns 0, 1, 2, 3 or 4.
  */
 uint8_t lhrs_out(uint8_t *store, size_t len, uint32_t unit);

@@ -4,11 +4,26 @@
 use super::faults::{seeded, spoil};
 use crate::call::Kind;
 use crate::store::{self, matrix};
-use std::slice::{from_raw_parts, from_raw_parts_mut};
+use std::slice;
+
+/// A slice that C lends; with length 0 its pointer may be null.
+unsafe fn lent<'a>(start: *const u8, len: usize) -> &'a [u8] {
+    if len == 0 {
+        return &[];
+    }
+    slice::from_raw_parts(start, len)
+}
+
+unsafe fn lent_mut<'a>(start: *mut u8, len: usize) -> &'a mut [u8] {
+    if len == 0 {
+        return &mut [];
+    }
+    slice::from_raw_parts_mut(start, len)
+}
 
 #[no_mangle]
 unsafe extern "C" fn lhrs_lay_out(store: *mut u8, len: usize, b: u32) -> u8 {
-    spoil(Kind::LayOut, from_raw_parts_mut(store, len), |store| store::lay_out(store, b))
+    spoil(Kind::LayOut, lent_mut(store, len), |store| store::lay_out(store, b))
 }
 
 #[no_mangle]
@@ -19,8 +34,8 @@ unsafe extern "C" fn lhrs_teach(
     body: *const u8,
     body_len: usize,
 ) -> u8 {
-    let body = from_raw_parts(body, body_len);
-    spoil(Kind::Teach, from_raw_parts_mut(store, len), |store| store::teach(store, key, body))
+    let body = lent(body, body_len);
+    spoil(Kind::Teach, lent_mut(store, len), |store| store::teach(store, key, body))
 }
 
 #[no_mangle]
@@ -31,13 +46,13 @@ unsafe extern "C" fn lhrs_correct(
     body: *const u8,
     body_len: usize,
 ) -> u8 {
-    let body = from_raw_parts(body, body_len);
-    spoil(Kind::Correct, from_raw_parts_mut(store, len), |store| store::correct(store, key, body))
+    let body = lent(body, body_len);
+    spoil(Kind::Correct, lent_mut(store, len), |store| store::correct(store, key, body))
 }
 
 #[no_mangle]
 unsafe extern "C" fn lhrs_erase(store: *mut u8, len: usize, key: u32) -> u8 {
-    spoil(Kind::Erase, from_raw_parts_mut(store, len), |store| store::erase(store, key))
+    spoil(Kind::Erase, lent_mut(store, len), |store| store::erase(store, key))
 }
 
 #[no_mangle]
@@ -48,8 +63,8 @@ unsafe extern "C" fn lhrs_read(
     out: *mut u8,
     out_len: usize,
 ) -> u8 {
-    let out = from_raw_parts_mut(out, out_len);
-    spoil(Kind::Read, from_raw_parts_mut(store, len), |store| store::read(store, key, out))
+    let out = lent_mut(out, out_len);
+    spoil(Kind::Read, lent_mut(store, len), |store| store::read(store, key, out))
 }
 
 #[no_mangle]
@@ -60,14 +75,14 @@ unsafe extern "C" fn lhrs_list(
     out_len: usize,
     count: *mut usize,
 ) -> u8 {
-    let out = from_raw_parts_mut(out, out_len);
-    let (number, listed) = store::list(from_raw_parts(store, len), out);
+    let out = lent_mut(out, out_len);
+    let (number, listed) = store::list(lent(store, len), out);
     let end = 20 * listed as usize;
     if seeded("list-writes-behind") && number == 0 && end < out_len {
         out[end] ^= 1;
     }
-    let refused_count = seeded("list-leaves-the-count-when-refused") && number != 0;
-    if !refused_count {
+    let count_left = seeded("list-leaves-the-count-when-refused") && number != 0;
+    if !count_left {
         *count = listed as usize + seeded("list-invents-its-count") as usize;
     }
     number
@@ -81,13 +96,13 @@ unsafe extern "C" fn compared_read_in_place(
     out: *mut u8,
     out_len: usize,
 ) -> usize {
-    let store = from_raw_parts(store, len);
+    let store = lent(store, len);
     let mut part = store::read_in_place(store, key);
     if seeded("read-in-place-of-a-unit-out") && store::read(store, key, &mut [0; 16]) == 0 {
         part = if part.is_empty() { &store[40..56] } else { part };
     }
     if part.len() <= out_len {
-        from_raw_parts_mut(out, part.len()).copy_from_slice(part);
+        lent_mut(out, part.len()).copy_from_slice(part);
     }
     part.len()
 }
@@ -117,25 +132,25 @@ extern "C" fn compared_coefficient(place: usize, column: usize) -> u8 {
 
 #[no_mangle]
 unsafe extern "C" fn lhrs_out(store: *mut u8, len: usize, unit: u32) -> u8 {
-    spoil(Kind::Out, from_raw_parts_mut(store, len), |store| store::unit_out(store, unit))
+    spoil(Kind::Out, lent_mut(store, len), |store| store::unit_out(store, unit))
 }
 
 #[no_mangle]
 unsafe extern "C" fn lhrs_repair(store: *mut u8, len: usize, group: u32) -> u8 {
-    spoil(Kind::Repair, from_raw_parts_mut(store, len), |store| store::repair(store, group))
+    spoil(Kind::Repair, lent_mut(store, len), |store| store::repair(store, group))
 }
 
 #[no_mangle]
 unsafe extern "C" fn lhrs_grow(store: *mut u8, len: usize) -> u8 {
-    spoil(Kind::Grow, from_raw_parts_mut(store, len), store::grow)
+    spoil(Kind::Grow, lent_mut(store, len), store::grow)
 }
 
 #[no_mangle]
 unsafe extern "C" fn lhrs_shrink(store: *mut u8, len: usize) -> u8 {
-    spoil(Kind::Shrink, from_raw_parts_mut(store, len), store::shrink)
+    spoil(Kind::Shrink, lent_mut(store, len), store::shrink)
 }
 
 #[no_mangle]
 unsafe extern "C" fn lhrs_raise(store: *mut u8, len: usize) -> u8 {
-    spoil(Kind::Raise, from_raw_parts_mut(store, len), store::raise)
+    spoil(Kind::Raise, lent_mut(store, len), store::raise)
 }
