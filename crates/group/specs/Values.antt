@@ -6,7 +6,7 @@ use Rattle.algebra.specs.Binary.{productIn, remainder, times}
 use Rattle.field.specs.Byte.{scale}
 use Rattle.code.specs.Matrix.{matrix, entry}
 use Rattle.group.specs.Body.{addBody, scaleBody}
-use Rattle.group.specs.Parity.{coefficient, sum4, parity, adjusted}
+use Rattle.group.specs.Parity.{coefficient, sum4, bodyAt, parity, adjusted}
 use Rattle.group.specs.Four.{fourBodies}
 
 -- the bodies in units 0 to 3
@@ -29,5 +29,5 @@ pub record ParityValues : Type 0 where
   pub value-6-check-1 : adjusted 1 0 (addBody (units 0) newBody) (parity 1 units) ≡ 0x40 ∷ 0x6E ∷ 0xDC ∷ 0x3F ∷ []
 
 pub parity-values : ParityValues
-unfolding units newBody fourBodies parity adjusted sum4 coefficient addBody scaleBody zipWith scale entry matrix productIn remainder times
+unfolding units newBody fourBodies parity adjusted sum4 bodyAt coefficient addBody scaleBody zipWith scale entry matrix productIn remainder times
 parity-values = record { value-5-check-0 = refl; value-5-check-1 = refl; value-6-check-0 = refl; value-6-check-1 = refl }
