@@ -14,4 +14,3 @@ pub mod MembersLaws
 pub mod Rebuilding
 pub mod WeighedLaws
 pub mod RebuildingLaws
-pub mod Values

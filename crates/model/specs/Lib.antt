@@ -18,4 +18,5 @@ pub mod PerformLaws
 pub mod GrantedLayout
 pub mod Demand1
 pub mod MadeAnew
+pub mod Commissioning
 pub mod history
