@@ -1,7 +1,7 @@
 -- THE LAW OF REBUILDING, for any four different columns of all seventeen: bodies that are the same there are the same (`bodies-fixed`); whatever is
 -- held there, right or wrong, the rebuilt bodies have it by the matrix (`rebuilt-from-has`); so rebuilding gives back the bodies that were encoded
--- (`rebuilt-from-back`). Then for the first four members in service of a group (`rebuilt-has`, `rebuilds`). It is shown byte by byte from the code's
--- laws. Assumes nothing.
+-- (`rebuilt-from-back`). Then for the first four members in service of a group: `rebuilt-has`, `rebuilt-own`, `rebuilds`. It is shown byte by byte
+-- from the code's laws. Assumes nothing.
 use mathlib.Core.Path.{_≡_, refl, sym, ap, _∙_}
 use mathlib.Core.Bool.{Bool, true}
 use mathlib.Core.List.{List, [], _∷_}
@@ -26,7 +26,7 @@ use Rattle.group.specs.Parity.{bodyAt, parity}
 use Rattle.group.specs.ParityLaws.{length-at}
 use Rattle.group.specs.WeighedLaws.{across, across-at, across-within, byte-weighed, weighed-is, weighed-ext, byte-at, is-at}
 use Rattle.group.specs.Members.{firstFour}
-use Rattle.group.specs.MembersLaws.{Members, first-four}
+use Rattle.group.specs.MembersLaws.{Members, first-four, data-chosen}
 use Rattle.group.specs.Rebuilding.{rebuiltFrom, rebuilt}
 
 -- ---- four bodies at a column
@@ -114,11 +114,25 @@ members-different {on} {cs} m =
 pub members-columns : {on : ℕ → Bool} {cs : List ℕ} → Members on cs → FourColumns cs
 members-columns m = record { long = m .long; low = members-within m; apart = members-different m }
 
--- whatever these four hold, right or wrong, a group with the rebuilt bodies has just that at each of the four
-pub rebuilt-has : (n : ℕ) (on : ℕ → Bool) (hold : ℕ → List ℕ) → 4 ≤ count 7 on → ((i : ℕ) → i < 4 → IsBody n (hold (getD (firstFour on) i 0)))
-    → (i : ℕ) → i < 4 → bodyAt (getD (firstFour on) i 0) (rebuilt on hold) ≡ hold (getD (firstFour on) i 0)
-unfolding rebuilt
-rebuilt-has n on hold enough = rebuilt-from-has n (firstFour on) (members-columns (first-four on enough)) (λ i. hold (getD (firstFour on) i 0))
+-- whatever these four hold, right or wrong
+module _ (n : ℕ) (on : ℕ → Bool) (hold : ℕ → List ℕ) (enough : 4 ≤ count 7 on) (is : (i : ℕ) → i < 4 → IsBody n (hold (getD (firstFour on) i 0))) where
+  columns : FourColumns (firstFour on)
+  columns = members-columns (first-four on enough)
+
+  pub rebuilt-is : Bodies n (rebuilt on hold)
+  unfolding rebuilt
+  rebuilt-is = rebuilt-from-is n (firstFour on) columns (λ i. hold (getD (firstFour on) i 0)) is
+
+  -- a group with the rebuilt bodies has just that at each of the four
+  pub rebuilt-has : (i : ℕ) → i < 4 → bodyAt (getD (firstFour on) i 0) (rebuilt on hold) ≡ hold (getD (firstFour on) i 0)
+  unfolding rebuilt
+  rebuilt-has = rebuilt-from-has n (firstFour on) columns (λ i. hold (getD (firstFour on) i 0)) is
+
+  -- the body of a data unit in service is its own
+  pub rebuilt-own : (p : ℕ) → p < 4 → on p ≡ true → rebuilt on hold p ≡ hold p
+  rebuilt-own p l e =
+      let c = data-chosen on enough p l e in
+      sym (at-data n (rebuilt on hold) rebuilt-is p l) ∙ rw (c .2) at (rebuilt-has (c .0) (c .1))
 
 -- where each member in service holds its body, or its parity, and four members serve, every data unit's body is rebuilt from the first four of them
 module _ (n : ℕ) (on : ℕ → Bool) (hold f : ℕ → List ℕ) (is : Bodies n f)
