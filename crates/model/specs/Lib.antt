@@ -18,5 +18,8 @@ pub mod PerformLaws
 pub mod GrantedLayout
 pub mod Demand1
 pub mod MadeAnew
+pub mod Recovered
+pub mod RepairKeeps
+pub mod Demand2
 pub mod Commissioning
 pub mod history
