@@ -140,15 +140,15 @@ at-upd n c p hc hp bodies h new e =
 -- ---- parity
 pub parity-ext : (j : ℕ) (f g : ℕ → List ℕ) → ((p : ℕ) → p < 4 → f p ≡ g p) → parity j f ≡ parity j g
 unfolding parity
-parity-ext j f g h = at-ext (4 + j) f g h
+parity-ext j f g h = at-ext _ f g h
 
 pub length-parity : (n j : ℕ) (f : ℕ → List ℕ) → ((p : ℕ) → p < 4 → length (f p) ≡ n) → length (parity j f) ≡ n
 unfolding parity
-length-parity n j f h = length-at n (4 + j) f h
+length-parity n j f h = length-at n _ f h
 
 pub parity-zeros : (n j : ℕ) → j < 3 → parity j (λ _. zeros n) ≡ zeros n
 unfolding parity
-parity-zeros n j k = at-zeros n (4 + j) (omega arith)
+parity-zeros n j k = at-zeros n _ (omega arith)
 
 -- a change, as code writes it, byte by byte
 pub length-adjusted : (n j p : ℕ) (change old : List ℕ) → length change ≡ n → length old ≡ n → length (adjusted j p change old) ≡ n
