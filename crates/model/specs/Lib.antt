@@ -18,4 +18,7 @@ pub mod PerformLaws
 pub mod GrantedLayout
 pub mod Demand1
 pub mod MadeAnew
+pub mod Recovered
+pub mod RepairKeeps
+pub mod Demand2
 pub mod history
