@@ -13,7 +13,6 @@ use Rattle.buffer.specs.Choice.{pick}
 use Rattle.buffer.specs.ChoiceLaws.{by-test, by-pick, pick-true, pick-false}
 use Rattle.buffer.specs.TestLaws.{and-false-second}
 use Rattle.buffer.specs.Range.{count, first}
-use Rattle.buffer.specs.RangeLaws.{first-le, first-misses}
 use Rattle.buffer.specs.Bytes.{byte, zeros, part}
 use Rattle.buffer.specs.SpliceLaws.{length-part}
 use Rattle.group.specs.Widths.{keyBytes, bodyBytes, slotBytes, keysBytes, checkBytes}
@@ -24,6 +23,7 @@ use Rattle.group.specs.Rebuilding.{rebuilt}
 use Rattle.group.specs.RebuildingLaws.{rebuilt-is, rebuilt-has, rebuilt-own}
 use Rattle.model.specs.Layout.{Store, view, slotAt, checkAt, keyOf}
 use Rattle.model.specs.Reads.{beyondIn, servesIn, holds, firstCheck, listedKey, listedFill, wholeSlot}
+use Rattle.model.specs.ReadLaws.{listed-some}
 use Rattle.model.specs.Sound.{sound}
 use Rattle.model.specs.Recovered.{HeldBodies}
 use Rattle.model.specs.history.Typed.{Bytes}
@@ -33,15 +33,6 @@ use Rattle.model.proofs.Left.{shaped, states-low}
 -- what stands behind the first k bytes is a body
 body-is : (n k : ℕ) (x : List ℕ) → length x ≡ k + n → Bytes x → IsBody n (drop k x)
 body-is n k x e b = record { size = simp length-drop (omega arith); bytes = λ i. rw (getD-drop k x i 0) (b (k + i)) }
-
--- the keys of a unit up to its last record are not 0
-listed-some : (v : Store) (u r : ℕ) → r < listedFill v u → eqb (keyOf (listedKey v u r)) 0 ≡ false
-unfolding listedFill
-listed-some v u r l = first-misses (v .size) (λ r. eqb (keyOf (listedKey v u r)) 0) r l
-
-pub fill-most : (v : Store) (u : ℕ) → listedFill v u ≤ v .size
-unfolding listedFill
-fill-most v u = first-le (v .size) (λ r. eqb (keyOf (listedKey v u r)) 0)
 
 -- ---- a group that is not beyond recovery
 

@@ -23,6 +23,7 @@ use Rattle.group.specs.Rebuilding.{rebuilt}
 use Rattle.model.specs.Layout.{Store, view, keyOf}
 use Rattle.model.specs.Reads.{homeIn, beyondIn, servesIn, holds, listedKey, listedFill, listedRank}
 use Rattle.model.specs.Reads.{wholeSlot, bodyIn, lostIn, totalIn, listingIn}
+use Rattle.model.specs.ReadLaws.{listed-most, whole-own}
 use Rattle.model.specs.Sound.{sound}
 use Rattle.model.specs.Changes.{repaired}
 use Rattle.model.specs.Numbers.{read, list, repair, refusalsIn, numberIn}
@@ -31,9 +32,8 @@ use Rattle.model.specs.MadeAnew.{leftBy}
 use Rattle.model.specs.Recovered.{Listing, Recovered}
 use Rattle.model.specs.history.Typed.{Bytes}
 use Rattle.model.proofs.InPlace.{home-low}
-use Rattle.model.proofs.RepairKeeps.{whole-own}
 use Rattle.model.proofs.Left.{shaped, free, repair-group, repair-sound, repair-near, repair-left}
-use Rattle.model.proofs.RebuiltSlots.{fill-most, Rebuildable, bodies-held, key, body, whole-slot, key-long, body-long, whole-out, whole-long}
+use Rattle.model.proofs.RebuiltSlots.{Rebuildable, bodies-held, key, body, whole-slot, key-long, body-long, whole-out, whole-long}
 
 -- rows of chunks of w bytes, g i of them in row i, one behind the other: the chunk at place r of row i
 part-rows : (n w : ℕ) (g : ℕ → ℕ) (f : ℕ → ℕ → List ℕ) → ((i r : ℕ) → i < n → r < g i → length (f i r) ≡ w) → (i r : ℕ) → i < n → r < g i
@@ -100,7 +100,7 @@ module _ (s : List ℕ) (b : Bytes s) (k : ℕ) (out : List ℕ) (zero : numberI
         ok = sure;
         group = omega (arith, home-low s sure k);
         near = rw (eq-eqb (view s .dstate home) 2 lost) at (f .1 .1 .1 .0);
-        rank = omega (arith, present, fill-most (view s) home);
+        rank = omega (arith, present, listed-most (view s) home);
       }
 
   body-read : bodyIn (view s) k ≡ body home read-rebuildable
@@ -141,14 +141,14 @@ module _ (s : List ℕ) (b : Bytes s) (out : List ℕ) (zero : numberIn s (list 
         ok = list-sound;
         group = omega arith;
         near = rw (eq-eqb (t .dstate u) 2 e) at (count-zero 16 f (omega arith) u l);
-        rank = omega (arith, fill-most t u);
+        rank = omega (arith, listed-most t u);
       }
 
   slot-long : (u r : ℕ) → u < 16 → r < listedFill t u → length (wholeSlot t u r) ≡ slotBytes
   slot-long u r l m =
       by-test (λ _. length (wholeSlot t u r) ≡ slotBytes) (eqb (t .dstate u) 2)
       (λ e. let lost : t .dstate u ≡ 2 = eqb-true (t .dstate u) 2 e in whole-long u (list-rebuildable u r l m lost) lost m)
-      (λ e. ap length (whole-own t u r e) ∙ shaped s list-sound .slot u r l (omega (arith, fill-most t u)))
+      (λ e. ap length (whole-own t u r e) ∙ shaped s list-sound .slot u r l (omega (arith, listed-most t u)))
 
   listing-long : length (listingIn t) ≡ slotBytes * totalIn t
   unfolding listingIn totalIn

@@ -16,6 +16,7 @@ use Rattle.group.specs.Members.{outs, checks, beyond}
 use Rattle.model.specs.Layout.{Store, view, unitsIn}
 use Rattle.model.specs.LayoutLaws.{Same, bytes-ext, bytes-view}
 use Rattle.model.specs.Reads.{stateIn, outsIn, beyondIn, wholeSlot}
+use Rattle.model.specs.ReadLaws.{whole-own}
 use Rattle.model.specs.Sound.{sound}
 use Rattle.model.specs.SoundSays.{ranged, units-few}
 use Rattle.model.specs.Changes.{repaired}
@@ -28,11 +29,6 @@ use Rattle.model.specs.RepairKeeps.{RepairKeeps}
 use Rattle.model.specs.history.Ledger.{groupOf}
 use Rattle.model.specs.history.Runs.{unitIn}
 use Rattle.model.proofs.Left.{repair-left}
-
--- a slot of a unit that is not out
-pub whole-own : (v : Store) (u r : ℕ) → eqb (v .dstate u) 2 ≡ false → wholeSlot v u r ≡ v .slot u r
-unfolding wholeSlot
-whole-own v u r e = pick-false e _ (v .slot u r)
 
 module _ (s : List ℕ) (g : ℕ) where
   abbrev v : Store

@@ -6,6 +6,7 @@ pub mod StoreLaws
 pub mod RunLaws
 pub mod RunTurns
 pub mod Reads
+pub mod ReadLaws
 pub mod Sound
 pub mod SoundLaws
 pub mod SoundSays
