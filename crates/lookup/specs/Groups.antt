@@ -15,7 +15,7 @@ use Rattle.buffer.specs.Bytes.{byte, part}
 use Rattle.buffer.specs.ByteLaws.{byte-part}
 use Rattle.group.specs.Members.{outs, checks, beyond, serves, next, firstFour}
 use Rattle.group.specs.MembersLaws.{Members, serving-parts, serving, enough, check-serves, first-four}
-use Rattle.model.specs.Layout.{view}
+use Rattle.model.specs.Layout.{Store, view}
 use Rattle.model.specs.Reads.{outsIn, beyondIn, servesIn, firstCheck, lostIn}
 use Rattle.lookup.specs.Sized.{Sized}
 use Rattle.lookup.specs.Keys.{Known}
@@ -122,7 +122,11 @@ pub record Whole (s : List ℕ) : Type 0 where
 pub whole-unit : {s : List ℕ} → Whole s → (u : ℕ) → u < 16 → Recoverable s u
 whole-unit h u l = record { sized = h .sized; unit = l; whole = h .units u l }
 
--- ---- a data unit out in a group beyond recovery: each such group has one, since its check units out are not more than it has
+-- ---- a data unit out in a group beyond recovery
+abbrev pub goneIn : Store → ℕ → Bool
+goneIn v u = eqb (v .dstate u) 2 && beyondIn v (u / 4)
+
+-- each such group has one, since its check units out are not more than it has
 data-out : (d c : ℕ → ℕ) → ((j : ℕ) → j < 3 → c j ≤ 2) → beyond d c ≡ true → first 4 (λ p. eqb (d p) 2) < 4
 unfolding beyond
 data-out d c h e =
@@ -138,15 +142,15 @@ module _ (s : List ℕ) where
       let k : p < 4 = data-out d (λ j. view s .cstate (3 * g + j)) (λ j q. unfold view in h .checks (3 * g + j) (omega arith)) e in
       let group : (4 * g + p) / 4 ≡ g = omega arith in
       let here : beyondIn (view s) ((4 * g + p) / 4) ≡ true = ap (beyondIn (view s)) group ∙ e in
-      sym (lt-ltb 0 _ (count-pos 16 (λ u. eqb (view s .dstate u) 2 && beyondIn (view s) (u / 4)) (4 * g + p) (omega arith) (and-true (first-holds 4 (λ p. eqb (d p) 2) k) here)))
+      sym (lt-ltb 0 _ (count-pos 16 (goneIn (view s)) (4 * g + p) (omega arith) (and-true (first-holds 4 (λ p. eqb (d p) 2) k) here)))
 
   pub lost-none : ((g : ℕ) → g < 4 → beyondIn (view s) g ≡ false) → false ≡ lostIn (view s)
   unfolding lostIn
-  lost-none h = rw (count-fails 16 (λ u. eqb (view s .dstate u) 2 && beyondIn (view s) (u / 4)) (λ u l. and-false-second (eqb (view s .dstate u) 2) (h (u / 4) (omega arith))))
+  lost-none h = rw (count-fails 16 (goneIn (view s)) (λ u l. and-false-second (eqb (view s .dstate u) 2) (h (u / 4) (omega arith))))
 
-  pub none-lost : lostIn (view s) ≡ false → (u : ℕ) → u < 16 → (eqb (view s .dstate u) 2 && beyondIn (view s) (u / 4)) ≡ false
+  pub none-lost : lostIn (view s) ≡ false → (u : ℕ) → u < 16 → goneIn (view s) u ≡ false
   unfolding lostIn
   none-lost e u l =
-      let f : ℕ → Bool = λ u. eqb (view s .dstate u) 2 && beyondIn (view s) (u / 4) in
+      let f : ℕ → Bool = goneIn (view s) in
       let z : count 16 f ≤ 0 = ltb-false 0 (count 16 f) e in
       count-zero 16 f (omega arith) u l

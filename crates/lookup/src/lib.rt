@@ -1,6 +1,6 @@
 // Reading a lent store: where its parts stand, and what the calls look up in it.
 ghost use mathlib.Core.Path.{_≡_};
-ghost use mathlib.Core.Bool.{true, _&&_};
+ghost use mathlib.Core.Bool.{true};
 ghost use Prim.Native.Nat.{_+_, _*_, _≤_, _<_, ℕ, _/_};
 ghost use lib.Dec.{eqb};
 ghost use lib.ListN.{length, getD};
@@ -18,7 +18,7 @@ ghost use Rattle.model.specs.Reads.{stateIn, outsIn, beyondIn, servesIn, holds,
 ghost use Rattle.lookup.specs.Sized.{Sized};
 ghost use Rattle.buffer.specs.Strided.{strided32, Within};
 ghost use Rattle.lookup.specs.Keys.{keysAt, keysFrom, keysStep, Known};
-ghost use Rattle.lookup.specs.Groups.{Recoverable};
+ghost use Rattle.lookup.specs.Groups.{Recoverable, goneIn};
 ghost use Rattle.lookup.specs.Slots.{heldAt, Recipe};
 
 // The header of a store: what byte 0 holds, where the length, b, M, K and the states of data units and check units stand, and where the slots begin.
@@ -238,7 +238,7 @@ pub fn members(s: &[u8], g: u8) -> [u8; 4]
 // Whether data unit u is out and its group, whose units out outs counts, beyond recovery.
 pub fn gone(s: &[u8], u: u8, outs: u8) -> bool
     requires { ⌜ Sized (now s) × (u < 16) × (outs ≡ outsIn (view (now s)) (u / 4)) ⌝ }
-    ensures { λ r. ⌜ r ≡ (eqb (view (now (s .entry)) .dstate u) 2 && beyondIn (view (now (s .entry))) (u / 4)) ⌝ }
+    ensures { λ r. ⌜ r ≡ goneIn (view (now (s .entry))) u ⌝ }
 {
     if state(s, u) == 2 {
         return beyond(s, u / 4, outs);

@@ -19,10 +19,10 @@ use Rattle.model.specs.Units.{unitOf}
 use Rattle.model.specs.Layout.{view, unitsIn}
 use Rattle.model.specs.Reads.{homeIn, outsIn, beyondIn, firstCheck, listedFill, listedRank, lostIn, totalIn}
 use Rattle.model.specs.Numbers.{firstOf}
-use Rattle.soundness.specs.Survey.{Surveyed, fill-listed, first-check-found, outs-counted}
-use Rattle.lookup.specs.Sized.{Sized}
+use Rattle.soundness.specs.Survey.{Surveyed, found-sound, fill-listed, first-check-found, outs-counted}
+use Rattle.lookup.specs.Sized.{Sized, sound-sized}
 use Rattle.lookup.specs.Keys.{listed-fill-small}
-use Rattle.lookup.specs.Groups.{Recoverable, Whole, recoverable-known, whole-unit, none-lost}
+use Rattle.lookup.specs.Groups.{Recoverable, Whole, goneIn, recoverable-known, whole-unit, none-lost}
 use Rattle.reading.specs.Rows.{readNumber, listNumber}
 use Rattle.reading.specs.Found.{Verdict}
 use Rattle.reading.specs.Listing.{Counted, Learned}
@@ -44,33 +44,16 @@ module _ (s : List ℕ) (ok : Bool) (k n : ℕ) where
   unfolding readNumber firstOf pick
   no-key h = rw (eq-eqb k 0 h)
 
-  module _ (key : k ≡ 0 → ⊥) where
-    pub no-room : (n ≡ bodyBytes → ⊥) → 2 ≡ readNumber ok (view s) k n
-    unfolding readNumber firstOf pick
-    no-room h = rw (ne-eqb k 0 key, ne-eqb n bodyBytes h)
+  pub no-room : (k ≡ 0 → ⊥) → (n ≡ bodyBytes → ⊥) → 2 ≡ readNumber ok (view s) k n
+  unfolding readNumber firstOf pick
+  no-room key h = rw (ne-eqb k 0 key, ne-eqb n bodyBytes h)
 
-    module _ (room : n ≡ bodyBytes) where
-      pub unsound : ok ≡ false → 1 ≡ readNumber ok (view s) k n
-      unfolding readNumber firstOf pick
-      unsound h = rw (ne-eqb k 0 key, eq-eqb n bodyBytes room, h)
-
-      -- the tests of a sound store, at the key's unit
-      module _ (good : ok ≡ true) (u : ℕ) (home : u ≡ homeIn (view s) k) where
-        pub lost : (eqb (view s .dstate u) 2 && beyondIn (view s) (u / 4)) ≡ true → 8 ≡ readNumber ok (view s) k n
-        unfolding readNumber firstOf pick
-        lost h = rw (ne-eqb k 0 key, eq-eqb n bodyBytes room, good, ← home, h)
-
-        module _ (safe : (eqb (view s .dstate u) 2 && beyondIn (view s) (u / 4)) ≡ false) where
-          pub absent : listedFill (view s) u ≤ listedRank (view s) u k → 6 ≡ readNumber ok (view s) k n
-          unfolding readNumber firstOf pick
-          absent h = rw (ne-eqb k 0 key, eq-eqb n bodyBytes room, good, ← home, safe, le-leb (listedFill (view s) u) (listedRank (view s) u k) h)
-
-          pub present : listedRank (view s) u k < listedFill (view s) u → 0 ≡ readNumber ok (view s) k n
-          unfolding readNumber firstOf pick
-          present h = rw (ne-eqb k 0 key, eq-eqb n bodyBytes room, good, ← home, safe, lt-leb (listedFill (view s) u) (listedRank (view s) u k) h)
+  pub unsound : (k ≡ 0 → ⊥) → n ≡ bodyBytes → ok ≡ false → 1 ≡ readNumber ok (view s) k n
+  unfolding readNumber firstOf pick
+  unsound key room h = rw (ne-eqb k 0 key, eq-eqb n bodyBytes room, h)
 
 -- a unit that is not lost can be read or rebuilt
-pub safe-unit : {s : List ℕ} {u : ℕ} → Sized s → u < 16 → (eqb (view s .dstate u) 2 && beyondIn (view s) (u / 4)) ≡ false → Recoverable s u
+pub safe-unit : {s : List ℕ} {u : ℕ} → Sized s → u < 16 → goneIn (view s) u ≡ false → Recoverable s u
 unfolding view
 safe-unit {s} {u} h l e =
     record {
@@ -79,19 +62,59 @@ safe-unit {s} {u} h l e =
       whole = λ out. by-test (λ t. t ≡ false) (beyondIn (view s) (u / 4)) (λ b. not-both (and-true (eq-eqb (byte s (8 + u)) 2 out) b) e) (λ b. refl);
     }
 
--- and the survey has counted it; the code reads the count at the index i
-pub safe-fill : {s : List ℕ} {ok : Bool} {fills firstChecks outs : List ℕ} {u i : ℕ} → Surveyed s ok fills firstChecks outs → ok ≡ true → Recoverable s u → i ≡ u → (getD fills i 0 ≡ listedFill (view s) u) × (getD fills i 0 ≤ byte s 5)
-safe-fill {s} {ok} {fills} {u = u} {i} g e h k =
-    let n : getD fills i 0 ≡ listedFill (view s) u = ap (λ j. getD fills j 0) k ∙ fill-listed g e u (h .unit) (recoverable-known h .listed) in
-    (n, rw n (listed-fill-small s u))
+-- key k is sought in its unit u of a sound store, for n bytes that fit
+pub record Sought (s : List ℕ) (ok : Bool) (fills firstChecks outs : List ℕ) (k n u : ℕ) : Type 0 where
+  pub surveyed : Surveyed s ok fills firstChecks outs
+  pub good : ok ≡ true
+  pub key : k ≡ 0 → ⊥
+  pub room : n ≡ bodyBytes
+  pub home : u ≡ homeIn (view s) k
+  pub low : u < 16
 
--- the units out of a unit's group, which the code reads at the index i
-pub outs-read : {s : List ℕ} {ok : Bool} {fills firstChecks outs : List ℕ} {u i : ℕ} → Surveyed s ok fills firstChecks outs → ok ≡ true → u < 16 → i ≡ u / 4 → getD outs i 0 ≡ outsIn (view s) (u / 4)
-outs-read {outs = outs} {u = u} g e l k = ap (λ j. getD outs j 0) k ∙ outs-counted g e (u / 4) (omega arith)
+module _ {s : List ℕ} {ok : Bool} {fills firstChecks outs : List ℕ} {k n u : ℕ} (h : Sought s ok fills firstChecks outs k n u) where
+  pub sought-sized : Sized s
+  sought-sized = sound-sized (found-sound (h .surveyed) (h .good))
 
--- and found the first check unit in service of its group, which the code reads at the index i
-pub safe-first-check : {s : List ℕ} {ok : Bool} {fills firstChecks outs : List ℕ} {u i : ℕ} → Surveyed s ok fills firstChecks outs → ok ≡ true → Recoverable s u → i ≡ u / 4 → getD firstChecks i 0 ≡ firstCheck (view s) (u / 4)
-safe-first-check {firstChecks = firstChecks} {u = u} g e h k = let l = h .unit in ap (λ j. getD firstChecks j 0) k ∙ first-check-found g e (u / 4) (omega arith)
+  -- the units out of its group, which the code reads at the index i
+  pub outs-read : {i : ℕ} → i ≡ u / 4 → getD outs i 0 ≡ outsIn (view s) (u / 4)
+  outs-read e = let l = h .low in ap (λ j. getD outs j 0) e ∙ outs-counted (h .surveyed) (h .good) (u / 4) (omega arith)
+
+  pub lost : goneIn (view s) u ≡ true → 8 ≡ readNumber ok (view s) k n
+  unfolding readNumber firstOf pick
+  lost e = rw (ne-eqb k 0 (h .key), eq-eqb n bodyBytes (h .room), h .good, ← h .home, e)
+
+  module _ (safe : goneIn (view s) u ≡ false) where
+    pub there : Recoverable s u
+    there = safe-unit sought-sized (h .low) safe
+
+    -- its records, and the first check unit in service of its group, which the code reads at the index i
+    pub fill-read : {i : ℕ} → i ≡ u → (getD fills i 0 ≡ listedFill (view s) u) × (getD fills i 0 ≤ byte s 5)
+    fill-read {i} e =
+        let n : getD fills i 0 ≡ listedFill (view s) u = ap (λ j. getD fills j 0) e ∙ fill-listed (h .surveyed) (h .good) u (h .low) (recoverable-known there .listed) in
+        (n, rw n (listed-fill-small s u))
+
+    pub first-check-read : {i : ℕ} → i ≡ u / 4 → getD firstChecks i 0 ≡ firstCheck (view s) (u / 4)
+    first-check-read e = let l = h .low in ap (λ j. getD firstChecks j 0) e ∙ first-check-found (h .surveyed) (h .good) (u / 4) (omega arith)
+
+    -- of m records, the key is at rank r
+    module _ {m r : ℕ} (fill : (m ≡ listedFill (view s) u) × (m ≤ byte s 5)) (rank : r ≡ listedRank (view s) u k) where
+      pub absent : m ≤ r → 6 ≡ readNumber ok (view s) k n
+      unfolding readNumber firstOf pick
+      absent e =
+          let l : listedFill (view s) u ≤ listedRank (view s) u k = rw (← fill .0, ← rank) e in
+          rw (ne-eqb k 0 (h .key), eq-eqb n bodyBytes (h .room), h .good, ← h .home, safe, le-leb (listedFill (view s) u) (listedRank (view s) u k) l)
+
+      pub present : r < m → Verdict s ok k n 0 u r
+      unfolding readNumber firstOf pick
+      present e =
+          let l : r < listedFill (view s) u = rw (fill .0) at e in
+          let hit = lt-leb (listedFill (view s) u) (listedRank (view s) u k) (rw rank at l) in
+          record {
+            given = rw (ne-eqb k 0 (h .key), eq-eqb n bodyBytes (h .room), h .good, ← h .home, safe, hit);
+            placed = λ z. record { there = there; home = h .home; found = rank; listed = l; small = omega (arith, fill .1) };
+            room = λ z. h .room;
+            nowhere = λ z. absurd (z refl);
+          }
 
 -- ---- list
 pub not-counted : {s : List ℕ} {ok : Bool} {n : ℕ} (m : ℕ) → suc m ≡ listNumber ok (view s) n → Counted s ok n (suc m) 0

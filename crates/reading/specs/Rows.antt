@@ -1,13 +1,14 @@
 -- The table's rows for read and list, of what their verdicts look at: the number of a call is the first that holds. Assumes nothing.
-use Prim.Native.Nat.{ℕ, _*_, _/_}
+use Prim.Native.Nat.{ℕ, _*_}
 use mathlib.Core.Path.{_≡_}
-use mathlib.Core.Bool.{Bool, not, _&&_}
+use mathlib.Core.Bool.{Bool, not}
 use mathlib.Core.List.{List, [], _∷_}
 use lib.Dec.{eqb, ltb, leb}
 use lib.ListN.{length}
 use Rattle.group.specs.Widths.{bodyBytes, slotBytes}
 use Rattle.model.specs.Layout.{Store, view}
-use Rattle.model.specs.Reads.{homeIn, beyondIn, listedFill, listedRank, lostIn, totalIn}
+use Rattle.model.specs.Reads.{homeIn, listedFill, listedRank, lostIn, totalIn}
+use Rattle.lookup.specs.Groups.{goneIn}
 use Rattle.model.specs.Sound.{sound}
 use Rattle.model.specs.Numbers.{Call, firstOf, refusalsIn, numberIn}
 
@@ -18,7 +19,7 @@ readNumber ok v k n =
     (eqb k 0, 2)
     ∷ (not (eqb n bodyBytes), 2)
     ∷ (not ok, 1)
-    ∷ (eqb (v .dstate (homeIn v k)) 2 && beyondIn v (homeIn v k / 4), 8)
+    ∷ (goneIn v (homeIn v k), 8)
     ∷ (leb (listedFill v (homeIn v k)) (listedRank v (homeIn v k) k), 6)
     ∷ [])
 

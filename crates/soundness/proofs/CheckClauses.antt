@@ -8,8 +8,8 @@ use lib.Dec.{eqb}
 use lib.ListN.{length}
 use borrow.Author.Tests.{eqb-true, eqb-false, eq-eqb}
 use Rattle.buffer.specs.Choice.{pick}
-use Rattle.buffer.specs.ChoiceLaws.{by-test}
-use Rattle.buffer.specs.TestLaws.{and-true, and-first, and-second, or-else}
+use Rattle.buffer.specs.ChoiceLaws.{by-test, pick-true, pick-false}
+use Rattle.buffer.specs.TestLaws.{and-true, and-first, and-second, or-else, or-other}
 use Rattle.buffer.specs.RangeLaws.{below-four, all-true, all-holds}
 use Rattle.buffer.specs.Bytes.{byte, be32, zeros}
 use Rattle.model.specs.Layout.{view, checkAt}
@@ -17,7 +17,7 @@ use Rattle.model.specs.Reads.{firstCheck}
 use Rattle.model.specs.Sound.{same}
 use Rattle.buffer.specs.Strided.{strided32}
 use Rattle.soundness.specs.Keys.{samePair, sameLists}
-use Rattle.soundness.specs.Pieces.{Ranged, zeroBetween, checkGood}
+use Rattle.soundness.specs.Pieces.{Ranged, sameAsFirst, checkZero, checkGood}
 use Rattle.soundness.proofs.Places.{row-within}
 use Rattle.soundness.proofs.Zeros.{zero-range, range-zero, check-zero, zero-checks}
 
@@ -72,40 +72,23 @@ module _ (s : List ℕ) (ok : Ranged s) (c : ℕ) (low : c < 12) where
   fits : checkAt (byte s 5) c 0 + 32 * byte s 5 ≤ length s
   fits = omega (arith, row-within 12 c (byte s 5) low, ok .long)
 
+  alike : sameAsFirst s c ≡ true → (r : ℕ) → r < byte s 5 → (p : ℕ) → p < 4 → checkKey s c p r ≡ checkKey s (firstCheck (view s) (c / 3)) p r
+  unfolding sameAsFirst Four
+  alike h r l p k =
+      by-test (λ _. checkKey s c p r ≡ checkKey s (firstCheck (view s) (c / 3)) p r) (eqb (firstCheck (view s) (c / 3)) c)
+      (λ e. ap (λ d. checkKey s d p r) (sym (eqb-true _ _ e)))
+      (λ e. sym (lists-true s _ _ (byte s 5) (or-other (eqb (firstCheck (view s) (c / 3)) c) _ e h) r l p k))
+
   pub good-check : checkGood s c ≡ true → Check s c
-  unfolding checkGood pick
+  unfolding checkGood checkZero pick
   good-check =
-      by-test
-      (λ t.
-      pick t (eqb (firstCheck (view s) (c / 3)) c || sameLists s (checkAt (byte s 5) (firstCheck (view s) (c / 3)) 0) (checkAt (byte s 5) c 0) (byte s 5)) (zeroBetween s (checkAt (byte s 5) c 0) (checkAt (byte s 5) c 0 + 32 * byte s 5)) ≡ true
-      → Check s c)
-      (eqb (byte s (24 + c)) 1)
+      by-test (λ t. pick t (sameAsFirst s c) (checkZero s c) ≡ true → Check s c) (eqb (byte s (24 + c)) 1)
       (λ e h. record { zero = λ r l. rw e; lists = λ _. alike h })
-      (λ e h.
-      record {
-        zero = λ r l. rw e (check-zero s c fits (zero-range s _ _ (omega arith) fits h) r l);
-        lists = λ q. absurd (eqb-false _ _ e q);
-      })
-    where
-      alike : (eqb (firstCheck (view s) (c / 3)) c || sameLists s (checkAt (byte s 5) (firstCheck (view s) (c / 3)) 0) (checkAt (byte s 5) c 0) (byte s 5)) ≡ true
-          → (r : ℕ) → r < byte s 5 → (p : ℕ) → p < 4 → checkKey s c p r ≡ checkKey s (firstCheck (view s) (c / 3)) p r
-      alike =
-          by-test
-          (λ t.
-          (t || sameLists s (checkAt (byte s 5) (firstCheck (view s) (c / 3)) 0) (checkAt (byte s 5) c 0) (byte s 5)) ≡ true
-          → (r : ℕ) → r < byte s 5 → (p : ℕ) → p < 4 → checkKey s c p r ≡ checkKey s (firstCheck (view s) (c / 3)) p r)
-          (eqb (firstCheck (view s) (c / 3)) c)
-          (λ e _ r l p k. ap (λ d. checkKey s d p r) (sym (eqb-true _ _ e)))
-          (λ _ h r l p k. sym (unfold Four in lists-true s _ _ (byte s 5) h r l p k))
+      (λ e h. record { zero = λ r l. rw e (check-zero s c fits (zero-range s _ _ (omega arith) fits h) r l); lists = λ q. absurd (eqb-false _ _ e q) })
 
   pub check-good : Check s c → checkGood s c ≡ true
-  unfolding checkGood pick
+  unfolding checkGood sameAsFirst checkZero Four
   check-good g =
-      by-test
-      (λ t.
-      eqb (byte s (24 + c)) 1 ≡ t
-      → pick t (eqb (firstCheck (view s) (c / 3)) c || sameLists s (checkAt (byte s 5) (firstCheck (view s) (c / 3)) 0) (checkAt (byte s 5) c 0) (byte s 5)) (zeroBetween s (checkAt (byte s 5) c 0) (checkAt (byte s 5) c 0 + 32 * byte s 5)) ≡ true)
-      (eqb (byte s (24 + c)) 1)
-      (λ _ e. or-else (eqb (firstCheck (view s) (c / 3)) c) _ (λ _. unfold Four in lists-holds s _ _ (byte s 5) (λ r l p k. sym (g .lists (eqb-true _ _ e) r l p k))))
-      (λ _ e. range-zero s _ _ (omega arith) fits (zero-checks s c fits (λ r l. rw e at (g .zero r l))))
-      refl
+      by-test (λ _. pick (eqb (byte s (24 + c)) 1) (sameAsFirst s c) (checkZero s c) ≡ true) (eqb (byte s (24 + c)) 1)
+      (λ e. pick-true e _ _ ∙ or-else (eqb (firstCheck (view s) (c / 3)) c) _ (λ _. lists-holds s _ _ (byte s 5) (λ r l p k. sym (g .lists (eqb-true _ _ e) r l p k))))
+      (λ e. pick-false e _ _ ∙ range-zero s _ _ (omega arith) fits (zero-checks s c fits (λ r l. rw e at (g .zero r l))))

@@ -18,7 +18,7 @@ use Rattle.model.specs.Reads.{firstCheck, outsIn}
 use Rattle.lookup.specs.Keys.{keysAt}
 use Rattle.buffer.specs.Strided.{strided32}
 use Rattle.soundness.specs.Keys.{fillOf, reached, sameKeys, noKeys, sameLists}
-use Rattle.soundness.specs.Pieces.{Kept, zeroBetween, dataKeys, columnKeys, unkept, dataFill, columnFill}
+use Rattle.soundness.specs.Pieces.{Kept, zeroBetween, dataKeys, columnKeys, unkept, dataFill, columnFill, unitZero, restZero, checkZero}
 use Rattle.soundness.proofs.Places.{data-list, column-list}
 
 -- where the keys are good they reach no further than the list
@@ -76,12 +76,12 @@ module _ (s : List ℕ) (u : ℕ) {w : ℕ} (width : w ≡ byte s 5) where
   end : {at : ℕ} → at ≡ slotAt (byte s 5) u 0 → at + 20 * w ≡ slotAt (byte s 5) u 0 + 20 * byte s 5
   end e = ap₂ (λ a b. a + 20 * b) e width
 
-  pub unit-zero : {at : ℕ} {r : Bool} → at ≡ slotAt (byte s 5) u 0 → r ≡ zeroBetween s at (at + 20 * w)
-      → r ≡ zeroBetween s (slotAt (byte s 5) u 0) (slotAt (byte s 5) u 0 + 20 * byte s 5)
+  pub unit-zero : {at : ℕ} {r : Bool} → at ≡ slotAt (byte s 5) u 0 → r ≡ zeroBetween s at (at + 20 * w) → r ≡ unitZero s u
+  unfolding unitZero
   unit-zero e h = h ∙ ap₂ (zeroBetween s) e (end e)
 
-  pub rest-zero : {at n : ℕ} {r : Bool} → at ≡ slotAt (byte s 5) u 0 → n ≡ dataFill s u → r ≡ zeroBetween s (at + 20 * n) (at + 20 * w)
-      → r ≡ zeroBetween s (slotAt (byte s 5) u 0 + 20 * dataFill s u) (slotAt (byte s 5) u 0 + 20 * byte s 5)
+  pub rest-zero : {at n : ℕ} {r : Bool} → at ≡ slotAt (byte s 5) u 0 → n ≡ dataFill s u → r ≡ zeroBetween s (at + 20 * n) (at + 20 * w) → r ≡ restZero s u
+  unfolding restZero
   rest-zero e f h = h ∙ ap₂ (zeroBetween s) (ap₂ (λ a k. a + 20 * k) e f) (end e)
 
   pub column-same : {at to : ℕ} {r : Bool} → at ≡ slotAt (byte s 5) u 0 → to ≡ keysAt s u → r ≡ sameKeys w (strided32 s at 20) (strided32 s to 32)
@@ -93,7 +93,8 @@ module _ (s : List ℕ) (u : ℕ) {w : ℕ} (width : w ≡ byte s 5) where
 
 -- ---- and of a check unit
 module _ (s : List ℕ) (c : ℕ) {w at : ℕ} (width : w ≡ byte s 5) (place : at ≡ checkAt (byte s 5) c 0) where
-  pub check-unit-zero : {r : Bool} → r ≡ zeroBetween s at (at + 32 * w) → r ≡ zeroBetween s (checkAt (byte s 5) c 0) (checkAt (byte s 5) c 0 + 32 * byte s 5)
+  pub check-unit-zero : {r : Bool} → r ≡ zeroBetween s at (at + 32 * w) → r ≡ checkZero s c
+  unfolding checkZero
   check-unit-zero h = h ∙ ap₂ (zeroBetween s) place (ap₂ (λ a b. a + 32 * b) place width)
 
   pub check-unit-same : {r : Bool} {k to : ℕ} → k ≡ firstCheck (view s) (c / 3) → to ≡ checkAt (byte s 5) k 0 → r ≡ sameLists s to at w

@@ -18,7 +18,8 @@ use Rattle.model.specs.Reads.{fillIn, firstCheck, listedKey, listedFill}
 use Rattle.model.specs.Sound.{same, keysKnown}
 use Rattle.buffer.specs.Strided.{strided32}
 use Rattle.soundness.specs.Keys.{fillOf, ownAndNew, reached, sameKeys, noKeys}
-use Rattle.soundness.specs.Pieces.{Ranged, placed, zeroBetween, dataKeys, columnKeys, unkept, dataFill, columnFill, lostFill, served, lost, absent, unitGood, unitFill}
+use Rattle.soundness.specs.Pieces.{Ranged, placed, dataKeys, columnKeys, unkept, dataFill, columnFill, lostFill, unitZero, restZero}
+use Rattle.soundness.specs.Pieces.{served, lost, absent, unitGood, unitFill}
 use Rattle.soundness.specs.Survey.{keysLost, knownFill}
 use Rattle.soundness.proofs.Joined.{or-right, or-left, either, behind, once}
 use Rattle.soundness.proofs.Places.{row-within}
@@ -99,7 +100,7 @@ module _ (s : List ℕ) (u : ℕ) where
   served-small : served s u ≡ true → dataFill s u ≤ 64
   unfolding served
   served-small h =
-      leb-true _ 64 (and-first (leb (dataFill s u) 64) _ (and-first (leb (dataFill s u) 64 && zeroBetween s (slotAt (byte s 5) u 0 + 20 * dataFill s u) (slotAt (byte s 5) u 0 + 20 * byte s 5)) _ h))
+      leb-true _ 64 (and-first (leb (dataFill s u) 64) _ (and-first (leb (dataFill s u) 64 && restZero s u) _ h))
 
   lost-small : lost s u ≡ true → lostFill s u ≤ 64
   unfolding lost lostFill pick
@@ -109,7 +110,7 @@ module _ (s : List ℕ) (u : ℕ) where
       (unkept s (u / 4))
       (λ _ _. omega arith)
       (λ _ k. leb-true _ 64 (and-first (leb (columnFill s u) 64) _ k))
-      (and-second (zeroBetween s (slotAt (byte s 5) u 0) (slotAt (byte s 5) u 0 + 20 * byte s 5)) _ h)
+      (and-second (unitZero s u) _ h)
 
   pub fill-small : unitGood s u ≡ true → unitFill s u ≤ 64
   unfolding unitGood unitFill pick
@@ -130,14 +131,15 @@ module _ (s : List ℕ) (ok : Ranged s) (u : ℕ) (low : u < 16) where
   fits = omega (arith, row-within 16 u (byte s 5) low, ok .long)
 
   -- the whole unit is zero
-  whole : zeroBetween s (slotAt (byte s 5) u 0) (slotAt (byte s 5) u 0 + 20 * byte s 5) ≡ true → Zero s (slotAt (byte s 5) u 0 + 20 * 0) (slotAt (byte s 5) u 0 + 20 * byte s 5)
+  whole : unitZero s u ≡ true → Zero s (slotAt (byte s 5) u 0 + 20 * 0) (slotAt (byte s 5) u 0 + 20 * byte s 5)
+  unfolding unitZero
   whole h i p q = zero-range s _ _ (omega arith) fits h i (omega arith) q
 
-  blank : zeroBetween s (slotAt (byte s 5) u 0) (slotAt (byte s 5) u 0 + 20 * byte s 5) ≡ true
-      → (r : ℕ) → r < byte s 5 → ((eqb (byte s (8 + u)) 1 && ltb r (fillIn (view s) u)) || same (view s .slot u r) (zeros 20)) ≡ true
+  blank : unitZero s u ≡ true → (r : ℕ) → r < byte s 5 → ((eqb (byte s (8 + u)) 1 && ltb r (fillIn (view s) u)) || same (view s .slot u r) (zeros 20)) ≡ true
   blank h r l = behind (eqb (byte s (8 + u)) 1) (ltb r (fillIn (view s) u)) _ (slot-zero s u fits 0 (whole h) r (omega arith) l)
 
-  unblank : (byte s (8 + u) ≡ 1 → ⊥) → Unit s u → zeroBetween s (slotAt (byte s 5) u 0) (slotAt (byte s 5) u 0 + 20 * byte s 5) ≡ true
+  unblank : (byte s (8 + u) ≡ 1 → ⊥) → Unit s u → unitZero s u ≡ true
+  unfolding unitZero
   unblank n g =
       range-zero s _ _ (omega arith) fits (λ i p q.
       zero-slots s u fits 0 (λ r _ l. or-right (eqb (byte s (8 + u)) 1) (ltb r (fillIn (view s) u)) _ (ne-eqb _ _ n) (g .zero r l)) i (omega arith) q)
@@ -158,8 +160,8 @@ module _ (s : List ℕ) (ok : Ranged s) (u : ℕ) (low : u < 16) where
     unfolding dataFill Front
     front-of h = reached-front (byte s 5) (byte s 6) u (dataKeys s u) h
 
-    rest-of : Front → zeroBetween s (slotAt (byte s 5) u 0 + 20 * dataFill s u) (slotAt (byte s 5) u 0 + 20 * byte s 5) ≡ true → Rest
-    unfolding dataFill Front Rest
+    rest-of : Front → restZero s u ≡ true → Rest
+    unfolding dataFill restZero Front Rest
     rest-of f h =
         zero-range s _ _ (omega (arith, fill-le (byte s 5) (byte s 6) u (dataKeys s u))) fits
         (rw (reached-fill (byte s 5) (byte s 6) u (dataKeys s u) f) at h)
@@ -181,15 +183,12 @@ module _ (s : List ℕ) (ok : Ranged s) (u : ℕ) (low : u < 16) where
     served-unit : served s u ≡ true → Unit s u
     unfolding served
     served-unit h =
-        let found = and-first (leb (dataFill s u) 64 && zeroBetween s (slotAt (byte s 5) u 0 + 20 * dataFill s u) (slotAt (byte s 5) u 0 + 20 * byte s 5)) _ h in
+        let found = and-first (leb (dataFill s u) 64 && restZero s u) _ h in
         let f = front-of (and-first (leb (dataFill s u) 64) _ found) in
-        from-parts
-        f
-        (rest-of f (and-second (leb (dataFill s u) 64) _ found))
-        (and-second (leb (dataFill s u) 64 && zeroBetween s (slotAt (byte s 5) u 0 + 20 * dataFill s u) (slotAt (byte s 5) u 0 + 20 * byte s 5)) _ h)
+        from-parts f (rest-of f (and-second (leb (dataFill s u) 64) _ found)) (and-second (leb (dataFill s u) 64 && restZero s u) _ h)
 
     unit-served : Unit s u → served s u ≡ true
-    unfolding served dataFill sameKeys
+    unfolding served dataFill restZero sameKeys
     unit-served g =
         let k = good-parts (byte s 5) (byte s 6) u (dataKeys s u) (rw (known-served s u state, own) at (g .keys)) in
         let n : ℕ = fillOf (byte s 5) (dataKeys s u) in
@@ -206,7 +205,7 @@ module _ (s : List ℕ) (ok : Ranged s) (u : ℕ) (low : u < 16) where
     served-fill : served s u ≡ true → dataFill s u ≡ knownFill (view s) u
     unfolding served dataFill Front
     served-fill h =
-        let found = and-first (leb (dataFill s u) 64 && zeroBetween s (slotAt (byte s 5) u 0 + 20 * dataFill s u) (slotAt (byte s 5) u 0 + 20 * byte s 5)) _ h in
+        let found = and-first (leb (dataFill s u) 64 && restZero s u) _ h in
         reached-fill (byte s 5) (byte s 6) u (dataKeys s u) (front-of (and-first (leb (dataFill s u) 64) _ found))
         ∙ fill-known s u (not-lost s u (λ e. absurd (omega arith))) own
 
@@ -218,8 +217,8 @@ module _ (s : List ℕ) (ok : Ranged s) (u : ℕ) (low : u < 16) where
     lost-unit : lost s u ≡ true → Unit s u
     unfolding lost columnFill
     lost-unit h =
-        let z = and-first (zeroBetween s (slotAt (byte s 5) u 0) (slotAt (byte s 5) u 0 + 20 * byte s 5)) _ h in
-        let k = and-second (zeroBetween s (slotAt (byte s 5) u 0) (slotAt (byte s 5) u 0 + 20 * byte s 5)) _ h in
+        let z = and-first (unitZero s u) _ h in
+        let k = and-second (unitZero s u) _ h in
         let n : ℕ = reached (byte s 5) (byte s 6) u (columnKeys s u) in
         record {
           zero = blank z;
@@ -250,7 +249,7 @@ module _ (s : List ℕ) (ok : Ranged s) (u : ℕ) (low : u < 16) where
         (unkept s (u / 4))
         (λ e. pick-true e 0 (columnFill s u) ∙ unfold knownFill in sym (pick-true (lost-out s u state ∙ e) 0 (listedFill (view s) u)))
         (λ e.
-        let both = or-other (unkept s (u / 4)) _ e (and-second (zeroBetween s (slotAt (byte s 5) u 0) (slotAt (byte s 5) u 0 + 20 * byte s 5)) _ h) in
+        let both = or-other (unkept s (u / 4)) _ e (and-second (unitZero s u) _ h) in
         pick-false e 0 (columnFill s u)
         ∙ reached-fill (byte s 5) (byte s 6) u (columnKeys s u) (reached-front (byte s 5) (byte s 6) u (columnKeys s u) (and-first (leb (columnFill s u) 64) _ both))
         ∙ fill-known s u (lost-out s u state ∙ e) listed)
@@ -263,8 +262,8 @@ module _ (s : List ℕ) (ok : Ranged s) (u : ℕ) (low : u < 16) where
     absent-unit : absent s u ≡ true → Unit s u
     unfolding absent
     absent-unit h =
-        let z = and-first (zeroBetween s (slotAt (byte s 5) u 0) (slotAt (byte s 5) u 0 + 20 * byte s 5)) _ h in
-        let k = and-second (zeroBetween s (slotAt (byte s 5) u 0) (slotAt (byte s 5) u 0 + 20 * byte s 5)) _ h in
+        let z = and-first (unitZero s u) _ h in
+        let k = and-second (unitZero s u) _ h in
         record {
           zero = blank z;
           keys = rw (known-absent s u state);
@@ -283,7 +282,7 @@ module _ (s : List ℕ) (ok : Ranged s) (u : ℕ) (low : u < 16) where
     absent-fill : absent s u ≡ true → 0 ≡ knownFill (view s) u
     unfolding absent
     absent-fill h =
-        let z = and-first (zeroBetween s (slotAt (byte s 5) u 0) (slotAt (byte s 5) u 0 + 20 * byte s 5)) _ h in
+        let z = and-first (unitZero s u) _ h in
         sym (no-fill (byte s 5) (dataKeys s u) (λ r l. data-zero s u 0 (whole z) r (omega arith) l)) ∙ fill-known s u (not-lost s u (λ e. absurd (omega arith))) none
 
   -- ---- by the unit's state

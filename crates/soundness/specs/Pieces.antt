@@ -65,24 +65,24 @@ columnFill s u = reached (byte s 5) (byte s 6) u (columnKeys s u)
 unfoldable pub lostFill : List ℕ → ℕ → ℕ
 lostFill s u = pick (unkept s (u / 4)) 0 (columnFill s u)
 
+-- its slots are zero: all of them, and those behind its keys
+unfoldable pub unitZero : List ℕ → ℕ → Bool
+unitZero s u = zeroBetween s (slotAt (byte s 5) u 0) (slotAt (byte s 5) u 0 + 20 * byte s 5)
+
+unfoldable pub restZero : List ℕ → ℕ → Bool
+restZero s u = zeroBetween s (slotAt (byte s 5) u 0 + 20 * dataFill s u) (slotAt (byte s 5) u 0 + 20 * byte s 5)
+
 -- in service: its keys, zeros behind them, and the keys listed for it
 unfoldable pub served : List ℕ → ℕ → Bool
-served s u =
-    leb (dataFill s u) 64
-    && zeroBetween s (slotAt (byte s 5) u 0 + 20 * dataFill s u) (slotAt (byte s 5) u 0 + 20 * byte s 5)
-    && (unkept s (u / 4) || sameKeys (byte s 5) (dataKeys s u) (columnKeys s u))
+served s u = leb (dataFill s u) 64 && restZero s u && (unkept s (u / 4) || sameKeys (byte s 5) (dataKeys s u) (columnKeys s u))
 
 -- out: zeros, and the keys listed for it
 unfoldable pub lost : List ℕ → ℕ → Bool
-lost s u =
-    zeroBetween s (slotAt (byte s 5) u 0) (slotAt (byte s 5) u 0 + 20 * byte s 5)
-    && (unkept s (u / 4) || leb (columnFill s u) 64 && noKeys (columnFill s u) (byte s 5) (columnKeys s u))
+lost s u = unitZero s u && (unkept s (u / 4) || leb (columnFill s u) 64 && noKeys (columnFill s u) (byte s 5) (columnKeys s u))
 
 -- not in place: zeros, and no keys listed for it
 unfoldable pub absent : List ℕ → ℕ → Bool
-absent s u =
-    zeroBetween s (slotAt (byte s 5) u 0) (slotAt (byte s 5) u 0 + 20 * byte s 5)
-    && (unkept s (u / 4) || noKeys 0 (byte s 5) (columnKeys s u))
+absent s u = unitZero s u && (unkept s (u / 4) || noKeys 0 (byte s 5) (columnKeys s u))
 
 unfoldable pub unitGood : List ℕ → ℕ → Bool
 unitGood s u = pick (ltb u (byte s 6)) (pick (eqb (byte s (8 + u)) 1) (served s u) (lost s u)) (absent s u)
@@ -94,13 +94,16 @@ unitFill s u = pick (ltb u (byte s 6)) (pick (eqb (byte s (8 + u)) 1) (dataFill 
 unfoldable pub unitCount : List ℕ → ℕ → ℕ
 unitCount s u = pick (unitGood s u) (unitFill s u) 65
 
--- ---- a check unit: in service it lists the same keys as the first in service of its group, else it is zero
+-- ---- a check unit: in service it lists the same keys as the first in service of its group, else its records are zero
+unfoldable pub sameAsFirst : List ℕ → ℕ → Bool
+sameAsFirst s c =
+    eqb (firstCheck (view s) (c / 3)) c || sameLists s (checkAt (byte s 5) (firstCheck (view s) (c / 3)) 0) (checkAt (byte s 5) c 0) (byte s 5)
+
+unfoldable pub checkZero : List ℕ → ℕ → Bool
+checkZero s c = zeroBetween s (checkAt (byte s 5) c 0) (checkAt (byte s 5) c 0 + 32 * byte s 5)
+
 unfoldable pub checkGood : List ℕ → ℕ → Bool
-checkGood s c =
-    pick
-    (eqb (byte s (24 + c)) 1)
-    (eqb (firstCheck (view s) (c / 3)) c || sameLists s (checkAt (byte s 5) (firstCheck (view s) (c / 3)) 0) (checkAt (byte s 5) c 0) (byte s 5))
-    (zeroBetween s (checkAt (byte s 5) c 0) (checkAt (byte s 5) c 0 + 32 * byte s 5))
+checkGood s c = pick (eqb (byte s (24 + c)) 1) (sameAsFirst s c) (checkZero s c)
 
 unfoldable pub pieces : List ℕ → Bool
 pieces s =

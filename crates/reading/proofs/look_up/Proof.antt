@@ -1,137 +1,109 @@
--- `reading::look_up` meets its contract. Assumes nothing.
-use Prim.Native.Nat.{_<_}
-use mathlib.Core.Path.{refl, sym, _∙_}
+-- `reading::look_up` meets its contract. What is known at a place is said once, and the needs behind it use it. Assumes nothing.
+use mathlib.Core.Bool.{false}
+use mathlib.Core.Path.{_≡_, sym, _∙_}
 use native.Mathlib.Omega.{arith}
 use borrow.Author.Needs.{needs}
 use borrow.Author.Tests.{not-true, not-false}
-use Rattle.lookup.specs.Groups.{recoverable-known}
+use Rattle.model.specs.Layout.{view}
+use Rattle.lookup.specs.Groups.{goneIn, recoverable-known}
+use Rattle.lookup.specs.Sized.{Sized, sound-sized}
 use Rattle.soundness.specs.Survey.{found-sound}
-use Rattle.lookup.specs.Sized.{sound-sized}
-use Rattle.reading.proofs.Verdicts.{refusal, home-is, no-key, no-room, unsound, lost, absent, present, safe-unit, safe-fill, outs-read, safe-first-check}
+use Rattle.reading.proofs.Verdicts.{refusal, home-is, no-key, no-room, unsound, Sought, sought-sized, outs-read, lost}
+use Rattle.reading.proofs.Verdicts.{there, fill-read, first-check-read, absent, present}
 use Rattle.reading.proofs.look_up.Statement.{statement}
 use Rattle.reading.proofs.look_up.Tie as tie
 
+-- ---- a sound store
+abbrev start : tie.Else3 → tie.Start
+start c = c .before .before .before .before .before
+
+tested : (c : tie.Else3) → Sized (start c .args .s .now)
+tested c = sound-sized (found-sound (start c .pre) (not-false _ (c .if3 .left)))
+
+-- ---- the key's unit
+abbrev store : tie.After-unit-of → tie.Else3
+store c = c .before .before
+
+sought : (c : tie.After-unit-of)
+    → Sought (start (store c) .args .s .now) (start (store c) .args .survey .sound) (start (store c) .args .survey .fills)
+    (start (store c) .args .survey .«first_checks») (start (store c) .args .survey .outs)
+    (start (store c) .args .key) (start (store c) .args .len) (c .unit-of .result)
+sought c =
+    let room = store c .before .before in
+    record {
+      surveyed = start (store c) .pre;
+      good = not-false _ (store c .if3 .left);
+      key = room .before .if1 .left;
+      room = room .if2 .left;
+      home = home-is _ _ _ (c .unit-of .ensures .0);
+      low = omega (arith, c .unit-of .ensures .1, tested (store c) .units);
+    }
+
+-- ---- it is not lost
+abbrev unit : tie.Else4 → tie.After-unit-of
+unit c = c .before .before .before .before
+
+safe : (c : tie.Else4) → goneIn (view (start (store (unit c)) .args .s .now)) (unit c .unit-of .result) ≡ false
+safe c = sym (c .before .gone .ensures) ∙ c .if4 .left
+
+-- ---- the needs
 returns : tie.Need-returns
 returns c = refusal 1 (c .refused .ensures) (no-key _ _ _ _ (c .before .if1 .taken))
 
 returns-2 : tie.Need-returns-2
-returns-2 c =
-    let room = c .before in
-    refusal 1 (c .refused2 .ensures) (no-room _ _ _ _ (room .before .if1 .left) (room .if2 .taken))
+returns-2 c = refusal 1 (c .refused2 .ensures) (no-room _ _ _ _ (c .before .before .if1 .left) (c .before .if2 .taken))
 
 returns-3 : tie.Need-returns-3
 returns-3 c =
-    let good = c .before in
-    let room = good .before .before in
-    refusal 0 (c .refused3 .ensures) (unsound _ _ _ _ (room .before .if1 .left) (room .if2 .left) (not-true _ (good .if3 .taken)))
+    let room = c .before .before .before in
+    refusal 0 (c .refused3 .ensures) (unsound _ _ _ _ (room .before .if1 .left) (room .if2 .left) (not-true _ (c .before .if3 .taken)))
 
 shared-slice-read-unit-of : tie.Need-shared-slice-read-unit-of
-shared-slice-read-unit-of c =
-    let good = c .before in
-    omega (arith, sound-sized (found-sound (good .before .before .before .before .before .pre) (not-false _ (good .if3 .left))) .long)
+shared-slice-read-unit-of c = omega (arith, tested (c .before) .long)
 
 unit-of-requires : tie.Need-unit-of-requires
-unit-of-requires c κs =
-    let good = c .before in
-    sound-sized (found-sound (good .before .before .before .before .before .pre) (not-false _ (good .if3 .left))) .unit
+unit-of-requires c κs = tested (c .before) .unit
 
 array-read-gone : tie.Need-array-read-gone
-array-read-gone c =
-    let unit = c .before .before in
-    let good = unit .before .before in
-    omega (arith, c .wide .ensures .0, unit .unit-of .ensures .1, sound-sized (found-sound (good .before .before .before .before .before .pre) (not-false _ (good .if3 .left))) .units)
+array-read-gone c = omega (arith, c .wide .ensures .0, sought (c .before .before) .low)
 
 gone-requires : tie.Need-gone-requires
-gone-requires c κs =
-    let unit = c .before .before in
-    let good = unit .before .before in
-    let start = good .before .before .before .before .before in
-    let ok = not-false _ (good .if3 .left) in
-    let store = sound-sized (found-sound (start .pre) ok) in
-    let low : unit .unit-of .result < 16 = omega (arith, unit .unit-of .ensures .1, store .units) in
-    (store, low, outs-read (start .pre) ok low (c .wide .ensures .0))
+gone-requires c κs = let key = sought (c .before .before) in (sought-sized key, key .low, outs-read key (c .wide .ensures .0))
 
 returns-4 : tie.Need-returns-4
 returns-4 c =
     let gone = c .before .before in
-    let unit = gone .before .before .before in
-    let good = unit .before .before in
-    let room = good .before .before in
-    let start = room .before .before .before in
-    refusal 7 (c .refused4 .ensures)
-    (lost (start .args .s .now) _ _ _ (room .before .if1 .left) (room .if2 .left) (not-false _ (good .if3 .left)) _ (home-is _ _ _ (unit .unit-of .ensures .0)) (sym (gone .gone .ensures) ∙ c .before .if4 .taken))
+    refusal 7 (c .refused4 .ensures) (lost (sought (gone .before .before .before)) (sym (gone .gone .ensures) ∙ c .before .if4 .taken))
 
 array-read-n : tie.Need-array-read-n
-array-read-n c =
-    let unit = c .before .before .before .before .before .before in
-    let good = unit .before .before in
-    omega (arith, unit .unit-of .ensures .1, sound-sized (found-sound (good .before .before .before .before .before .pre) (not-false _ (good .if3 .left))) .units)
+array-read-n c = omega (arith, sought (unit (c .before .before)) .low)
 
 array-read-first-check : tie.Need-array-read-first-check
-array-read-first-check c =
-    let unit = c .before .before .before .before .before .before .before .before in
-    let good = unit .before .before in
-    omega (arith, unit .unit-of .ensures .1, sound-sized (found-sound (good .before .before .before .before .before .pre) (not-false _ (good .if3 .left))) .units)
+array-read-first-check c = omega (arith, sought (unit (c .before .before .before .before)) .low)
 
 listed-rank-requires : tie.Need-listed-rank-requires
 listed-rank-requires c κs =
     let count = c .before .before in
-    let safe = count .before .before in
-    let unit = safe .before .before .before .before in
-    let good = unit .before .before in
-    let start = good .before .before .before .before .before in
-    let ok = not-false _ (good .if3 .left) in
-    let store = sound-sized (found-sound (start .pre) ok) in
-    let there = safe-unit store (omega (arith, unit .unit-of .ensures .1, store .units)) (sym (safe .before .gone .ensures) ∙ safe .if4 .left) in
-    let fill = safe-fill (start .pre) ok there (count .wide2 .ensures .0) in
-    (recoverable-known there, safe-first-check (start .pre) ok there (c .wide3 .ensures .0), fill .0, fill .1)
+    let unlost = count .before .before in
+    let key = sought (unit unlost) in
+    let fill = fill-read key (safe unlost) (count .wide2 .ensures .0) in
+    (recoverable-known (there key (safe unlost)), first-check-read key (safe unlost) (c .wide3 .ensures .0), fill .0, fill .1)
 
 returns-5 : tie.Need-returns-5
 returns-5 c =
-    let found = c .before .before in
-    let count = found .before .before .before in
-    let safe = count .before .before in
-    let unit = safe .before .before .before .before in
-    let good = unit .before .before in
-    let room = good .before .before in
-    let start = room .before .before .before in
-    let ok = not-false _ (good .if3 .left) in
-    let store = sound-sized (found-sound (start .pre) ok) in
-    let safe-one = sym (safe .before .gone .ensures) ∙ safe .if4 .left in
-    let there = safe-unit store (omega (arith, unit .unit-of .ensures .1, store .units)) safe-one in
-    let fill = safe-fill (start .pre) ok there (count .wide2 .ensures .0) in
+    let rank = c .before .before in
+    let count = rank .before .before .before in
+    let unlost = count .before .before in
+    let key = sought (unit unlost) in
     refusal 5 (c .refused5 .ensures)
-    (absent (start .args .s .now) _ _ _ (room .before .if1 .left) (room .if2 .left) ok _ (home-is _ _ _ (unit .unit-of .ensures .0)) safe-one
-    (rw (← fill .0, ← found .listed-rank .ensures .0) (c .before .if5 .taken)))
+    (absent key (safe unlost) (fill-read key (safe unlost) (count .wide2 .ensures .0)) (rank .listed-rank .ensures .0) (c .before .if5 .taken))
 
 returns-6 : tie.Need-returns-6
 returns-6 c =
-    let found = c .before in
-    let count = found .before .before .before in
-    let safe = count .before .before in
-    let unit = safe .before .before .before .before in
-    let good = unit .before .before in
-    let room = good .before .before in
-    let start = room .before .before .before in
-    let ok = not-false _ (good .if3 .left) in
-    let store = sound-sized (found-sound (start .pre) ok) in
-    let safe-one = sym (safe .before .gone .ensures) ∙ safe .if4 .left in
-    let there = safe-unit store (omega (arith, unit .unit-of .ensures .1, store .units)) safe-one in
-    let fill = safe-fill (start .pre) ok there (count .wide2 .ensures .0) in
-    let home = home-is (start .args .s .now) (start .args .key) (unit .unit-of .result) (unit .unit-of .ensures .0) in
-    let listed = rw (fill .0) at (c .if5 .left) in
-    record {
-      given = present (start .args .s .now) _ _ _ (room .before .if1 .left) (room .if2 .left) ok _ home safe-one (rw (found .listed-rank .ensures .0) at listed);
-      placed = λ z. record {
-        there = there;
-        home = home;
-        found = found .listed-rank .ensures .0;
-        listed = listed;
-        small = omega (arith, c .if5 .left, fill .1);
-      };
-      room = λ z. room .if2 .left;
-      nowhere = λ z. absurd (z refl);
-    }
+    let count = c .before .before .before .before in
+    let unlost = count .before .before in
+    let key = sought (unit unlost) in
+    present key (safe unlost) (fill-read key (safe unlost) (count .wide2 .ensures .0)) (c .before .listed-rank .ensures .0) (c .if5 .left)
 
 pub look-up-spec : {M : Type 1} → statement M
 look-up-spec =

@@ -1,89 +1,57 @@
--- `soundness::survey_of` meets its contract. Assumes nothing.
+-- `soundness::survey_of` meets its contract: each test that fails is one of the pieces, and where none fails all of them hold. Assumes nothing.
+use mathlib.Core.Bool.{and-false}
 use native.Mathlib.Omega.{arith}
 use borrow.Author.Needs.{needs}
 use borrow.Author.Tests.{not-false}
 use Rattle.buffer.specs.TestLaws.{is-no, is-yes}
-use Rattle.soundness.specs.Pieces.{pieces}
+use Rattle.soundness.specs.Pieces.{Ranged, pieces}
 use Rattle.soundness.proofs.Theorem.{ranged}
 use Rattle.soundness.proofs.Surveys.{not-sound, surveyed}
 use Rattle.soundness.proofs.survey_of.Statement.{statement}
 use Rattle.soundness.proofs.survey_of.Tie as tie
 
+-- the ranges hold
+in-range : (c : tie.Else1) → Ranged (c .before .before .before .args .s .now)
+in-range c = ranged _ (is-yes (c .before .ranges-hold .ensures) (c .if1 .left))
+
+-- ---- the needs
 returns : tie.Need-returns
 unfolding pieces
-returns c =
-    let test = c .before in
-    not-sound (c .unsound .ensures) (rw (is-no (test .before .ranges-hold .ensures) (test .if1 .taken)))
+returns c = not-sound (c .unsound .ensures) (simp (is-no (c .before .before .ranges-hold .ensures) (c .before .if1 .taken)))
 
 units-placed-requires : tie.Need-units-placed-requires
-units-placed-requires c κs = ranged _ (is-yes (c .before .ranges-hold .ensures) (c .if1 .left))
+units-placed-requires c κs = in-range c
 
 returns-2 : tie.Need-returns-2
 unfolding pieces
-returns-2 c =
-    let states = c .before .before in
-    let range = is-yes (states .before .before .ranges-hold .ensures) (states .before .if1 .left) in
-    not-sound (c .unsound2 .ensures) (rw (range, is-no (states .units-placed .ensures) (c .before .if2 .taken)))
+returns-2 c = not-sound (c .unsound2 .ensures) (simp (is-no (c .before .before .units-placed .ensures) (c .before .if2 .taken), and-false))
 
 groups-placed-requires : tie.Need-groups-placed-requires
-groups-placed-requires c κs =
-    let range = c .before .before in
-    let h = ranged _ (is-yes (range .before .ranges-hold .ensures) (range .if1 .left)) in
-    omega arith
+groups-placed-requires c κs = let h = in-range (c .before .before) in omega arith
 
 returns-3 : tie.Need-returns-3
 unfolding pieces
-returns-3 c =
-    let groups = c .before .before in
-    let states = groups .before .before in
-    let range = is-yes (states .before .before .ranges-hold .ensures) (states .before .if1 .left) in
-    not-sound (c .unsound3 .ensures)
-    (rw (range, is-yes (states .units-placed .ensures) (groups .before .if2 .left), is-no (groups .groups-placed .ensures) (c .before .if3 .taken)))
+returns-3 c = not-sound (c .unsound3 .ensures) (simp (is-no (c .before .before .groups-placed .ensures) (c .before .if3 .taken), and-false))
 
 first-checks-of-requires : tie.Need-first-checks-of-requires
-first-checks-of-requires c κs =
-    let range = c .before .before .before .before in
-    let h = ranged _ (is-yes (range .before .ranges-hold .ensures) (range .if1 .left)) in
-    omega arith
+first-checks-of-requires c κs = let h = in-range (c .before .before .before .before) in omega arith
 
 count-units-requires : tie.Need-count-units-requires
-count-units-requires c κs =
-    let range = c .before .before .before .before .before in
-    (ranged _ (is-yes (range .before .ranges-hold .ensures) (range .if1 .left)), c .first-checks-of .ensures)
+count-units-requires c κs = (in-range (c .before .before .before .before .before), c .first-checks-of .ensures)
 
 returns-4 : tie.Need-returns-4
 unfolding pieces
-returns-4 c =
-    let units = c .before .before .before in
-    let groups = units .before .before .before in
-    let states = groups .before .before in
-    let range = is-yes (states .before .before .ranges-hold .ensures) (states .before .if1 .left) in
-    not-sound (c .unsound4 .ensures)
-    (rw (range, is-yes (states .units-placed .ensures) (groups .before .if2 .left), is-yes (groups .groups-placed .ensures) (units .before .before .if3 .left), is-no (units .count-units .ensures .tested) (c .before .if4 .taken)))
+returns-4 c = not-sound (c .unsound4 .ensures) (simp (is-no (c .before .before .before .count-units .ensures .tested) (c .before .if4 .taken), and-false))
 
 checks-good-requires : tie.Need-checks-good-requires
-checks-good-requires c κs =
-    let kept = c .before .before .before in
-    let range = kept .before .before .before .before .before in
-    (ranged _ (is-yes (range .before .ranges-hold .ensures) (range .if1 .left)), kept .first-checks-of .ensures)
+checks-good-requires c κs = let kept = c .before .before .before in (in-range (kept .before .before .before .before .before), kept .first-checks-of .ensures)
 
 returns-5 : tie.Need-returns-5
 unfolding pieces
-returns-5 c =
-    let checks = c .before .before in
-    let units = checks .before .before .before in
-    let groups = units .before .before .before in
-    let states = groups .before .before in
-    let range = is-yes (states .before .before .ranges-hold .ensures) (states .before .if1 .left) in
-    not-sound (c .unsound5 .ensures)
-    (rw (range, is-yes (states .units-placed .ensures) (groups .before .if2 .left), is-yes (groups .groups-placed .ensures) (units .before .before .if3 .left), is-yes (units .count-units .ensures .tested) (checks .before .if4 .left), is-no (checks .checks-good .ensures) (c .before .if5 .taken)))
+returns-5 c = not-sound (c .unsound5 .ensures) (simp (is-no (c .before .before .checks-good .ensures) (c .before .if5 .taken), and-false))
 
 outs-of-requires : tie.Need-outs-of-requires
-outs-of-requires c κs =
-    let kept = c .before .before .before .before .before .before in
-    let range = kept .before .before .before .before .before in
-    let h = ranged _ (is-yes (range .before .ranges-hold .ensures) (range .if1 .left)) in
-    omega arith
+outs-of-requires c κs = let h = in-range (c .before .before .before .before .before .before .before .before .before .before .before) in omega arith
 
 returns-6 : tie.Need-returns-6
 returns-6 c =

@@ -7,17 +7,13 @@ use Rattle.writing.proofs.correct.Statement.{statement}
 use Rattle.writing.proofs.correct.Tie as tie
 
 returns : tie.Need-returns
-returns c =
-    let home = c .before .before in
-    let a = home .before .before .before .before .args in
-    refused-first (of-correcting (a .s .now) (a .key) (a .body .now)) (home .home-of .ensures) (c .if1 .taken)
+returns c = refused-first (of-correcting _ _ _) (c .before .before .home-of .ensures) (c .if1 .taken)
 
 returns-2 : tie.Need-returns-2
 returns-2 c =
     let fine = c .before .before in
-    let home = fine .before .before in
-    let a = home .before .before .before .before .args in
-    refused-then (of-correcting (a .s .now) (a .key) (a .body .now)) (home .home-of .ensures) (fine .if1 .left) (row-holds 6 _ (c .if2 .taken))
+    let found = fine .before .before .home-of .ensures in
+    refused-then (of-correcting _ _ _) found (fine .if1 .left) (row-holds 6 _ (c .if2 .taken))
 
 write-record-requires : tie.Need-write-record-requires
 write-record-requires c κs =
@@ -31,10 +27,9 @@ returns-3 c =
     let write = c .before .before in
     let present = write .before .before in
     let fine = present .before .before in
-    let home = fine .before .before in
-    let a = home .before .before .before .before .args in
-    granted-then (of-correcting (a .s .now) (a .key) (a .body .now)) (home .home-of .ensures) (fine .if1 .left)
-    (present .if2 .left, tt) (corrected (home .home-of .ensures .located (fine .if1 .left)) (a .body .now) (write .write-record .ensures))
+    let found = fine .before .before .home-of .ensures in
+    granted-then (of-correcting _ _ _) found (fine .if1 .left)
+    (present .if2 .left, tt) (corrected (found .located (fine .if1 .left)) _ (write .write-record .ensures))
 
 pub correct-spec : {M : Type 1} → statement M
 correct-spec =

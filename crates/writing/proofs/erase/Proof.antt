@@ -7,17 +7,13 @@ use Rattle.writing.proofs.erase.Statement.{statement}
 use Rattle.writing.proofs.erase.Tie as tie
 
 returns : tie.Need-returns
-returns c =
-    let home = c .before .before in
-    let a = home .before .before .before .args in
-    refused-first (of-erasing (a .s .now) (a .key)) (home .home-of .ensures) (c .if1 .taken)
+returns c = refused-first (of-erasing _ _) (c .before .before .home-of .ensures) (c .if1 .taken)
 
 returns-2 : tie.Need-returns-2
 returns-2 c =
     let fine = c .before .before in
-    let home = fine .before .before in
-    let a = home .before .before .before .args in
-    refused-then (of-erasing (a .s .now) (a .key)) (home .home-of .ensures) (fine .if1 .left) (row-holds 6 _ (c .if2 .taken))
+    let found = fine .before .before .home-of .ensures in
+    refused-then (of-erasing _ _) found (fine .if1 .left) (row-holds 6 _ (c .if2 .taken))
 
 sub-erase-at : tie.Need-sub-erase-at
 sub-erase-at c =
@@ -38,10 +34,9 @@ returns-3 c =
     let cut = c .before .before in
     let stands = cut .before .before .before .before .before in
     let fine = stands .before .before in
-    let home = fine .before .before in
-    let a = home .before .before .before .args in
-    granted-then (of-erasing (a .s .now) (a .key)) (home .home-of .ensures) (fine .if1 .left)
-    (stands .if2 .left, tt) (removed (home .home-of .ensures .located (fine .if1 .left)) (cut .erase-at .ensures))
+    let found = fine .before .before .home-of .ensures in
+    granted-then (of-erasing _ _) found (fine .if1 .left)
+    (stands .if2 .left, tt) (removed (found .located (fine .if1 .left)) (cut .erase-at .ensures))
 
 pub erase-spec : {M : Type 1} → statement M
 erase-spec =

@@ -8,26 +8,21 @@ use Rattle.writing.proofs.teach.Statement.{statement}
 use Rattle.writing.proofs.teach.Tie as tie
 
 returns : tie.Need-returns
-returns c =
-    let home = c .before .before in
-    let a = home .before .before .before .before .args in
-    refused-first (of-teaching (a .s .now) (a .key) (a .body .now)) (home .home-of .ensures) (c .if1 .taken)
+returns c = refused-first (of-teaching _ _ _) (c .before .before .home-of .ensures) (c .if1 .taken)
 
 returns-2 : tie.Need-returns-2
 returns-2 c =
     let fine = c .before .before in
-    let home = fine .before .before in
-    let a = home .before .before .before .before .args in
-    refused-then (of-teaching (a .s .now) (a .key) (a .body .now)) (home .home-of .ensures) (fine .if1 .left) (row-holds 5 _ (c .if2 .taken))
+    let found = fine .before .before .home-of .ensures in
+    refused-then (of-teaching _ _ _) found (fine .if1 .left) (row-holds 5 _ (c .if2 .taken))
 
 returns-3 : tie.Need-returns-3
 returns-3 c =
     let size = c .before .before in
     let new = size .before .before in
     let fine = new .before .before in
-    let home = fine .before .before in
-    let a = home .before .before .before .before .args in
-    refused-then (of-teaching (a .s .now) (a .key) (a .body .now)) (home .home-of .ensures) (fine .if1 .left)
+    let found = fine .before .before .home-of .ensures in
+    refused-then (of-teaching _ _ _) found (fine .if1 .left)
     (row-fails 5 _ (new .if2 .left) ∙ row-holds 7 _ (rw (← size .byte-at .ensures) (c .if3 .taken)))
 
 write-record-requires : tie.Need-write-record-requires
@@ -45,10 +40,9 @@ returns-4 c =
     let size = room .before .before in
     let new = size .before .before in
     let fine = new .before .before in
-    let home = fine .before .before in
-    let a = home .before .before .before .before .args in
-    granted-then (of-teaching (a .s .now) (a .key) (a .body .now)) (home .home-of .ensures) (fine .if1 .left)
-    (new .if2 .left, (rw (← size .byte-at .ensures) (room .if3 .left), tt)) (taught (home .home-of .ensures .located (fine .if1 .left)) (a .body .now) (write .write-record .ensures))
+    let found = fine .before .before .home-of .ensures in
+    granted-then (of-teaching _ _ _) found (fine .if1 .left)
+    (new .if2 .left, (rw (← size .byte-at .ensures) (room .if3 .left), tt)) (taught (found .located (fine .if1 .left)) _ (write .write-record .ensures))
 
 pub teach-spec : {M : Type 1} → statement M
 teach-spec =

@@ -6,7 +6,7 @@ use borrow.Author.Needs.{needs}
 use Rattle.buffer.specs.Choice.{pick}
 use Rattle.buffer.specs.Bytes.{byte}
 use Rattle.buffer.specs.TestLaws.{is-eq, is-ne}
-use Rattle.soundness.specs.Pieces.{checkGood}
+use Rattle.soundness.specs.Pieces.{sameAsFirst, checkGood}
 use Rattle.soundness.proofs.Endings.{first-check-before, check-unit-zero, check-unit-same}
 use Rattle.soundness.proofs.checks.check_good.Statement.{statement}
 use Rattle.soundness.proofs.checks.check_good.Tie as tie
@@ -23,7 +23,7 @@ returns c =
     rw (is-ne state refl (test .if1 .taken)) (check-unit-zero s (start .args .c) (at .before .wide .ensures .0) (at .checks-at .ensures .0) (c .zero-between .ensures))
 
 returns-2 : tie.Need-returns-2
-unfolding checkGood pick
+unfolding checkGood sameAsFirst pick
 returns-2 c =
     let read = c .before .before .before in
     let start = read .before .before .before .before .before in
@@ -39,7 +39,7 @@ checks-at-requires-2 c κs =
     omega (arith, start .pre .1 .found, first-check-before s (start .args .c) (sym state ∙ c .before .if1 .left))
 
 returns-3 : tie.Need-returns-3
-unfolding checkGood pick
+unfolding checkGood sameAsFirst pick
 returns-3 c =
     let other = c .before .before in
     let read = other .before .before .before in

@@ -1,8 +1,8 @@
--- `soundness::units::served_count` meets its contract. Assumes nothing.
+-- `soundness::units::served_count` meets its contract. What is known at a place is said once, and the needs behind it use it. Assumes nothing.
 use Prim.Native.Nat.{_/_}
 use mathlib.Core.Logic.{⊎-elim}
 use mathlib.Core.Path.{_≡_, refl}
-use mathlib.Core.Bool.{true, _||_}
+use mathlib.Core.Bool.{true, _||_, and-false}
 use native.Mathlib.Omega.{arith}
 use borrow.Author.Needs.{needs}
 use Rattle.buffer.specs.Choice.{pick}
@@ -10,12 +10,25 @@ use Rattle.buffer.specs.Bytes.{byte}
 use Rattle.buffer.specs.TestLaws.{is-no, is-yes, is-le, not-le}
 use Rattle.buffer.specs.Strided.{strided32}
 use Rattle.soundness.specs.Keys.{sameKeys}
-use Rattle.soundness.specs.Pieces.{dataKeys, columnKeys, unkept, served}
+use Rattle.soundness.specs.Pieces.{dataKeys, columnKeys, unkept, dataFill, restZero, served}
 use Rattle.soundness.proofs.Places.{within-slots, within-column, column-place}
 use Rattle.soundness.proofs.Endings.{reached-le, is-unkept, is-kept, data-fill, rest-zero, column-same}
 use Rattle.soundness.proofs.units.served_count.Statement.{statement}
 use Rattle.soundness.proofs.units.served_count.Tie as tie
 
+-- ---- where the keys are counted, and where the slots behind them were tested
+abbrev start : tie.After-reach → tie.Start
+start c = c .before .before .before .before .before .before .before
+
+fill : (c : tie.After-reach) → c .reach .result ≡ dataFill (start c .args .s .now) (start c .args .u)
+fill c = data-fill _ _ (c .before .before .before .wide .ensures .0) (c .before .before .slots-at .ensures .0) (c .reach .ensures .0)
+
+zero : (c : tie.After-zero-between) → c .zero-between .result ≡ restZero (start (c .before .before) .args .s .now) (start (c .before .before) .args .u)
+zero c =
+    let slots = c .before .before .before .before in
+    rest-zero _ _ (slots .before .wide .ensures .0) (slots .slots-at .ensures .0) (fill (c .before .before)) (c .zero-between .ensures)
+
+-- ---- the needs
 reach-requires : tie.Need-reach-requires
 reach-requires c κs =
     let asked = c .before .before .before .before .before .before .pre in
@@ -23,36 +36,20 @@ reach-requires c κs =
 
 returns : tie.Need-returns
 unfolding served pick
-returns c =
-    let found = c .before in
-    let place = found .before .before in
-    let start = place .before .before .before .before .before in
-    let fill = data-fill (start .args .s .now) (start .args .u) (place .before .wide .ensures .0) (place .slots-at .ensures .0) (found .reach .ensures .0) in
-    (rw (not-le fill refl (c .if1 .taken)), found .reach .ensures .1)
+returns c = (simp (not-le (fill (c .before)) refl (c .if1 .taken)), c .before .reach .ensures .1)
 
 zero-between-requires : tie.Need-zero-between-requires
 zero-between-requires c κs =
     let found = c .before in
-    let place = found .before .before in
-    let start = place .before .before .before .before .before in
-    let s = start .args .s .now in
-    let l = reached-le (place .before .wide .result) (byte s 6) (start .args .u) (strided32 s (place .slots-at .result) 20) (found .reach .ensures .0) (c .if1 .left) in
+    let slots = found .before .before in
+    let a = start found .args in
+    let l =
+    reached-le (slots .before .wide .result) (byte (a .s .now) 6) (a .u) (strided32 (a .s .now) (slots .slots-at .result) 20) (found .reach .ensures .0) (c .if1 .left) in
     (omega arith, omega arith)
 
 returns-2 : tie.Need-returns-2
 unfolding served pick
-returns-2 c =
-    let some = c .before .before in
-    let found = some .before in
-    let place = found .before .before in
-    let start = place .before .before .before .before .before in
-    let s = start .args .s .now in
-    let u = start .args .u in
-    let width = place .before .wide .ensures .0 in
-    let at = place .slots-at .ensures .0 in
-    let fill = data-fill s u width at (found .reach .ensures .0) in
-    let zero = rest-zero s u width at fill (c .before .zero-between .ensures) in
-    (rw (is-le fill refl (some .if1 .left), is-no zero (c .if2 .taken)), found .reach .ensures .1)
+returns-2 c = (simp (is-no (zero (c .before)) (c .if2 .taken), and-false), c .before .before .before .reach .ensures .1)
 
 same-column-requires : tie.Need-same-column-requires
 same-column-requires c κs = (within-slots (search needs), within-column (c .before .checks-at .result) (c .wide2 .result) (search needs) (search needs))
@@ -60,47 +57,33 @@ same-column-requires c κs = (within-slots (search needs), within-column (c .bef
 returns-3 : tie.Need-returns-3
 unfolding served pick
 returns-3 c =
-    let to = c .before .before .before in
-    let kept = to .before in
-    let zeros = kept .before .before in
-    let some = zeros .before in
-    let found = some .before in
-    let place = found .before .before in
-    let start = place .before .before .before .before .before in
-    let s = start .args .s .now in
-    let u = start .args .u in
-    let width = place .before .wide .ensures .0 in
-    let at = place .slots-at .ensures .0 in
-    let fill = data-fill s u width at (found .reach .ensures .0) in
-    let zero = rest-zero s u width at fill (zeros .zero-between .ensures) in
-    let firstCheck = start .pre .1 .found in
-    let column = column-place s u firstCheck (to .checks-at .ensures .0) (c .before .before .wide2 .ensures .0) in
-    let other = is-no (column-same s u width at column (c .before .same-column .ensures)) (c .if4 .taken) in
-    (rw (is-le fill refl (some .if1 .left), is-yes zero (kept .before .if2 .left), is-kept s (u / 4) firstCheck (kept .if3 .taken), other), found .reach .ensures .1)
+    let place = c .before .before in
+    let listed = place .before .before in
+    let found = listed .before .before .before .before in
+    let slots = found .before .before in
+    let firstCheck = start found .pre .1 .found in
+    let column = column-place _ _ firstCheck (place .before .checks-at .ensures .0) (place .wide2 .ensures .0) in
+    let other = column-same _ _ (slots .before .wide .ensures .0) (slots .slots-at .ensures .0) column (c .before .same-column .ensures) in
+    (simp (is-kept _ _ firstCheck (listed .if3 .taken), is-no other (c .if4 .taken), and-false), found .reach .ensures .1)
 
 returns-4 : tie.Need-returns-4
 unfolding served pick
 returns-4 c =
     let zeros = c .before .before in
-    let some = zeros .before in
-    let found = some .before in
-    let place = found .before .before in
-    let start = place .before .before .before .before .before in
-    let s = start .args .s .now in
-    let u = start .args .u in
-    let width = place .before .wide .ensures .0 in
-    let at = place .slots-at .ensures .0 in
-    let fill = data-fill s u width at (found .reach .ensures .0) in
-    let zero = rest-zero s u width at fill (zeros .zero-between .ensures) in
-    let firstCheck = start .pre .1 .found in
+    let found = zeros .before .before in
+    let slots = found .before .before in
+    let s = start found .args .s .now in
+    let u = start found .args .u in
+    let firstCheck = start found .pre .1 .found in
     let listed : (unkept s (u / 4) || sameKeys (byte s 5) (dataKeys s u) (columnKeys s u)) ≡ true =
     ⊎-elim
     (λ w.
     let column = column-place s u firstCheck (w .1 .ensures .0) (w .2 .ensures .0) in
-    rw (is-kept s (u / 4) firstCheck (w .0 .taken), is-yes (column-same s u width at column (w .3 .ensures)) (w .4 .left)))
+    let same = column-same s u (slots .before .wide .ensures .0) (slots .slots-at .ensures .0) column (w .3 .ensures) in
+    rw (is-kept s (u / 4) firstCheck (w .0 .taken), is-yes same (w .4 .left)))
     (λ w. rw (is-unkept s (u / 4) firstCheck (w .left)))
     (c .if3 .came) in
-    (rw (is-le fill refl (some .if1 .left), is-yes zero (c .before .if2 .left), listed) fill, found .reach .ensures .1)
+    (rw (is-le (fill found) refl (zeros .before .if1 .left), is-yes (zero zeros) (c .before .if2 .left), listed) (fill found), found .reach .ensures .1)
 
 pub served-count-spec : {M : Type 1} → statement M
 served-count-spec =
