@@ -1,8 +1,7 @@
 /*
  * Times the store's calls over the static library, each against a copy of the store's bytes and
  * against the test of soundness, in one run; and a plain test of soundness beside the library's.
- * List returns a count beside its number and has no name for C in the store: crate timing gives it
- * one for this program. Read in place is a read without the copy. Build and run it with bench/run.
+ * Read in place is a read without the copy. Build and run it with bench/run.
  */
 #define _POSIX_C_SOURCE 199309L
 #include "lhrs.h"
@@ -16,12 +15,8 @@
 #define MAX_SLOTS 64u
 #define MAX_LENGTH LHRS_LENGTH(MAX_SLOTS)
 #define MAX_UNITS 16u
-#define RECORD (4u + LHRS_BODY)
 #define ROUNDS 60
 #define BATCH_NANOSECONDS 1000000.0
-
-/* List of crate timing: writes the records and returns their count. */
-size_t timed_list(const uint8_t *store, size_t length, uint8_t *out, size_t out_length);
 
 /* A laid out store with all units about three quarters full. */
 struct hall {
@@ -193,8 +188,9 @@ static void read_lost(void)
 
 static void list_from(struct hall *hall)
 {
-    static uint8_t out[MAX_UNITS * MAX_SLOTS * RECORD];
-    size_t count = timed_list(hall->bytes, hall->length, out, sizeof out);
+    static uint8_t out[MAX_UNITS * MAX_SLOTS * LHRS_RECORD];
+    size_t count;
+    require(lhrs_list(hall->bytes, hall->length, out, sizeof out, &count), 0, "list");
     require(count == (size_t)hall->units * hall->count, 1, "list's count");
 }
 

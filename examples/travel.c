@@ -1,6 +1,7 @@
 /*
- * A travel program's day: lays out a store, teaches park positions, loses a unit, reads all the
- * same, repairs and reads again. Build and run it with examples/run.
+ * A travel program's day: lays out a store, teaches park positions, loses two units, reads all the
+ * same, repairs, and lists what is there. Build and run it with examples/run; examples/travel.out
+ * is what it prints.
  */
 #include "lhrs.h"
 
@@ -9,6 +10,7 @@
 #include <string.h>
 
 #define SLOTS 8u
+#define UNITS 4u
 #define POSITIONS 6u
 
 static uint8_t store[LHRS_LENGTH(SLOTS)];
@@ -24,10 +26,10 @@ static void expect(const char *what, uint8_t number, uint8_t expected)
 }
 
 /* A park position as a body: text, filled up with zeros. */
-static void park_position(uint8_t body[LHRS_BODY], unsigned number)
+static void park_position(uint8_t body[LHRS_BODY], uint32_t key)
 {
     char text[LHRS_BODY + 1] = {0};
-    snprintf(text, sizeof text, "park at %u.50 m", 10 + number);
+    snprintf(text, sizeof text, "park at %u.50 m", 10 + (unsigned)key);
     memcpy(body, text, LHRS_BODY);
 }
 
@@ -41,19 +43,48 @@ static void teach_positions(void)
     }
 }
 
-/* Reads every position and compares it with what was taught. */
+/* Prints a position, and stops where it is not the one taught. */
+static void print_position(uint32_t key, const uint8_t body[LHRS_BODY])
+{
+    uint8_t taught[LHRS_BODY];
+    park_position(taught, key);
+    printf("    key %u: %.16s\n", (unsigned)key, (const char *)body);
+    if (memcmp(taught, body, LHRS_BODY) != 0) {
+        puts("this is not what was taught");
+        exit(EXIT_FAILURE);
+    }
+}
+
 static void read_positions(void)
 {
     for (uint32_t key = 1; key <= POSITIONS; key++) {
-        uint8_t taught[LHRS_BODY], body[LHRS_BODY];
-        park_position(taught, key);
+        uint8_t body[LHRS_BODY];
         expect("read", lhrs_read(store, sizeof store, key, body, sizeof body), LHRS_GRANTED);
-        if (memcmp(taught, body, sizeof body) != 0) {
-            printf("key %u reads other than taught\n", (unsigned)key);
-            exit(EXIT_FAILURE);
-        }
-        printf("    key %u: %.16s\n", (unsigned)key, (const char *)body);
+        print_position(key, body);
     }
+}
+
+/* All records in one call, by unit. The buffer holds as many as the store can. */
+static void list_positions(void)
+{
+    static uint8_t records[UNITS * SLOTS * LHRS_RECORD];
+    size_t count;
+    expect("list", lhrs_list(store, sizeof store, records, sizeof records, &count), LHRS_GRANTED);
+    for (size_t i = 0; i < count; i++) {
+        const uint8_t *record = records + i * LHRS_RECORD;
+        uint32_t key = (uint32_t)record[0] << 24 | (uint32_t)record[1] << 16
+                       | (uint32_t)record[2] << 8 | record[3];
+        print_position(key, record + 4);
+    }
+}
+
+static void print_units(void)
+{
+    static const char *const states[] = {"not in place", "in service", "out"};
+    for (unsigned unit = 0; unit < LHRS_UNITS(store); unit++)
+        printf("    data unit %u: %s\n", unit, states[LHRS_STATE(store, unit)]);
+    for (unsigned j = 0; j < LHRS_LEVEL(store); j++)
+        printf("    check unit %u: %s\n", j, states[LHRS_STATE(store, LHRS_CHECK_UNIT(0u, j))]);
 }
 
 int main(void)
@@ -62,19 +93,21 @@ int main(void)
 
     expect("lay out", lhrs_lay_out(store, sizeof store, SLOTS), LHRS_GRANTED);
     expect("raise the level to 2 check units", lhrs_raise(store, sizeof store), LHRS_GRANTED);
-    for (int units = 2; units <= 4; units++)
+    while (LHRS_UNITS(store) < UNITS)
         expect("grow by a unit", lhrs_grow(store, sizeof store), LHRS_GRANTED);
     teach_positions();
 
     expect("unit 1 is swapped", lhrs_out(store, sizeof store, 1), LHRS_GRANTED);
     expect("unit 2 is swapped", lhrs_out(store, sizeof store, 2), LHRS_GRANTED);
+    print_units();
     read_positions();
     park_position(body, POSITIONS + 1);
     expect("teach while units are out: refused",
            lhrs_teach(store, sizeof store, POSITIONS + 1, body, sizeof body), LHRS_UNIT_OUT);
 
     expect("repair the group", lhrs_repair(store, sizeof store, 0), LHRS_GRANTED);
-    read_positions();
-    puts("every position reads as taught");
+    print_units();
+    list_positions();
+    puts("every position is as taught");
     return EXIT_SUCCESS;
 }

@@ -8,8 +8,15 @@
  * touched.
  *
  * Memory. Every block passed in stays the caller's. It is used during the call only. The blocks
- * passed to one call must not overlap, a pointer must be valid for its length, and it must not be
- * null, not even with length 0. Calls on one store must not run at the same time.
+ * passed to one call must not overlap, and a pointer must be valid for its length; with length 0 it
+ * may be null. The pointer count of lhrs_list must be that of a size_t, and not null.
+ *
+ * At the same time. The library has no state. Calls on different stores may run at the same time.
+ * On one store lhrs_read and lhrs_list may run beside each other and beside themselves; while any
+ * other call runs, none may run beside it on that store.
+ *
+ * Where it runs. The archive libstore.a is compiled for x86-64 Linux (ELF objects, System V calling
+ * convention) and needs memcpy and memset of a C library, nothing else.
  *
  * Records. A record is a key, 1 to 4,294,967,295, and a body of 16 bytes; any body will do, all
  * zeros too. Records are spread over 1 to 16 data units of b slots each. Each four data units form
@@ -33,11 +40,27 @@ extern "C" {
 /* The bytes of a body. */
 #define LHRS_BODY 16u
 
+/* The bytes of a record as lhrs_list writes it: its key, big-endian, and its body. */
+#define LHRS_RECORD 20u
+
 /* The bytes of a store whose units have b slots. */
 #define LHRS_LENGTH(b) (36u + 704u * (b))
 
-/* The number by which lhrs_out calls check unit j (0 to 2) of group g (0 to 3). */
+/* Units have numbers 0 to 27: data units 0 to 15, then check unit j (0 to 2) of group g (0 to 3). */
 #define LHRS_CHECK_UNIT(g, j) (16u + 3u * (g) + (j))
+
+/* Of a store that was laid out, by a pointer to its first byte: the number of its data units, 1 to
+   16; its level, the number of check units that new groups get, 1 to 3; the state of a unit, one of
+   enum lhrs_state. They read one byte and test nothing. */
+#define LHRS_UNITS(store) ((store)[6])
+#define LHRS_LEVEL(store) ((store)[7])
+#define LHRS_STATE(store, unit) ((store)[8u + (unit)])
+
+enum lhrs_state {
+    LHRS_STATE_NOT_IN_PLACE = 0,
+    LHRS_STATE_IN_SERVICE = 1,
+    LHRS_STATE_OUT = 2
+};
 
 enum lhrs_number {
     /* The call was granted and has done what it says. */
@@ -59,10 +82,11 @@ enum lhrs_number {
     /* The key is not taught. */
     LHRS_KEY_NOT_PRESENT = 6,
     /* There is no room: the key's unit is full (teach), the records of both units do not fit into
-       one (shrink), or the block is shorter than LHRS_LENGTH(b) (lay out). */
+       one (shrink), the block is shorter than LHRS_LENGTH(b) (lay out), or the output is too short
+       for all records (list). */
     LHRS_NO_ROOM = 7,
-    /* More units of the group are out than it has check units: nothing can be rebuilt (repair; read
-       of a key whose unit is out). */
+    /* More units of a group are out than it has check units: nothing can be rebuilt (repair; read of
+       a key whose unit is out there; list with a data unit out there). */
     LHRS_BEYOND_RECOVERY = 8,
     /* A limit: grow at 16 units, shrink at 1, or a raise that is not granted. */
     LHRS_LIMIT = 9
@@ -103,8 +127,16 @@ uint8_t lhrs_erase(uint8_t *store, size_t len, uint32_t key);
 uint8_t lhrs_read(const uint8_t *store, size_t len, uint32_t key, uint8_t *out, size_t out_len);
 
 /*
- * Takes a unit out of service, as when it is swapped: its bytes become zero. Units 0 to 15 are data
- * units, LHRS_CHECK_UNIT(g, j) are check units.
+ * Writes all records to out, key (big-endian) and body, LHRS_RECORD bytes each, by unit and then in
+ * the order of the unit; the bodies of units that are out are rebuilt. count becomes the number of
+ * records written, 0 when refused. out must hold all of them, and may be longer: what lies behind
+ * them is not written. The store is not changed; out is written only when 0 is returned.
+ * Returns 0, 1, 7 or 8.
+ */
+uint8_t lhrs_list(const uint8_t *store, size_t len, uint8_t *out, size_t out_len, size_t *count);
+
+/*
+ * Takes a unit (0 to 27) out of service, as when it is swapped: its bytes become zero.
  * Returns 0, 1, 2, 3 or 4.
  */
 uint8_t lhrs_out(uint8_t *store, size_t len, uint32_t unit);

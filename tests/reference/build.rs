@@ -1,4 +1,4 @@
-//! Links the static library under test into `compare` (feature `library`).
+//! Links the static libraries under test into `compare` (feature `library`).
 
 use std::env;
 use std::path::Path;
@@ -9,10 +9,12 @@ fn main() {
         return;
     }
     let directory = env::var("LHRS_LIB").unwrap_or_else(|_| "../../target/staticlib".into());
-    let archive = Path::new(&directory).join("libstore.a");
-    let archive = archive
-        .canonicalize()
-        .unwrap_or_else(|_| panic!("no {}: build the store or set LHRS_LIB", archive.display()));
-    println!("cargo:rerun-if-changed={}", archive.display());
-    println!("cargo:rustc-link-arg-bin=compare={}", archive.display());
+    for name in ["libstore.a", "libcomparing.a"] {
+        let archive = Path::new(&directory).join(name);
+        let Ok(archive) = archive.canonicalize() else {
+            panic!("no {}: build the static libraries or set LHRS_LIB", archive.display())
+        };
+        println!("cargo:rerun-if-changed={}", archive.display());
+        println!("cargo:rustc-link-arg-bin=compare={}", archive.display());
+    }
 }

@@ -51,10 +51,12 @@ module _ {w m : ℕ} {inverse : ℕ → ℕ} (𝓣 : Tested w m inverse) where
   assoc a b c ha hb hc =
       each-below (λ x. x *ₘ b *ₘ c ≡ x *ₘ (b *ₘ c))
       (ap (λ (n : ℕ). n *ₘ c) (zero-product w m b) ∙ zero-product w m c ∙ sym (zero-product w m (b *ₘ c)))
-      (λ x y hx hy. ap (λ (n : ℕ). n *ₘ c) (add-product w m x y b) ∙ add-product w m (x *ₘ b) (y *ₘ b) c ∙ ap₂ bitXor hx hy ∙ sym (add-product w m x y (b *ₘ c)))
+      (λ x y hx hy. ap (λ (n : ℕ). n *ₘ c) (add-product w m x y b) ∙ add-product w m (x *ₘ b) (y *ₘ b) c ∙ ap₂ bitXor hx hy
+      ∙ sym (add-product w m x y (b *ₘ c)))
       w
       (λ i hi. each-below (λ x. 2 ^ i *ₘ x *ₘ c ≡ 2 ^ i *ₘ (x *ₘ c))
-      (ap (λ (n : ℕ). n *ₘ c) (product-zero w m (2 ^ i)) ∙ zero-product w m c ∙ sym (ap (λ (n : ℕ). 2 ^ i *ₘ n) (zero-product w m c) ∙ product-zero w m (2 ^ i)))
+      (ap (λ (n : ℕ). n *ₘ c) (product-zero w m (2 ^ i)) ∙ zero-product w m c
+      ∙ sym (ap (λ (n : ℕ). 2 ^ i *ₘ n) (zero-product w m c) ∙ product-zero w m (2 ^ i)))
       (λ x y hx hy. ap (λ (n : ℕ). n *ₘ c) (product-add w m (2 ^ i) x y) ∙ add-product w m (2 ^ i *ₘ x) (2 ^ i *ₘ y) c ∙ ap₂ bitXor hx hy
       ∙ sym (ap (λ (n : ℕ). 2 ^ i *ₘ n) (add-product w m x y c) ∙ product-add w m (2 ^ i) (x *ₘ c) (y *ₘ c)))
       w

@@ -106,7 +106,8 @@ module _ (F : Field) where
     ap₂ (λ (u v : A). y ⊗ u ⊕ v) (mul-inv (gaps F C (bs ++ cs)) (gaps-ne C (bs ++ cs) (apart C bs cs (f .0) (d .0))))
         (passed (C ∷ bs) cs ys C (inl refl)) ∙ add-zero (y ⊗ 𝟙) ∙ mul-one y,
     takes-same (lagrange F bs (C ∷ cs) (y ∷ ys)) (lagrange F (C ∷ bs) cs ys) cs ys
-        (λ R m. ap (λ (z : A). z ⊕ lagrange F (C ∷ bs) cs ys R) (no-weight y (bs ++ cs) C R (has-right R bs cs m)) ∙ fld.zero-add F (lagrange F (C ∷ bs) cs ys R))
+        (λ R m. ap (λ (z : A). z ⊕ lagrange F (C ∷ bs) cs ys R) (no-weight y (bs ++ cs) C R (has-right R bs cs m))
+        ∙ fld.zero-add F (lagrange F (C ∷ bs) cs ys R))
         (takes-from (C ∷ bs) cs ys (suc-inj (length cs) (length ys) e) (fresh-more C bs cs (f .1) (d .0)) (d .1)),
   )
 

@@ -119,7 +119,8 @@ bytes32-be32 s at l h =
     (ap (λ n. n % 256) (e .0) ∙ small a (h at) ∙ ap (λ j. byte s j) (sym (add-zero at)) ∙ sym (byte-part at 4 s 0 (omega arith)))
     (ap (λ n. n % 256) (e .1) ∙ low-byte (a * 256 + b) b a (h (at + 1)) (omega arith) ∙ sym (byte-part at 4 s 1 (omega arith)))
     (ap (λ n. n % 256) (e .2) ∙ low-byte ((a * 256 + b) * 256 + c) c (a * 256 + b) (h (at + 2)) (omega arith) ∙ sym (byte-part at 4 s 2 (omega arith)))
-    (ap (λ n. n % 256) (e .3) ∙ low-byte (((a * 256 + b) * 256 + c) * 256 + d) d ((a * 256 + b) * 256 + c) (h (at + 3)) (omega arith) ∙ sym (byte-part at 4 s 3 (omega arith)))
+    (ap (λ n. n % 256) (e .3) ∙ low-byte (((a * 256 + b) * 256 + c) * 256 + d) d ((a * 256 + b) * 256 + c) (h (at + 3)) (omega arith)
+    ∙ sym (byte-part at 4 s 3 (omega arith)))
     i
     q)
   where

@@ -85,7 +85,9 @@ seeking-miss {p} {n} {i} {j} {found} g h e =
     record {
       least = omega (arith, g .least);
       most = g .most;
-      missed = λ k l m. by-test (λ _. p k ≡ false) (eqb k j) (λ q. ap p (eqb-true k j q) ∙ e) (λ q. let other : k ≡ j → ⊥ = eqb-false k j q in g .missed k (omega arith) m);
+      missed =
+          λ k l m. by-test (λ _. p k ≡ false) (eqb k j) (λ q. ap p (eqb-true k j q) ∙ e)
+          (λ q. let other : k ≡ j → ⊥ = eqb-false k j q in g .missed k (omega arith) m);
       held = g .held;
     }
 

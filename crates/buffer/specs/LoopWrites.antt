@@ -80,7 +80,8 @@ pub record Stepping (f : ℕ → List ℕ → List ℕ) (n : ℕ) (l₀ l : List
 pub stepping-start : {f : ℕ → List ℕ → List ℕ} {n : ℕ} {l : List ℕ} → Stepping f n l l 0
 stepping-start {f} {n} {l} = record { within = omega arith; long = refl; bytes = sym (iter-none f l) }
 
-pub stepping-turn : {f : ℕ → List ℕ → List ℕ} {n : ℕ} {l₀ l l′ : List ℕ} {i : ℕ} → Stepping f n l₀ l i → i < n → length l′ ≡ length l → l′ ≡ f i l → Stepping f n l₀ l′ (i + 1)
+pub stepping-turn : {f : ℕ → List ℕ → List ℕ} {n : ℕ} {l₀ l l′ : List ℕ} {i : ℕ} → Stepping f n l₀ l i → i < n → length l′ ≡ length l → l′ ≡ f i l
+    → Stepping f n l₀ l′ (i + 1)
 stepping-turn {f} {n} {l₀} {l} {l′} {i} g h k e =
     record { within = omega arith; long = k ∙ g .long; bytes = e ∙ ap (f i) (g .bytes) ∙ sym (iter-more i f l₀) }
 

@@ -219,7 +219,8 @@ count-first n p h =
     let whole : n ≡ i + (1 + m) = omega arith in
     let none : count i p ≡ 0 = count-fails i p (first-misses n p) in
     let here : pick {A = ℕ} (p (i + 0)) 1 0 ≡ 1 = pick-true (ap p (add-zero i) ∙ first-holds n p h) 1 0 in
-    let behind : count m (λ k. p (i + (1 + k))) ≡ count m (λ k. p (suc i + k)) = count-ext m (λ k. p (i + (1 + k))) (λ k. p (suc i + k)) (λ k l. let e : i + (1 + k) ≡ suc i + k = omega arith in ap p e) in
+    let behind : count m (λ k. p (i + (1 + k))) ≡ count m (λ k. p (suc i + k)) =
+    count-ext m (λ k. p (i + (1 + k))) (λ k. p (suc i + k)) (λ k l. let e : i + (1 + k) ≡ suc i + k = omega arith in ap p e) in
     ap (λ j. count j p) whole
     ∙ omega (arith, count-append i (1 + m) p, count-append 1 m (λ k. p (i + k)), one (λ k. p (i + k)))
   where

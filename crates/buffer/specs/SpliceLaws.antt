@@ -6,7 +6,8 @@ use native.Mathlib.Nat.{zero-add, suc-add}
 use native.Mathlib.Omega.{arith}
 use native.Mathlib.Numerals.{add-one}
 use lib.ListN.{length, take, drop, set, length-append, length-take, length-drop, take-append-drop, drop-of-length-le}
-use lib.Seq.{take-append-le, drop-append-le, take-append-add, drop-append-add, take-at, drop-at, take-nil, take-take, take-all, take-add, drop-drop, set-split, length-take-le}
+use lib.Seq.{take-append-le, drop-append-le, take-append-add, drop-append-add, take-at, drop-at}
+use lib.Seq.{take-nil, take-take, take-all, take-add, drop-drop, set-split, length-take-le}
 use Rattle.buffer.specs.Bytes.{part, splice}
 
 -- ---- lengths
@@ -83,8 +84,12 @@ part-splice-before at n o m new s h l =
 pub splice-next : (at n m : ℕ) (x y s : List ℕ) → at ≤ length s → length x ≡ n → splice (at + n) m y (splice at n x s) ≡ splice at (n + m) (x ++ y) s
 unfolding splice
 splice-next at n m x y s h e =
-    rw
-    (← append-assoc (take at s) x (drop n (drop at s)), take-at (take at s ++ x) (drop n (drop at s)) (at + n) both, drop-at (take at s ++ x) (drop n (drop at s)) (at + n) both, drop-drop m n (drop at s))
+    rw (
+      ← append-assoc (take at s) x (drop n (drop at s)),
+      take-at (take at s ++ x) (drop n (drop at s)) (at + n) both,
+      drop-at (take at s ++ x) (drop n (drop at s)) (at + n) both,
+      drop-drop m n (drop at s),
+    )
     (simp append-assoc)
   where
     both : length (take at s ++ x) ≡ at + n

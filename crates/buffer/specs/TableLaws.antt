@@ -59,7 +59,8 @@ unfolding tab
 tab-room zero i f h = absurd (not-suc-le-zero h)
 tab-room (suc n) i f h = go (le-suc-iff .0 h) (tab-room n i f)
   where
-    go : (suc i ≤ n) ⊎ (suc i ≡ suc n) → (i < n → length (tab i f) + length (f i) ≤ length (tab n f)) → length (tab i f) + length (f i) ≤ length (tab n f ++ f n)
+    go : (suc i ≤ n) ⊎ (suc i ≡ suc n) → (i < n → length (tab i f) + length (f i) ≤ length (tab n f))
+        → length (tab i f) + length (f i) ≤ length (tab n f ++ f n)
     go (inl a) ih = simp length-append (omega (arith, ih a))
     go (inr e) ih =
         let same : i ≡ n = omega arith in

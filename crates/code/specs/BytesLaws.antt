@@ -1,24 +1,23 @@
--- Rebuilding bytes, both halves together. A reader wants `rebuilt-bytes-have` (the rebuilt bytes have the given bytes
--- at the columns), `bytes-fixed` (four different columns fix four bytes), `bytes-back` and `byte-back` (rebuilding what was encoded gives the data,
--- all four or one place), `encode-data` (columns 0 to 3 are the data).
+-- Rebuilding bytes, both halves together. A reader wants `rebuilt-bytes-have` (the rebuilt bytes have the given bytes at the columns), `bytes-fixed`
+-- (four different columns fix four bytes), `encode-data` (columns 0 to 3 are the data).
 use mathlib.Core.Path.{_≡_, refl, ap, ap₂, _∙_, sym}
 use mathlib.Core.Bool.{true}
 use mathlib.Core.List.{List, [], _∷_, map}
-use Prim.Native.Nat.{ℕ, _+_, _*_, _≤_, _<_}
-use native.Mathlib.Nat.{div-add-mod', le-of-suc-le-suc}
+use Prim.Native.Nat.{ℕ, _+_, _*_, _<_}
+use native.Mathlib.Nat.{div-add-mod'}
 use native.Mathlib.Omega.{arith}
 use lib.Bits.{xor-zero-l, xor-zero-r}
 use lib.Dec.{lit<}
 use lib.ListN.{length, getD, length-map}
 use Rattle.field.specs.ByteLaws.{scale-one, scale-zero}
 use Rattle.code.specs.Matrix.{matrix, entry, encode, within, different}
-use Rattle.code.specs.MatrixLaws.{column, column-within}
-use Rattle.code.specs.Lists.{four, each-four, within-at, within-four, within-map, getD-map}
+use Rattle.code.specs.MatrixLaws.{column}
+use Rattle.code.specs.Lists.{four, each-four, within-at, getD-map}
 use Rattle.code.specs.Fixing.{fixes}
 use Rattle.code.specs.Weights.{weightsOf, mixed, data-of}
 use Rattle.code.specs.WeightsLaws.{weights-within, rebuilt-has}
 use Rattle.code.specs.Bytes.{encode-bytes}
-use Rattle.code.specs.Halves.{Half, high, low, mixed-bound, encode-mixed, encode-half}
+use Rattle.code.specs.Halves.{Half, high, low, encode-mixed, encode-half}
 
 -- the data bytes rebuilt from the bytes ys at the columns cs
 abbrev pub bytes-of : List ℕ → List ℕ → List ℕ
@@ -63,34 +62,6 @@ pub bytes-fixed : (cs : List ℕ) → length cs ≡ 4 → within 16 cs ≡ true 
     → within 255 ds ≡ true → within 255 es ≡ true → ((j : ℕ) → j < 4 → encode-bytes ds (getD cs j 0) ≡ encode-bytes es (getD cs j 0)) → ds ≡ es
 bytes-fixed cs lc w d ds es ld le vd ve a =
     sym (joined-halves ds) ∙ ap₂ joined (half-fixed high cs lc w d ds es ld le vd ve a) (half-fixed low cs lc w d ds es ld le vd ve a) ∙ joined-halves es
-
--- ---- rebuilding what was encoded gives the data
-pub encode-bytes-bound : (ds : List ℕ) → length ds ≡ 4 → within 255 ds ≡ true → (c : ℕ) → c < 17 → encode-bytes ds c < 256
-encode-bytes-bound ds l v c h = omega (arith, encode-mixed ds l c h, mixed-bound (column c) ds (column-within c h) v)
-
-pub bytes-of-within : (cs ys : List ℕ) → within 255 ys ≡ true → within 255 (bytes-of cs ys) ≡ true
-bytes-of-within cs ys v = within-four 255 _ _ _ _ (low 0) (low 1) (low 2) (low 3)
-  where
-    low : (q : ℕ) → mixed (weightsOf cs q) ys ≤ 255
-    low q = le-of-suc-le-suc (mixed-bound (weightsOf cs q) ys (weights-within cs q) v)
-
-pub bytes-back : (cs : List ℕ) → length cs ≡ 4 → within 16 cs ≡ true → different cs ≡ true → (ds : List ℕ) → length ds ≡ 4 → within 255 ds ≡ true
-    → bytes-of cs (map (encode-bytes ds) cs) ≡ ds
-bytes-back cs lc w d ds ld v =
-    bytes-fixed cs lc w d (bytes-of cs ys) ds refl ld (bytes-of-within cs ys within-ys) v
-    (λ j h. rebuilt-bytes-have cs lc w d ys (length-map cs (encode-bytes ds) ∙ lc) within-ys j h ∙ getD-map (encode-bytes ds) cs j (omega arith))
-  where
-    ys : List ℕ
-    ys = map (encode-bytes ds) cs
-
-    within-ys : within 255 ys ≡ true
-    within-ys = within-map 16 255 (encode-bytes ds) (λ c h. le-of-suc-le-suc (encode-bytes-bound ds ld v c (omega arith))) cs w
-
-pub byte-back : (cs : List ℕ) → length cs ≡ 4 → within 16 cs ≡ true → different cs ≡ true → (ds : List ℕ) → length ds ≡ 4 → within 255 ds ≡ true
-    → (q : ℕ) → q < 4 → mixed (weightsOf cs q) (map (encode-bytes ds) cs) ≡ getD ds q 0
-byte-back cs lc w d ds ld v q h =
-    each-four (λ p. mixed (weightsOf cs p) (map (encode-bytes ds) cs) ≡ getD (bytes-of cs (map (encode-bytes ds) cs)) p 0) refl refl refl refl q h
-    ∙ ap (λ (l : List ℕ). getD l q 0) (bytes-back cs lc w d ds ld v)
 
 -- ---- columns 0 to 3 are the data themselves
 at : (ds : List ℕ) → length ds ≡ 4 → within 255 ds ≡ true → (q : ℕ) → q < 4 → getD ds q 0 < 256

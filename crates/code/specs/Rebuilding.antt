@@ -1,16 +1,20 @@
--- The contract of rebuilding fixes its answer. A reader wants `only`: one number and one list of data meet `Rebuilds`; and `answered`: for any columns
--- and symbols some do.
+-- The contract of rebuilding fixes its answer. A reader wants `only`: one number and one list of data meet `Rebuilds`; `answered`: for any columns
+-- and symbols some do; and `returned`: of symbols that were encoded the answer is the data.
 use mathlib.Core.Path.{_≡_, refl, sym, _∙_}
 use mathlib.Core.Bool.{Bool, true, false, _&&_}
-use mathlib.Core.List.{List, [], _∷_}
-use Prim.Native.Nat.{ℕ}
+use mathlib.Core.List.{List, [], _∷_, map}
+use Prim.Native.Nat.{ℕ, _≤_}
+use native.Mathlib.Omega.{arith}
 use lib.ListN.{length}
 use Rattle.algebra.specs.Every.{yes-true}
-use Rattle.code.specs.Matrix.{within, different, accepted, Rebuilds}
-use Rattle.code.specs.Lists.{both-first, both-second}
+use Rattle.code.specs.Matrix.{encode, within, different, accepted, Rebuilds}
+use Rattle.code.specs.Lists.{both-first, both-second, within-map, getD-map}
+use Rattle.code.specs.Columns.{FourColumns}
+use Rattle.code.specs.MatrixLaws.{column, column-within}
 use Rattle.code.specs.Fixing.{fixes}
 use Rattle.code.specs.Weights.{data-of}
-use Rattle.code.specs.WeightsLaws.{data-within, rebuilt-has}
+use Rattle.code.specs.WeightsLaws.{combination-bound, data-within, rebuilt-has}
+use Rattle.code.specs.Halves.{encode-column}
 
 -- what is accepted
 pub accepted-within : (cs ys : List ℕ) → accepted cs ys ≡ true → within 16 cs ≡ true
@@ -64,3 +68,18 @@ only cs ys l n k ds es p q = by (accepted cs ys) refl
     by : (b : Bool) → accepted cs ys ≡ b → (n ≡ k) × (ds ≡ es)
     by true a = same cs ys l a n k ds es p q
     by false a = (p .refused a .0 ∙ sym (q .refused a .0), p .refused a .1 ∙ sym (q .refused a .1))
+
+-- rebuilding what was encoded returns the data
+pub returned : (cs : List ℕ) → FourColumns cs → (ds : List ℕ) → length ds ≡ 4 → within 15 ds ≡ true → (n : ℕ) (es : List ℕ)
+    → Rebuilds cs (map (encode ds) cs) n es → (n ≡ 0) × (es ≡ ds)
+returned cs four ds l w n es p =
+    let g = p .granted allowed in (
+      g .0,
+      fixes cs (four .long) (four .low) (four .apart) es ds (g .1) l (g .2) w (λ j i. g .3 j i ∙ getD-map (encode ds) cs j (omega (arith, four .long))),
+    )
+  where
+    symbol : (c : ℕ) → c ≤ 16 → encode ds c ≤ 15
+    symbol c h = omega (arith, encode-column ds l c, combination-bound (column c) ds (column-within c (omega arith)) w)
+
+    allowed : accepted cs (map (encode ds) cs) ≡ true
+    allowed = unfold accepted in rw (four .low, four .apart) (within-map 16 15 (encode ds) symbol cs (four .low))

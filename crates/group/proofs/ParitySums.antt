@@ -13,13 +13,13 @@ use Rattle.buffer.specs.Bytes.{byte}
 use Rattle.buffer.specs.LoopWrites.{Filling, filling-end}
 use Rattle.algebra.specs.Every.{every, every-at}
 use Rattle.algebra.specs.Xor.{xor-assoc}
-use Rattle.field.specs.Byte.{scale}
-use Rattle.field.specs.ByteLaws.{scale-add, add-scale, scale-one}
+use Rattle.code.specs.Scaling.{scale}
+use Rattle.code.specs.ScalingLaws.{scale-add, add-scale, scale-one}
 use Rattle.code.specs.Matrix.{matrix, entry}
 use Rattle.group.specs.Widths.{bodyBytes}
 use Rattle.group.specs.Body.{scaleBody}
 use Rattle.group.specs.BodyLaws.{length-scale, byte-scale}
-use Rattle.group.specs.Parity.{coefficient, parity}
+use Rattle.group.specs.Parity.{coefficient, bodyAt, parity}
 use Rattle.group.specs.ParityLaws.{byte-sum4, length-parity}
 use Rattle.group.specs.Four.{fourBodies}
 use Rattle.group.specs.ScaledRow.{scaledRow}
@@ -102,7 +102,7 @@ module _ (a b c d : List ℕ) (la : length a ≡ bodyBytes) (lb : length b ≡ b
   four-long = below-four (λ p. length (fourBodies a b c d p) ≡ bodyBytes) la lb lc ld
 
   parity-byte : (j i : ℕ) → i < bodyBytes → byte (parity j (fourBodies a b c d)) i ≡ mixture j (λ p. byte (fourBodies a b c d p) i)
-  unfolding parity
+  unfolding parity bodyAt coefficient
   parity-byte j i l =
       byte-sum4 bodyBytes (λ p. scaleBody (coefficient p j) (fourBodies a b c d p)) (λ p k. length-scale (coefficient p j) (fourBodies a b c d p) ∙ four-long p k) i
       ∙ total-ext

@@ -1,8 +1,19 @@
 -- Bodies: lists of bytes of one length, each byte two symbols of GF(16), high half first. Assumes nothing.
-use Prim.Native.Nat.{ℕ}
+use Prim.Native.Nat.{ℕ, _<_}
+use mathlib.Core.Path.{_≡_}
 use mathlib.Core.List.{List, map, zipWith}
 use lib.Bits.{bitXor}
-use Rattle.field.specs.Byte.{scale}
+use lib.ListN.{length}
+use Rattle.buffer.specs.Bytes.{byte}
+use Rattle.code.specs.Scaling.{scale}
+
+-- n bytes, and four bodies of n bytes
+pub record IsBody (n : ℕ) (x : List ℕ) : Type 0 where
+  pub size : length x ≡ n
+  pub bytes : (i : ℕ) → byte x i < 256
+
+abbrev pub Bodies : ℕ → (ℕ → List ℕ) → Type 0
+Bodies n f = (p : ℕ) → p < 4 → IsBody n (f p)
 
 -- the sum of two bodies, symbol by symbol
 unfoldable pub addBody : List ℕ → List ℕ → List ℕ

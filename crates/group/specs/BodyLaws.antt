@@ -11,14 +11,9 @@ use Rattle.buffer.specs.Bytes.{byte, zeros}
 use Rattle.buffer.specs.ByteLaws.{byte-zeros, length-zeros, bytes-ext}
 use Rattle.buffer.specs.Loops.{entries}
 use Rattle.buffer.specs.RangeLaws.{entries-of}
-use Rattle.field.specs.Byte.{scale}
-use Rattle.field.specs.ByteLaws.{scale-bound, scale-add, add-scale}
-use Rattle.group.specs.Body.{addBody, scaleBody}
-
--- n bytes
-pub record IsBody (n : ℕ) (x : List ℕ) : Type 0 where
-  pub size : length x ≡ n
-  pub bytes : (i : ℕ) → byte x i < 256
+use Rattle.code.specs.Scaling.{scale}
+use Rattle.code.specs.ScalingLaws.{scale-add}
+use Rattle.group.specs.Body.{IsBody, addBody, scaleBody}
 
 -- ---- lengths
 pub length-add : (n : ℕ) (x y : List ℕ) → length x ≡ n → length y ≡ n → length (addBody x y) ≡ n
@@ -105,11 +100,6 @@ scale-sum c h [] y = refl
 scale-sum c h (a ∷ x) [] = refl
 scale-sum c h (a ∷ x) (b ∷ y) = ap₂ (λ (u : ℕ) (v : List ℕ). u ∷ v) (scale-add c a b h) (scale-sum c h x y)
 
-pub sum-scale : (c d : ℕ) → c < 16 → d < 16 → (x : List ℕ) → scaleBody (bitXor c d) x ≡ addBody (scaleBody c x) (scaleBody d x)
-unfolding scaleBody addBody zipWith
-sum-scale c d h k [] = refl
-sum-scale c d h k (a ∷ x) = ap₂ (λ (u : ℕ) (v : List ℕ). u ∷ v) (add-scale c d a h k) (sum-scale c d h k x)
-
 -- a symbol times the byte 0
 scale-none : (c : ℕ) → c < 16 → scale c 0 ≡ 0
 scale-none c h = scale-add c 0 0 h ∙ xor-self (scale c 0)
@@ -119,12 +109,6 @@ scale-zeros c n h =
     bytes-ext (scaleBody c (zeros n)) (zeros n) (length-scale c (zeros n)) (λ i l.
     byte-scale c (zeros n) i (rw (length-scale c (zeros n)) at l) ∙ rw byte-zeros (scale-none c h))
 
--- ---- bodies stay bodies
+-- ---- zeros are a body
 pub zeros-is : (n : ℕ) → IsBody n (zeros n)
 zeros-is n = record { size = length-zeros n; bytes = λ i. omega (arith, byte-zeros n i) }
-
-scale-bytes : (c : ℕ) → c < 16 → (x : List ℕ) → ((i : ℕ) → byte x i < 256) → (i : ℕ) → byte (scaleBody c x) i < 256
-unfolding scaleBody
-scale-bytes c h [] q i = omega arith
-scale-bytes c h (a ∷ x) q zero = scale-bound c a h (q zero)
-scale-bytes c h (a ∷ x) q (suc i) = scale-bytes c h x (λ k. q (suc k)) i

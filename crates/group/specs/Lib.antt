@@ -15,4 +15,3 @@ pub mod MembersLaws
 pub mod Rebuilding
 pub mod WeighedLaws
 pub mod RebuildingLaws
-pub mod Values

@@ -1,17 +1,18 @@
 -- Laws of a group's members: a group that is not beyond recovery has four members in service (`enough`), and the first four are different, in
--- rising order and in service (`first-four`). Assumes nothing.
-use mathlib.Core.Path.{_≡_, refl, ap, _∙_}
+-- rising order and in service (`first-four`); with a data unit out a check unit serves (`check-serves`), and each data unit in service is among the
+-- first four (`data-chosen`). Assumes nothing.
+use mathlib.Core.Path.{_≡_, refl, ap, ap₂, _∙_}
 use mathlib.Core.Bool.{Bool, true, false, not}
 use mathlib.Core.List.{List, [], _∷_}
 use Prim.Native.Nat.{ℕ, zero, suc, _+_, _-_, _≤_, _<_}
 use native.Mathlib.Omega.{arith}
 use lib.Dec.{eqb, ltb}
 use lib.ListN.{length, getD}
-use borrow.Author.Tests.{lt-ltb, le-ltb, ltb-false}
+use borrow.Author.Tests.{eq-eqb, eqb-true, eqb-false, lt-ltb, le-ltb, ltb-false}
 use Rattle.buffer.specs.Choice.{pick}
-use Rattle.buffer.specs.ChoiceLaws.{pick-true, pick-false}
+use Rattle.buffer.specs.ChoiceLaws.{by-test, pick-true, pick-false}
 use Rattle.buffer.specs.Range.{count, first}
-use Rattle.buffer.specs.RangeLaws.{below-four, count-ext, count-append, count-parts, count-not, count-first, first-found, first-holds}
+use Rattle.buffer.specs.RangeLaws.{below-four, count-ext, count-append, count-parts, count-not, count-pos, count-first, first-found, first-holds, first-le-at}
 use Rattle.group.specs.Members.{outs, checks, beyond, serves, next, firstFour}
 
 -- ---- who is in service
@@ -33,19 +34,34 @@ in-place (suc zero) h = refl
 in-place (suc (suc zero)) h = refl
 in-place (suc (suc (suc x))) h = absurd (omega arith)
 
+-- members in service are data units that are not out and check units in service
+pub serving-parts : (d c : ℕ → ℕ) → count 7 (serves d c) ≡ count 4 (λ p. not (eqb (d p) 2)) + count 3 (λ j. eqb (c j) 1)
+serving-parts d c =
+    count-append 4 3 (serves d c)
+    ∙ ap₂ (λ (m n : ℕ). m + n) (count-ext 4 (serves d c) (λ p. not (eqb (d p) 2)) (serves-data d c))
+    (count-ext 3 (λ j. serves d c (4 + j)) (λ j. eqb (c j) 1) (λ j l. serves-check d c j))
+
 -- members in service and units out, together: the four places and the check units in place
 pub serving : (d c : ℕ → ℕ) → ((j : ℕ) → j < 3 → c j ≤ 2) → count 7 (serves d c) + outs d c ≡ 4 + checks c
 unfolding outs checks
 serving d c h =
-    let places : count 4 (serves d c) ≡ count 4 (λ p. not (eqb (d p) 2)) = count-ext 4 (serves d c) (λ p. not (eqb (d p) 2)) (serves-data d c) in
-    let check : count 3 (λ j. serves d c (4 + j)) ≡ count 3 (λ j. eqb (c j) 1) = count-ext 3 (λ j. serves d c (4 + j)) (λ j. eqb (c j) 1) (λ j l. serves-check d c j) in
-    omega
-    (arith, count-append 4 3 (serves d c), places, check, count-not 4 (λ p. eqb (d p) 2), count-parts 3 (λ j. eqb (c j) 1) (λ j. eqb (c j) 2) (λ j. ltb 0 (c j)) (λ j l. in-place (c j) (h j l)))
+    omega (
+      arith,
+      serving-parts d c,
+      count-not 4 (λ p. eqb (d p) 2),
+      count-parts 3 (λ j. eqb (c j) 1) (λ j. eqb (c j) 2) (λ j. ltb 0 (c j)) (λ j l. in-place (c j) (h j l)),
+    )
 
 -- not beyond recovery is the same as four in service
 pub enough : (d c : ℕ → ℕ) → ((j : ℕ) → j < 3 → c j ≤ 2) → beyond d c ≡ false → 4 ≤ count 7 (serves d c)
 unfolding beyond
 enough d c h e = omega (arith, serving d c h, ltb-false (checks c) (outs d c) e)
+
+-- with a data unit out, one of the four is a check unit
+pub check-serves : (d c : ℕ → ℕ) (p : ℕ) → p < 4 → d p ≡ 2 → 4 ≤ count 7 (serves d c) → first 3 (λ j. eqb (c j) 1) < 3
+check-serves d c p l e h =
+    first-found 3 (λ j. eqb (c j) 1)
+    (omega (arith, serving-parts d c, count-not 4 (λ p. eqb (d p) 2), count-pos 4 (λ p. eqb (d p) 2) p l (eq-eqb (d p) 2 e)))
 
 -- four different members in service, by rising number
 pub record Members (on : ℕ → Bool) (l : List ℕ) : Type 0 where
@@ -111,3 +127,34 @@ module _ (on : ℕ → Bool) where
         serving = below-four (λ i. on (getD l i 0) ≡ true) (na .serves) (nb .serves) (ne .serves) (nf .serves);
         rising = λ i k q r. rises a b e f (nb .late) (ne .late) (nf .late) k r i q;
       }
+
+  -- no member in service is passed over
+  next-most : (a m : ℕ) → a ≤ m → m < 7 → on m ≡ true → next on a ≤ m
+  unfolding next
+  next-most a m l k e =
+      let d : a + (m - a) ≡ m = omega arith in
+      omega (arith, first-le-at (7 - a) (λ k. on (a + k)) (m - a) (omega arith) (ap on d ∙ e))
+
+  -- a data unit in service is one of the first four
+  pub data-chosen : 4 ≤ count 7 on → (p : ℕ) → p < 4 → on p ≡ true → (i : ℕ) × (i < 4) × (getD (firstFour on) i 0 ≡ p)
+  unfolding firstFour
+  data-chosen h p l e =
+      let a : ℕ = next on 0 in
+      let b : ℕ = next on (suc a) in
+      let c : ℕ = next on (suc b) in
+      let d : ℕ = next on (suc c) in
+      let m : Members on (firstFour on) = first-four h in
+      let ab : a < b = m .rising 0 1 (omega arith) (omega arith) in
+      let bc : b < c = m .rising 1 2 (omega arith) (omega arith) in
+      let cd : c < d = m .rising 2 3 (omega arith) (omega arith) in
+      let most : a ≤ p = next-most 0 p (omega arith) (omega arith) e in
+      by-test (λ _. Chosen) (eqb a p) (λ t. (0, omega arith, eqb-true a p t)) (λ t.
+      let l1 : suc a ≤ p = omega (arith, eqb-false a p t) in
+      by-test (λ _. Chosen) (eqb b p) (λ t. (1, omega arith, eqb-true b p t)) (λ t.
+      let l2 : suc b ≤ p = omega (arith, eqb-false b p t, next-most (suc a) p l1 (omega arith) e) in
+      by-test (λ _. Chosen) (eqb c p) (λ t. (2, omega arith, eqb-true c p t)) (λ t.
+      let l3 : suc c ≤ p = omega (arith, eqb-false c p t, next-most (suc b) p l2 (omega arith) e) in
+      (3, omega arith, omega (arith, next-most (suc c) p l3 (omega arith) e)))))
+    where
+      Chosen : Type 0
+      Chosen = (i : ℕ) × (i < 4) × (getD (firstFour on) i 0 ≡ p)

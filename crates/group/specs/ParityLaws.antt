@@ -1,5 +1,5 @@
--- Laws of parity. Adding the change of one body, times its coefficient, gives the parity made anew (`parity-upd`); done to a wrong parity, it
--- leaves the same error in it (`parity-error`). Assumes nothing.
+-- Laws of four bodies at a column, and of parity. Adding the change of one body, times its coefficient, gives the body at the column made anew
+-- (`at-upd`, for parity `parity-upd`); done to a wrong parity, it leaves the same error in it (`parity-error`). Assumes nothing.
 use mathlib.Core.Path.{_≡_, refl, sym, ap, ap₂, _∙_}
 use mathlib.Core.List.{List}
 use Prim.Native.Nat.{ℕ, _+_, _<_}
@@ -16,16 +16,12 @@ use Rattle.buffer.specs.Loops.{entries}
 use Rattle.buffer.specs.RangeLaws.{below-four, entries-of}
 use Rattle.buffer.specs.Table.{upd}
 use Rattle.buffer.specs.TableLaws.{upd-at, upd-other}
+use Rattle.code.specs.Matrix.{entry}
 use Rattle.code.specs.MatrixLaws.{entry-bound}
-use Rattle.field.specs.Byte.{scale}
+use Rattle.code.specs.Scaling.{scale}
 use Rattle.group.specs.Body.{addBody, scaleBody}
 use Rattle.group.specs.BodyLaws.{length-add, length-scale, byte-add, byte-scale, add-swap, add-self, add-zeros, zeros-add, add-back, scale-sum, scale-zeros}
-use Rattle.group.specs.Parity.{coefficient, sum4, parity, adjusted}
-
--- ---- a coefficient is a symbol
-pub coefficient-lt : (p j : ℕ) → p < 4 → j < 3 → coefficient p j < 16
-unfolding coefficient
-coefficient-lt p j h k = entry-bound p (4 + j) h (omega arith)
+use Rattle.group.specs.Parity.{coefficient, sum4, bodyAt, parity, adjusted}
 
 -- ---- sums over the four places
 pub sum4-ext : (f g : ℕ → List ℕ) → ((p : ℕ) → p < 4 → f p ≡ g p) → sum4 f ≡ sum4 g
@@ -101,21 +97,58 @@ sum4-upd n f h p x l e =
         upd-other f p x q (eqb-false q p t)
         ∙ sym (ap (addBody (f q)) (upd-other (λ _. zeros n) p d q (eqb-false q p t)) ∙ add-zeros n (f q) (h q k)))
 
+-- ---- at a column
+pub at-ext : (c : ℕ) (f g : ℕ → List ℕ) → ((p : ℕ) → p < 4 → f p ≡ g p) → bodyAt c f ≡ bodyAt c g
+unfolding bodyAt
+at-ext c f g h = sum4-ext _ _ (λ p l. ap (scaleBody (entry p c)) (h p l))
+
+pub length-at : (n c : ℕ) (f : ℕ → List ℕ) → ((p : ℕ) → p < 4 → length (f p) ≡ n) → length (bodyAt c f) ≡ n
+unfolding bodyAt
+length-at n c f h = length-sum4 n _ (λ p l. length-scale (entry p c) (f p) ∙ h p l)
+
+-- empty bodies
+at-zeros : (n c : ℕ) → c < 17 → bodyAt c (λ _. zeros n) ≡ zeros n
+unfolding bodyAt
+at-zeros n c k =
+    sum4-ext (λ p. scaleBody (entry p c) (zeros n)) (λ _. zeros n) (λ p l. scale-zeros (entry p c) n (entry-bound p c l k))
+    ∙ (unfold sum4 in simp (add-zeros n (zeros n) (length-zeros n)))
+
+-- THE LAW OF CHANGE
+pub at-upd : (n c p : ℕ) → c < 17 → p < 4 → (bodies : ℕ → List ℕ) → ((q : ℕ) → q < 4 → length (bodies q) ≡ n) → (new : List ℕ) → length new ≡ n
+    → bodyAt c (upd bodies p new) ≡ addBody (bodyAt c bodies) (scaleBody (entry p c) (addBody (bodies p) new))
+unfolding bodyAt
+at-upd n c p hc hp bodies h new e =
+    sum4-ext (λ q. scaleBody (entry q c) (upd bodies p new q)) (upd terms p (scaleBody (entry p c) new)) (λ q k. at q)
+    ∙ sum4-upd n terms (λ q k. length-scale (entry q c) (bodies q) ∙ h q k) p (scaleBody (entry p c) new) hp (length-scale (entry p c) new ∙ e)
+    ∙ ap (addBody (sum4 terms)) (sym (scale-sum (entry p c) (entry-bound p c hp hc) (bodies p) new))
+  where
+    terms : ℕ → List ℕ
+    terms = λ q. scaleBody (entry q c) (bodies q)
+
+    at : (q : ℕ) → scaleBody (entry q c) (upd bodies p new q) ≡ upd terms p (scaleBody (entry p c) new) q
+    at q =
+        by-test
+        (λ _. scaleBody (entry q c) (upd bodies p new q) ≡ upd terms p (scaleBody (entry p c) new) q)
+        (eqb q p)
+        (λ t.
+        let same : q ≡ p = eqb-true q p t in
+        ap₂ (λ k x. scaleBody (entry k c) x) same (upd-at bodies p new q same) ∙ sym (upd-at terms p (scaleBody (entry p c) new) q same))
+        (λ t.
+        ap (scaleBody (entry q c)) (upd-other bodies p new q (eqb-false q p t))
+        ∙ sym (upd-other terms p (scaleBody (entry p c) new) q (eqb-false q p t)))
+
 -- ---- parity
 pub parity-ext : (j : ℕ) (f g : ℕ → List ℕ) → ((p : ℕ) → p < 4 → f p ≡ g p) → parity j f ≡ parity j g
 unfolding parity
-parity-ext j f g h = sum4-ext _ _ (λ p l. ap (scaleBody (coefficient p j)) (h p l))
+parity-ext j f g h = at-ext _ f g h
 
 pub length-parity : (n j : ℕ) (f : ℕ → List ℕ) → ((p : ℕ) → p < 4 → length (f p) ≡ n) → length (parity j f) ≡ n
 unfolding parity
-length-parity n j f h = length-sum4 n _ (λ p l. length-scale (coefficient p j) (f p) ∙ h p l)
+length-parity n j f h = length-at n _ f h
 
--- the parity of empty bodies
 pub parity-zeros : (n j : ℕ) → j < 3 → parity j (λ _. zeros n) ≡ zeros n
 unfolding parity
-parity-zeros n j k =
-    sum4-ext (λ p. scaleBody (coefficient p j) (zeros n)) (λ _. zeros n) (λ p l. scale-zeros (coefficient p j) n (coefficient-lt p j l k))
-    ∙ (unfold sum4 in simp (add-zeros n (zeros n) (length-zeros n)))
+parity-zeros n j k = at-zeros n _ (omega arith)
 
 -- a change, as code writes it, byte by byte
 pub length-adjusted : (n j p : ℕ) (change old : List ℕ) → length change ≡ n → length old ≡ n → length (adjusted j p change old) ≡ n
@@ -133,31 +166,9 @@ add-scaled-entries c x y e =
     (λ i h. byte-add x (scaleBody c y) i k ∙ ap (bitXor (byte x i)) (byte-scale c y i (rw (← e) h)))
 
 module _ (n j p : ℕ) (j3 : j < 3) (p4 : p < 4) (bodies : ℕ → List ℕ) (h : (q : ℕ) → q < 4 → length (bodies q) ≡ n) (new : List ℕ) (e : length new ≡ n) where
-  -- THE LAW OF CHANGE
   pub parity-upd : parity j (upd bodies p new) ≡ adjusted j p (addBody (bodies p) new) (parity j bodies)
-  unfolding parity adjusted
-  parity-upd =
-      sum4-ext (λ q. scaleBody (coefficient q j) (upd bodies p new q)) (upd terms p (scaleBody c new)) (λ q k. at q)
-      ∙ sum4-upd n terms (λ q k. length-scale (coefficient q j) (bodies q) ∙ h q k) p (scaleBody c new) p4 (length-scale c new ∙ e)
-      ∙ ap (addBody (sum4 terms)) (sym (scale-sum c (coefficient-lt p j p4 j3) (bodies p) new))
-    where
-      c : ℕ
-      c = coefficient p j
-
-      terms : ℕ → List ℕ
-      terms = λ q. scaleBody (coefficient q j) (bodies q)
-
-      at : (q : ℕ) → scaleBody (coefficient q j) (upd bodies p new q) ≡ upd terms p (scaleBody c new) q
-      at q =
-          by-test
-          (λ _. scaleBody (coefficient q j) (upd bodies p new q) ≡ upd terms p (scaleBody c new) q)
-          (eqb q p)
-          (λ t.
-          let same : q ≡ p = eqb-true q p t in
-          ap₂ (λ k x. scaleBody (coefficient k j) x) same (upd-at bodies p new q same) ∙ sym (upd-at terms p (scaleBody c new) q same))
-          (λ t.
-          ap (scaleBody (coefficient q j)) (upd-other bodies p new q (eqb-false q p t))
-          ∙ sym (upd-other terms p (scaleBody c new) q (eqb-false q p t)))
+  unfolding parity adjusted coefficient
+  parity-upd = at-upd n (4 + j) p (omega arith) p4 bodies h new e
 
   -- a wrong parity y stays wrong by the same error
   pub parity-error : (y : List ℕ) → length y ≡ n

@@ -12,6 +12,10 @@ use Rattle.group.specs.Members.{firstFour}
 unfoldable pub weighed : List ℕ → (ℕ → List ℕ) → List ℕ
 weighed ws bodies = sum4 (λ i. scaleBody (getD ws i 0) (bodies i))
 
+-- the body of place p, from what is held at the four columns cs: hold i at the i-th of them
+abbrev pub rebuiltFrom : List ℕ → (ℕ → List ℕ) → ℕ → List ℕ
+rebuiltFrom cs hold p = weighed (weightsOf cs p) hold
+
 -- the body of place p, from what the first four members in service hold; on tells who is in service
 unfoldable pub rebuilt : (ℕ → Bool) → (ℕ → List ℕ) → ℕ → List ℕ
-rebuilt on hold p = weighed (weightsOf (firstFour on) p) (λ i. hold (getD (firstFour on) i 0))
+rebuilt on hold p = rebuiltFrom (firstFour on) (λ i. hold (getD (firstFour on) i 0)) p

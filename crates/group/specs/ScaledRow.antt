@@ -2,7 +2,7 @@
 use Prim.Native.Nat.{ℕ}
 use mathlib.Core.List.{List}
 use Rattle.buffer.specs.Loops.{entries}
-use Rattle.field.specs.Byte.{scale}
+use Rattle.code.specs.Scaling.{scale}
 
 -- the products of every byte with the symbol w
 unfoldable pub scaledRow : ℕ → List ℕ

@@ -10,7 +10,8 @@ use borrow.Author.Tests.{ne-eqb, lt-ltb, le-ltb}
 use Rattle.buffer.specs.ChoiceLaws.{by-test, pick-true}
 use Rattle.buffer.specs.TestLaws.{and-false-first, and-false-second, not-both}
 use Rattle.buffer.specs.Bytes.{byte, zeros}
-use Rattle.lines.specs.Digits.{hexAt, numberAt, bytesAt, Numbered, Embodied}
+use Rattle.group.specs.Widths.{bodyBytes}
+use Rattle.lines.specs.Digits.{bodyDigits, hexAt, numberAt, bytesAt, Numbered, Embodied}
 use Rattle.lines.specs.Line.{line, unreadable, digitsOf, hasBody, lengthOf, readable, parsed}
 use Rattle.lines.specs.LineLaws.{
   Readable,
@@ -40,7 +41,7 @@ module _ (l : List ℕ) (c n : ℕ) (letter : c ≡ byte l 0) (digits : n ≡ di
   pub misfit : (length l ≡ lengthOf c → ⊥) → parsed l ≡ unreadable
   misfit h = refused l (λ r. not-both (r .size) (ne-eqb (length l) (lengthOf (byte l 0)) (λ e. h (e ∙ ap lengthOf (sym letter)))))
 
-  pub bare : n ≡ 0 → length l ≡ lengthOf c → line c 0 (zeros 16) ≡ parsed l
+  pub bare : n ≡ 0 → length l ≡ lengthOf c → line c 0 (zeros bodyBytes) ≡ parsed l
   bare h s = sym (parsed-bare l c letter (sym digits ∙ h) (s ∙ length-bare c (sym digits ∙ h)) .1)
 
 -- ---- with arguments, in a line of the right length
@@ -55,7 +56,7 @@ module _ {l : List ℕ} {c n : ℕ} (a : Argued l c n) where
   some-digits : digitsOf c ≡ 0 → ⊥
   some-digits e = a .some (a .digits ∙ e)
 
-  pub body-length : hasBody c ≡ true → length l ≡ 43
+  pub body-length : hasBody c ≡ true → length l ≡ 11 + bodyDigits
   body-length b = a .whole ∙ length-body c b
 
   pub number-length : hasBody c ≡ false → length l ≡ 2 + n
@@ -77,7 +78,7 @@ module _ {l : List ℕ} {c n : ℕ} (a : Argued l c n) where
       (r .first)
       (rw (← a .letter, ← a .digits, ne-eqb n 0 (a .some)) h))
 
-  second-fails : hasBody c ≡ true → (eqb (byte l 10) 32 && hexAt l 11 32) ≡ false → parsed l ≡ unreadable
+  second-fails : hasBody c ≡ true → (eqb (byte l 10) 32 && hexAt l 11 bodyDigits) ≡ false → parsed l ≡ unreadable
   second-fails b h = refused l (λ r. not-both (r .second) (rw (← a .letter, pick-true b) h))
 
   pub no-space : (byte l 1 ≡ 32 → ⊥) → parsed l ≡ unreadable
@@ -90,13 +91,14 @@ module _ {l : List ℕ} {c n : ℕ} (a : Argued l c n) where
   pub read : {v : ℕ} → Numbered l 2 n true v → v ≡ numberAt l 2 n
   read r = r .found ∙ pick-true (sym (r .tested)) (numberAt l 2 n) 0
 
-  pub numbered : {v : ℕ} → byte l 1 ≡ 32 → Numbered l 2 n true v → hasBody c ≡ false → line c v (zeros 16) ≡ parsed l
+  pub numbered : {v : ℕ} → byte l 1 ≡ 32 → Numbered l 2 n true v → hasBody c ≡ false → line c v (zeros bodyBytes) ≡ parsed l
   numbered {v} s r b =
-      ap (λ x. line c x (zeros 16)) (read r ∙ ap (numberAt l 2) (a .digits))
-      ∙ sym (parsed-number l c (a .letter) (lt-ltb (digitsOf c) 9 (omega (arith, a .digits, a .known))) some-digits b (rw (← a .digits) (number-length b)) s (rw (← a .digits) (sym (r .tested))) .1)
+      ap (λ x. line c x (zeros bodyBytes)) (read r ∙ ap (numberAt l 2) (a .digits))
+      ∙ sym (parsed-number l c (a .letter) (lt-ltb (digitsOf c) 9 (omega (arith, a .digits, a .known))) some-digits b (rw (← a .digits) (number-length b)) s
+      (rw (← a .digits) (sym (r .tested))) .1)
 
   pub no-second-space : hasBody c ≡ true → (byte l 10 ≡ 32 → ⊥) → parsed l ≡ unreadable
-  no-second-space b h = second-fails b (and-false-first (ne-eqb (byte l 10) 32 h) (hexAt l 11 32))
+  no-second-space b h = second-fails b (and-false-first (ne-eqb (byte l 10) 32 h) (hexAt l 11 bodyDigits))
 
   pub no-body : {x : List ℕ} → hasBody c ≡ true → Embodied l 11 false x → parsed l ≡ unreadable
   no-body b r = second-fails b (and-false-second (eqb (byte l 10) 32) (sym (r .tested)))
@@ -106,7 +108,7 @@ module _ {l : List ℕ} {c n : ℕ} (a : Argued l c n) where
   embodied {v} {x} b s r s′ r′ =
       let eight : n ≡ 8 = a .digits ∙ body-eight c b in
       ap (λ y. line c y x) (read r ∙ ap (numberAt l 2) eight)
-      ∙ ap (λ y. line c (numberAt l 2 8) y) (r′ .found ∙ pick-true (sym (r′ .tested)) (bytesAt l 11 16) (zeros 16))
+      ∙ ap (λ y. line c (numberAt l 2 8) y) (r′ .found ∙ pick-true (sym (r′ .tested)) (bytesAt l 11 bodyBytes) (zeros bodyBytes))
       ∙ sym (parsed-body l c (a .letter) b (body-length b) s (sym (ap (hexAt l 2) eight) ∙ sym (r .tested)) s′ (sym (r′ .tested)) .1)
 
 -- what reading a body said, by the test of its `ok`

@@ -45,7 +45,11 @@ pub record Numbered (l : List ℕ) (at n : ℕ) (ok : Bool) (value : ℕ) : Type
   pub tested : ok ≡ hexAt l at n
   pub found : value ≡ pick (hexAt l at n) (numberAt l at n) 0
 
+-- the digits of a body
+abbrev pub bodyDigits : ℕ
+bodyDigits = 2 * bodyBytes
+
 -- what reading a body finds: whether its places, two for each byte, are digits, and the body, zeros where they are not
 pub record Embodied (l : List ℕ) (at : ℕ) (ok : Bool) (body : List ℕ) : Type 0 where
-  pub tested : ok ≡ hexAt l at (2 * bodyBytes)
-  pub found : body ≡ pick (hexAt l at (2 * bodyBytes)) (bytesAt l at bodyBytes) (zeros bodyBytes)
+  pub tested : ok ≡ hexAt l at bodyDigits
+  pub found : body ≡ pick (hexAt l at bodyDigits) (bytesAt l at bodyBytes) (zeros bodyBytes)

@@ -1,6 +1,6 @@
 -- The lines that hallrun reads (document 01, "The program hallrun"): a letter, then, with nothing behind them, its arguments in capital
 -- hexadecimal after single spaces, two digits, for keys eight, for bodies 32. Assumes nothing.
-use Prim.Native.Nat.{ℕ, _+_, _*_, _^_, _<_}
+use Prim.Native.Nat.{ℕ, _+_, _^_, _<_}
 use mathlib.Core.Path.{_≡_}
 use mathlib.Core.Bool.{Bool, true, false, _&&_, _||_}
 use mathlib.Core.List.{List, [], _∷_, _++_}
@@ -9,7 +9,7 @@ use lib.ListN.{length}
 use Rattle.buffer.specs.Choice.{pick}
 use Rattle.buffer.specs.Bytes.{byte, zeros}
 use Rattle.group.specs.Widths.{bodyBytes}
-use Rattle.lines.specs.Digits.{hexAt, numberAt, bytesAt, hex, hexBytes}
+use Rattle.lines.specs.Digits.{bodyDigits, hexAt, numberAt, bytesAt, hex, hexBytes}
 
 -- what a line says: its letter, 0 where the line is not readable; its b, unit, group or key; and its body
 pub record Line : Type 0 where
@@ -51,7 +51,7 @@ pub record Proper (x : Line) : Type 0 where
 
 -- the length of a letter's lines: the letter, each argument and the space before it
 unfoldable pub lengthOf : ℕ → ℕ
-lengthOf c = pick (eqb (digitsOf c) 0) 1 (2 + digitsOf c + pick (hasBody c) (1 + 2 * bodyBytes) 0)
+lengthOf c = pick (eqb (digitsOf c) 0) 1 (2 + digitsOf c + pick (hasBody c) (1 + bodyDigits) 0)
 
 -- the letter is one of these, nothing stands behind the arguments, and they are in their places
 unfoldable pub readable : List ℕ → Bool
@@ -59,7 +59,7 @@ readable l =
     ltb (digitsOf (byte l 0)) 9
     && eqb (length l) (lengthOf (byte l 0))
     && (eqb (digitsOf (byte l 0)) 0 || eqb (byte l 1) 32 && hexAt l 2 (digitsOf (byte l 0)))
-    && pick (hasBody (byte l 0)) (eqb (byte l 10) 32 && hexAt l 11 (2 * bodyBytes)) true
+    && pick (hasBody (byte l 0)) (eqb (byte l 10) 32 && hexAt l 11 bodyDigits) true
 
 -- what a line says
 unfoldable pub parsed : List ℕ → Line

@@ -15,7 +15,8 @@ use Rattle.buffer.specs.TestLaws.{and-true, and-first, and-second, not-both}
 use Rattle.buffer.specs.Range.{all}
 use Rattle.buffer.specs.Bytes.{byte, zeros, part}
 use Rattle.buffer.specs.ByteLaws.{byte-left, byte-right, byte-zeros, length-zeros}
-use Rattle.lines.specs.Digits.{hexAt, numberAt, bytesAt, hex, hexBytes}
+use Rattle.group.specs.Widths.{bodyBytes}
+use Rattle.lines.specs.Digits.{bodyDigits, hexAt, numberAt, bytesAt, hex, hexBytes}
 use Rattle.lines.specs.DigitLaws.{
   hexAt-ext,
   numberAt-ext,
@@ -49,19 +50,19 @@ bare-no-body c e = by-test (λ t. t ≡ false) (hasBody c) (λ h. absurd (omega 
 
 pub length-bare : (c : ℕ) → digitsOf c ≡ 0 → lengthOf c ≡ 1
 unfolding lengthOf
-length-bare c e = pick-true (eq-eqb (digitsOf c) 0 e) 1 (2 + digitsOf c + pick (hasBody c) 33 0)
+length-bare c e = pick-true (eq-eqb (digitsOf c) 0 e) 1 (2 + digitsOf c + pick (hasBody c) (1 + bodyDigits) 0)
 
 pub length-number : (c : ℕ) → (digitsOf c ≡ 0 → ⊥) → hasBody c ≡ false → lengthOf c ≡ 2 + digitsOf c
 unfolding lengthOf
 length-number c e h =
-    pick-false (ne-eqb (digitsOf c) 0 e) 1 (2 + digitsOf c + pick (hasBody c) 33 0) ∙ omega (arith, pick-false {A = ℕ} h 33 0)
+    pick-false (ne-eqb (digitsOf c) 0 e) 1 (2 + digitsOf c + pick (hasBody c) (1 + bodyDigits) 0) ∙ omega (arith, pick-false {A = ℕ} h (1 + bodyDigits) 0)
 
-pub length-body : (c : ℕ) → hasBody c ≡ true → lengthOf c ≡ 43
+pub length-body : (c : ℕ) → hasBody c ≡ true → lengthOf c ≡ 11 + bodyDigits
 unfolding lengthOf
 length-body c h =
     let eight : digitsOf c ≡ 8 = body-eight c h in
-    pick-false (ne-eqb (digitsOf c) 0 (omega arith)) 1 (2 + digitsOf c + pick (hasBody c) 33 0)
-    ∙ omega (arith, pick-true {A = ℕ} h 33 0)
+    pick-false (ne-eqb (digitsOf c) 0 (omega arith)) 1 (2 + digitsOf c + pick (hasBody c) (1 + bodyDigits) 0)
+    ∙ omega (arith, pick-true {A = ℕ} h (1 + bodyDigits) 0)
 
 -- a case for each form: no argument, one, or a key and a body
 pub by-form {ℓ} : (P : Type ℓ) (c : ℕ) → (digitsOf c ≡ 0 → hasBody c ≡ false → P) → ((digitsOf c ≡ 0 → ⊥) → hasBody c ≡ false → P)
@@ -78,7 +79,7 @@ pub record Readable (l : List ℕ) : Type 0 where
   pub known : ltb (digitsOf (byte l 0)) 9 ≡ true
   pub size : eqb (length l) (lengthOf (byte l 0)) ≡ true
   pub first : (eqb (digitsOf (byte l 0)) 0 || eqb (byte l 1) 32 && hexAt l 2 (digitsOf (byte l 0))) ≡ true
-  pub second : pick (hasBody (byte l 0)) (eqb (byte l 10) 32 && hexAt l 11 32) true ≡ true
+  pub second : pick (hasBody (byte l 0)) (eqb (byte l 10) 32 && hexAt l 11 bodyDigits) true ≡ true
 
 pub is-readable : {l : List ℕ} → Readable l → readable l ≡ true
 unfolding readable
@@ -90,7 +91,7 @@ readable-is l h =
     let k : Bool = ltb (digitsOf (byte l 0)) 9 in
     let s : Bool = eqb (length l) (lengthOf (byte l 0)) in
     let f : Bool = eqb (digitsOf (byte l 0)) 0 || eqb (byte l 1) 32 && hexAt l 2 (digitsOf (byte l 0)) in
-    let b : Bool = pick (hasBody (byte l 0)) (eqb (byte l 10) 32 && hexAt l 11 32) true in
+    let b : Bool = pick (hasBody (byte l 0)) (eqb (byte l 10) 32 && hexAt l 11 bodyDigits) true in
     let h3 : (k && s && f) ≡ true = and-first (k && s && f) b h in
     let h2 : (k && s) ≡ true = and-first (k && s) f h3 in
     record {
@@ -101,7 +102,7 @@ readable-is l h =
     }
 
 pub parsed-readable : (l : List ℕ) → readable l ≡ true
-    → parsed l ≡ line (byte l 0) (numberAt l 2 (digitsOf (byte l 0))) (pick (hasBody (byte l 0)) (bytesAt l 11 16) (zeros 16))
+    → parsed l ≡ line (byte l 0) (numberAt l 2 (digitsOf (byte l 0))) (pick (hasBody (byte l 0)) (bytesAt l 11 bodyBytes) (zeros bodyBytes))
 unfolding parsed
 parsed-readable l h = pick-true h _ _
 
@@ -110,7 +111,7 @@ unfolding parsed
 parsed-refused l h = pick-false h _ _
 
 -- ---- what a line of each form says; c is its letter
-pub parsed-bare : (l : List ℕ) (c : ℕ) → c ≡ byte l 0 → digitsOf c ≡ 0 → length l ≡ 1 → (readable l ≡ true) × (parsed l ≡ line c 0 (zeros 16))
+pub parsed-bare : (l : List ℕ) (c : ℕ) → c ≡ byte l 0 → digitsOf c ≡ 0 → length l ≡ 1 → (readable l ≡ true) × (parsed l ≡ line c 0 (zeros bodyBytes))
 unfolding numberAt
 parsed-bare l c e d s =
     let d′ : digitsOf (byte l 0) ≡ 0 = ap digitsOf (sym e) ∙ d in
@@ -119,12 +120,12 @@ parsed-bare l c e d s =
       known = lt-ltb (digitsOf (byte l 0)) 9 (omega arith);
       size = eq-eqb (length l) (lengthOf (byte l 0)) (s ∙ sym (length-bare (byte l 0) d′));
       first = rw (eq-eqb (digitsOf (byte l 0)) 0 d′);
-      second = pick-false b (eqb (byte l 10) 32 && hexAt l 11 32) true;
+      second = pick-false b (eqb (byte l 10) 32 && hexAt l 11 bodyDigits) true;
     }) in
     (r, parsed-readable l r ∙ rw (pick-false b, d′, ← e))
 
 pub parsed-number : (l : List ℕ) (c : ℕ) → c ≡ byte l 0 → ltb (digitsOf c) 9 ≡ true → (digitsOf c ≡ 0 → ⊥) → hasBody c ≡ false → length l ≡ 2 + digitsOf c
-    → byte l 1 ≡ 32 → hexAt l 2 (digitsOf c) ≡ true → (readable l ≡ true) × (parsed l ≡ line c (numberAt l 2 (digitsOf c)) (zeros 16))
+    → byte l 1 ≡ 32 → hexAt l 2 (digitsOf c) ≡ true → (readable l ≡ true) × (parsed l ≡ line c (numberAt l 2 (digitsOf c)) (zeros bodyBytes))
 parsed-number l c e k d b s space h =
     let k′ : ltb (digitsOf (byte l 0)) 9 ≡ true = rw e at k in
     let d′ : digitsOf (byte l 0) ≡ 0 → ⊥ = rw e at d in
@@ -135,12 +136,12 @@ parsed-number l c e k d b s space h =
       known = k′;
       size = eq-eqb (length l) (lengthOf (byte l 0)) (s′ ∙ sym (length-number (byte l 0) d′ b′));
       first = rw (ne-eqb (digitsOf (byte l 0)) 0 d′, eq-eqb (byte l 1) 32 space, h′);
-      second = pick-false b′ (eqb (byte l 10) 32 && hexAt l 11 32) true;
+      second = pick-false b′ (eqb (byte l 10) 32 && hexAt l 11 bodyDigits) true;
     }) in
     (r, parsed-readable l r ∙ rw (pick-false b′, ← e))
 
-pub parsed-body : (l : List ℕ) (c : ℕ) → c ≡ byte l 0 → hasBody c ≡ true → length l ≡ 43 → byte l 1 ≡ 32 → hexAt l 2 8 ≡ true
-    → byte l 10 ≡ 32 → hexAt l 11 32 ≡ true → (readable l ≡ true) × (parsed l ≡ line c (numberAt l 2 8) (bytesAt l 11 16))
+pub parsed-body : (l : List ℕ) (c : ℕ) → c ≡ byte l 0 → hasBody c ≡ true → length l ≡ 11 + bodyDigits → byte l 1 ≡ 32 → hexAt l 2 8 ≡ true
+    → byte l 10 ≡ 32 → hexAt l 11 bodyDigits ≡ true → (readable l ≡ true) × (parsed l ≡ line c (numberAt l 2 8) (bytesAt l 11 bodyBytes))
 parsed-body l c e b s space h space′ h′ =
     let b′ : hasBody (byte l 0) ≡ true = rw e at b in
     let d : digitsOf (byte l 0) ≡ 8 = body-eight (byte l 0) b′ in
@@ -148,7 +149,7 @@ parsed-body l c e b s space h space′ h′ =
       known = lt-ltb (digitsOf (byte l 0)) 9 (omega arith);
       size = eq-eqb (length l) (lengthOf (byte l 0)) (s ∙ sym (length-body (byte l 0) b′));
       first = rw (ne-eqb (digitsOf (byte l 0)) 0 (omega arith), eq-eqb (byte l 1) 32 space, d, h);
-      second = pick-true b′ (eqb (byte l 10) 32 && hexAt l 11 32) true ∙ and-true (eq-eqb (byte l 10) 32 space′) h′;
+      second = pick-true b′ (eqb (byte l 10) 32 && hexAt l 11 bodyDigits) true ∙ and-true (eq-eqb (byte l 10) 32 space′) h′;
     }) in
     (r, parsed-readable l r ∙ rw (pick-true b′, d, ← e))
 
@@ -165,7 +166,7 @@ written-number x d b =
     (ap (λ r. x .letter ∷ r) (append-nil (32 ∷ hex (digitsOf (x .letter)) (x .number))))
 
 pub written-body : (x : Line) → digitsOf (x .letter) ≡ 8 → hasBody (x .letter) ≡ true
-    → written x ≡ x .letter ∷ 32 ∷ (hex 8 (x .number) ++ (32 ∷ hexBytes 16 (x .body)))
+    → written x ≡ x .letter ∷ 32 ∷ (hex 8 (x .number) ++ (32 ∷ hexBytes bodyBytes (x .body)))
 unfolding written
 written-body x d b = rw (pick-false (ne-eqb (digitsOf (x .letter)) 0 (omega arith)), pick-true b, d)
 
@@ -185,7 +186,7 @@ unfolding part
 apart-number l n h =
     apart l (omega arith) ∙ ap (λ r. byte l 0 ∷ byte l 1 ∷ r) (sym (take-all n (drop 2 l) (simp length-drop (omega arith))))
 
-apart-body : (l : List ℕ) → length l ≡ 43 → l ≡ byte l 0 ∷ byte l 1 ∷ (part 2 8 l ++ (byte l 10 ∷ part 11 32 l))
+apart-body : (l : List ℕ) → length l ≡ 11 + bodyDigits → l ≡ byte l 0 ∷ byte l 1 ∷ (part 2 8 l ++ (byte l 10 ∷ part 11 bodyDigits l))
 unfolding part
 apart-body l h =
     apart l (omega arith)
@@ -194,7 +195,7 @@ apart-body l h =
     ∙ ap (λ r. part 2 8 l ++ r) (
     drop-drop 8 2 l
     ∙ drop-cons l 10 0 (omega arith)
-    ∙ ap (λ r. byte l 10 ∷ r) (sym (take-all 32 (drop 11 l) (simp length-drop (omega arith))))))
+    ∙ ap (λ r. byte l 10 ∷ r) (sym (take-all bodyDigits (drop 11 l) (simp length-drop (omega arith))))))
 
 -- ---- the arguments of a readable line
 first-argument : (l : List ℕ) → Readable l → (digitsOf (byte l 0) ≡ 0 → ⊥) → (byte l 1 ≡ 32) × (hexAt l 2 (digitsOf (byte l 0)) ≡ true)
@@ -204,10 +205,10 @@ first-argument l r d =
       and-second (eqb (byte l 1) 32) (hexAt l 2 (digitsOf (byte l 0))) h,
     )
 
-second-argument : (l : List ℕ) → Readable l → hasBody (byte l 0) ≡ true → (byte l 10 ≡ 32) × (hexAt l 11 32 ≡ true)
+second-argument : (l : List ℕ) → Readable l → hasBody (byte l 0) ≡ true → (byte l 10 ≡ 32) × (hexAt l 11 bodyDigits ≡ true)
 second-argument l r b =
-    let h : (eqb (byte l 10) 32 && hexAt l 11 32) ≡ true = sym (pick-true b (eqb (byte l 10) 32 && hexAt l 11 32) true) ∙ r .second in
-    (eqb-true (byte l 10) 32 (and-first (eqb (byte l 10) 32) (hexAt l 11 32) h), and-second (eqb (byte l 10) 32) (hexAt l 11 32) h)
+    let h : (eqb (byte l 10) 32 && hexAt l 11 bodyDigits) ≡ true = sym (pick-true b (eqb (byte l 10) 32 && hexAt l 11 bodyDigits) true) ∙ r .second in
+    (eqb-true (byte l 10) 32 (and-first (eqb (byte l 10) 32) (hexAt l 11 bodyDigits) h), and-second (eqb (byte l 10) 32) (hexAt l 11 bodyDigits) h)
 
 -- the first argument's digits, also where it has none
 first-digits : (l : List ℕ) → Readable l → hexAt l 2 (digitsOf (byte l 0)) ≡ true
@@ -224,7 +225,7 @@ written-parsed l h =
     let r : Readable l = readable-is l h in
     let c : ℕ = byte l 0 in
     let n : ℕ = digitsOf c in
-    let x : Line = line c (numberAt l 2 n) (pick (hasBody c) (bytesAt l 11 16) (zeros 16)) in
+    let x : Line = line c (numberAt l 2 n) (pick (hasBody c) (bytesAt l 11 bodyBytes) (zeros bodyBytes)) in
     let size : length l ≡ lengthOf c = eqb-true (length l) (lengthOf c) (r .size) in
     ap written (parsed-readable l h)
     ∙ by-form
@@ -239,17 +240,17 @@ written-parsed l h =
     ∙ ap (λ y. c ∷ byte l 1 ∷ y) (hex-numberAt l 2 n (omega arith) (a .1))
     ∙ sym (apart-number l n whole))
     (λ d b.
-    let whole : length l ≡ 43 = size ∙ length-body c b in
+    let whole : length l ≡ 11 + bodyDigits = size ∙ length-body c b in
     let a = first-argument l r (omega arith) in
     let e = second-argument l r b in
     let key : hex 8 (numberAt l 2 n) ≡ part 2 8 l =
     ap (λ k. hex 8 (numberAt l 2 k)) d ∙ hex-numberAt l 2 8 (omega arith) (sym (ap (hexAt l 2) d) ∙ a .1) in
-    let body : hexBytes 16 (x .body) ≡ part 11 32 l =
-    ap (hexBytes 16) (pick-true b (bytesAt l 11 16) (zeros 16)) ∙ hexBytes-bytesAt l 11 16 (omega arith) (e .1) in
+    let body : hexBytes bodyBytes (x .body) ≡ part 11 bodyDigits l =
+    ap (hexBytes bodyBytes) (pick-true b (bytesAt l 11 bodyBytes) (zeros bodyBytes)) ∙ hexBytes-bytesAt l 11 bodyBytes (omega arith) (e .1) in
     written-body x d b
-    ∙ ap (λ s. c ∷ s ∷ (hex 8 (numberAt l 2 n) ++ (32 ∷ hexBytes 16 (x .body)))) (sym (a .0))
-    ∙ ap (λ y. c ∷ byte l 1 ∷ (y ++ (32 ∷ hexBytes 16 (x .body)))) key
-    ∙ ap (λ s. c ∷ byte l 1 ∷ (part 2 8 l ++ (s ∷ hexBytes 16 (x .body)))) (sym (e .0))
+    ∙ ap (λ s. c ∷ s ∷ (hex 8 (numberAt l 2 n) ++ (32 ∷ hexBytes bodyBytes (x .body)))) (sym (a .0))
+    ∙ ap (λ y. c ∷ byte l 1 ∷ (y ++ (32 ∷ hexBytes bodyBytes (x .body)))) key
+    ∙ ap (λ s. c ∷ byte l 1 ∷ (part 2 8 l ++ (s ∷ hexBytes bodyBytes (x .body)))) (sym (e .0))
     ∙ ap (λ y. c ∷ byte l 1 ∷ (part 2 8 l ++ (byte l 10 ∷ y))) body
     ∙ sym (apart-body l whole))
 
@@ -262,16 +263,16 @@ parsed-proper l h =
     (record {
       known = r .known;
       range = numberAt-lt l 2 (digitsOf (byte l 0)) (first-digits l r);
-      long = by-pick (λ s. length s ≡ 16) b (bytesAt l 11 16) (zeros 16) (λ e. length-bytesAt l 11 16) (λ e. length-zeros 16);
+      long = by-pick (λ s. length s ≡ bodyBytes) b (bytesAt l 11 bodyBytes) (zeros bodyBytes) (λ e. length-bytesAt l 11 bodyBytes) (λ e. length-zeros bodyBytes);
       bytes = λ i q.
           by-pick
           (λ s. byte s i < 256)
           b
-          (bytesAt l 11 16)
-          (zeros 16)
-          (λ e. bytesAt-lt l 11 16 (second-argument l r e .1) i q)
-          (λ e. omega (arith, byte-zeros 16 i));
-      none = λ e. pick-false e (bytesAt l 11 16) (zeros 16);
+          (bytesAt l 11 bodyBytes)
+          (zeros bodyBytes)
+          (λ e. bytesAt-lt l 11 bodyBytes (second-argument l r e .1) i q)
+          (λ e. omega (arith, byte-zeros bodyBytes i));
+      none = λ e. pick-false e (bytesAt l 11 bodyBytes) (zeros bodyBytes);
     })
 
 -- so its letter is not 0, which stands for a line that is not readable
@@ -293,31 +294,34 @@ parsed-written x p =
     let small : x .number < 16 ^ 0 = rw d at (p .range) in
     let none : x .number ≡ 0 = omega arith in (
       ap readable e ∙ q .0,
-      ap parsed e ∙ q .1 ∙ ap (λ v. line c v (zeros 16)) (sym none) ∙ ap (λ y. line c (x .number) y) (sym (p .none b)),
+      ap parsed e ∙ q .1 ∙ ap (λ v. line c v (zeros bodyBytes)) (sym none) ∙ ap (λ y. line c (x .number) y) (sym (p .none b)),
     ))
     (λ d b.
     let y : List ℕ = hex n (x .number) in
     let l : List ℕ = c ∷ 32 ∷ y in
     let e : written x ≡ l = written-number x d b in
-    let q = parsed-number l c refl (p .known) d b (omega (arith, length-hex n (x .number))) refl (hexAt-ext l 2 y 0 n (behind c y n) ∙ hexAt-hex n (x .number)) in
+    let q =
+    parsed-number l c refl (p .known) d b (omega (arith, length-hex n (x .number))) refl (hexAt-ext l 2 y 0 n (behind c y n) ∙ hexAt-hex n (x .number)) in
     let back : numberAt l 2 n ≡ x .number = numberAt-ext l 2 y 0 n (behind c y n) ∙ numberAt-hex n (x .number) (p .range) in
-    (ap readable e ∙ q .0, ap parsed e ∙ q .1 ∙ ap (λ v. line c v (zeros 16)) back ∙ ap (λ y. line c (x .number) y) (sym (p .none b))))
+    (ap readable e ∙ q .0, ap parsed e ∙ q .1 ∙ ap (λ v. line c v (zeros bodyBytes)) back ∙ ap (λ y. line c (x .number) y) (sym (p .none b))))
     (λ d b.
     let k : List ℕ = hex 8 (x .number) in
-    let y : List ℕ = hexBytes 16 (x .body) in
+    let y : List ℕ = hexBytes bodyBytes (x .body) in
     let l : List ℕ = c ∷ 32 ∷ (k ++ (32 ∷ y)) in
     let e : written x ≡ l = written-body x d b in
-    let long : length l ≡ 43 = simp length-append (omega (arith, length-hex 8 (x .number), length-hexBytes 16 (x .body))) in
+    let long : length l ≡ 11 + bodyDigits = simp length-append (omega (arith, length-hex 8 (x .number), length-hexBytes bodyBytes (x .body))) in
     let first : (i : ℕ) → i < 8 → byte l (2 + i) ≡ byte k (0 + i) = key c k (32 ∷ y) (length-hex 8 (x .number)) in
-    let second : (i : ℕ) → i < 32 → byte l (11 + i) ≡ byte y (0 + i) = λ i q. body c k y (length-hex 8 (x .number)) i in
+    let second : (i : ℕ) → i < bodyDigits → byte l (11 + i) ≡ byte y (0 + i) = λ i q. body c k y (length-hex 8 (x .number)) i in
     let space : byte l 10 ≡ 32 = byte-right 8 k (32 ∷ y) 0 (length-hex 8 (x .number)) in
     let small : x .number < 16 ^ 8 = rw d at (p .range) in
-    let q = parsed-body l c refl b long refl (hexAt-ext l 2 k 0 8 first ∙ hexAt-hex 8 (x .number)) space (hexAt-ext l 11 y 0 32 second ∙ hexAt-hexBytes 16 (x .body)) in (
+    let q =
+    parsed-body l c refl b long refl (hexAt-ext l 2 k 0 8 first ∙ hexAt-hex 8 (x .number)) space
+    (hexAt-ext l 11 y 0 bodyDigits second ∙ hexAt-hexBytes bodyBytes (x .body)) in (
       ap readable e ∙ q .0,
       ap parsed e
           ∙ q .1
-          ∙ ap (λ v. line c v (bytesAt l 11 16)) (numberAt-ext l 2 k 0 8 first ∙ numberAt-hex 8 (x .number) small)
-          ∙ ap (λ v. line c (x .number) v) (bytesAt-ext l 11 y 0 16 second ∙ bytesAt-hexBytes 16 (x .body) (p .long) (p .bytes)),
+          ∙ ap (λ v. line c v (bytesAt l 11 bodyBytes)) (numberAt-ext l 2 k 0 8 first ∙ numberAt-hex 8 (x .number) small)
+          ∙ ap (λ v. line c (x .number) v) (bytesAt-ext l 11 y 0 bodyBytes second ∙ bytesAt-hexBytes bodyBytes (x .body) (p .long) (p .bytes)),
     ))
   where
     -- bytes behind a letter and a space, and behind a key and another space

@@ -2,8 +2,7 @@
 ghost use mathlib.Core.Path.{_≡_};
 ghost use Prim.Native.Nat.{_+_, _*_, _≤_, _<_};
 ghost use lib.ListN.{length};
-ghost use Rattle.group.specs.Widths.{bodyBytes};
-ghost use Rattle.lines.specs.Digits.{digit, digitOf, hex, hexBytes, Numbered, Embodied};
+ghost use Rattle.lines.specs.Digits.{bodyDigits, digit, digitOf, hex, hexBytes, Numbered, Embodied};
 
 // The value of a digit, or 16.
 pub fn digit_value(c: u8) -> u8
@@ -65,7 +64,7 @@ pub struct Body {
 
 // The body that digits write, two for each byte; zeros, and not ok, where not all of them are digits.
 pub fn read_body(l: &[u8], at: usize) -> Body
-    requires { ⌜ at + 2 * bodyBytes ≤ length (now l) ⌝ }
+    requires { ⌜ at + bodyDigits ≤ length (now l) ⌝ }
     ensures { λ r. ⌜ Embodied (now (l .entry)) at (r .ok) (r .bytes) ⌝ }
 {
     let mut bytes = [0u8; group::BODY];

@@ -10,11 +10,11 @@ use borrow.Author.Tests.{eq-eqb, lt-ltb, ltb-true, ltb-false}
 use Rattle.buffer.specs.ChoiceLaws.{pick-ext}
 use Rattle.buffer.specs.TestLaws.{and-true, and-false-second}
 use Rattle.buffer.specs.Range.{first, count}
-use Rattle.buffer.specs.RangeLaws.{first-ext, first-found, first-holds, count-ext, count-pos, count-fails, count-zero, count-not, count-append}
+use Rattle.buffer.specs.RangeLaws.{first-ext, first-found, first-holds, count-ext, count-pos, count-fails, count-zero, count-not}
 use Rattle.buffer.specs.Bytes.{byte, part}
 use Rattle.buffer.specs.ByteLaws.{byte-part}
 use Rattle.group.specs.Members.{outs, checks, beyond, serves, next, firstFour}
-use Rattle.group.specs.MembersLaws.{Members, serves-data, serves-check, serving, enough, first-four}
+use Rattle.group.specs.MembersLaws.{Members, serving-parts, serving, enough, check-serves, first-four}
 use Rattle.model.specs.Layout.{Store, view}
 use Rattle.model.specs.Reads.{outsIn, beyondIn, servesIn, firstCheck, lostIn}
 use Rattle.lookup.specs.Sized.{Sized}
@@ -90,13 +90,6 @@ pub group-four : {s : List ℕ} → Sized s → (g : ℕ) → g < 4 → beyondIn
 group-four {s} h g l e = first-four (servesIn (view s) g) (group-enough h g l e)
 
 -- where a data unit is out, one of them is a check unit
-check-serves : (d c : ℕ → ℕ) (p : ℕ) → p < 4 → d p ≡ 2 → 4 ≤ count 7 (serves d c) → first 3 (λ j. eqb (c j) 1) < 3
-check-serves d c p l e h =
-    let places : count 4 (serves d c) ≡ count 4 (λ p. not (eqb (d p) 2)) = count-ext 4 (serves d c) (λ p. not (eqb (d p) 2)) (serves-data d c) in
-    let check : count 3 (λ j. serves d c (4 + j)) ≡ count 3 (λ j. eqb (c j) 1) = count-ext 3 (λ j. serves d c (4 + j)) (λ j. eqb (c j) 1) (λ j l. serves-check d c j) in
-    first-found 3 (λ j. eqb (c j) 1)
-    (omega (arith, count-append 4 3 (serves d c), places, check, count-not 4 (λ p. eqb (d p) 2), count-pos 4 (λ p. eqb (d p) 2) p l (eq-eqb (d p) 2 e)))
-
 first-check-there : (s : List ℕ) (u : ℕ) → u < 16 → byte s (8 + u) ≡ 2 → 4 ≤ count 7 (servesIn (view s) (u / 4)) → firstCheck (view s) (u / 4) < 3 * (u / 4) + 3
 unfolding firstCheck servesIn view
 first-check-there s u l e h =
@@ -137,9 +130,8 @@ goneIn v u = eqb (v .dstate u) 2 && beyondIn v (u / 4)
 data-out : (d c : ℕ → ℕ) → ((j : ℕ) → j < 3 → c j ≤ 2) → beyond d c ≡ true → first 4 (λ p. eqb (d p) 2) < 4
 unfolding beyond
 data-out d c h e =
-    let places : count 4 (serves d c) ≡ count 4 (λ p. not (eqb (d p) 2)) = count-ext 4 (serves d c) (λ p. not (eqb (d p) 2)) (serves-data d c) in
     first-found 4 (λ p. eqb (d p) 2)
-    (omega (arith, ltb-true (checks c) (outs d c) e, serving d c h, count-append 4 3 (serves d c), places, count-not 4 (λ p. eqb (d p) 2)))
+    (omega (arith, ltb-true (checks c) (outs d c) e, serving d c h, serving-parts d c, count-not 4 (λ p. eqb (d p) 2)))
 
 module _ (s : List ℕ) where
   pub lost-some : Sized s → (g : ℕ) → g < 4 → beyondIn (view s) g ≡ true → true ≡ lostIn (view s)

@@ -1,7 +1,7 @@
 -- Demand 1, for all bytes and numbers. Assumes nothing.
 use Rattle.model.specs.Demand1.{Demand1}
-use Rattle.model.proofs.Refusals.{refuses, misuses, layout-refuses}
+use Rattle.model.proofs.Refusals.{refuses, misuses, lays-out}
 use Rattle.model.proofs.InPlace.{in-place}
 
 pub demand-1 : Demand1
-demand-1 = record { calls = refuses; misuses = misuses; in-place = in-place; layouts = layout-refuses }
+demand-1 = record { calls = refuses; misuses = misuses; in-place = in-place; layouts = lays-out }

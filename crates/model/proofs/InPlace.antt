@@ -7,8 +7,8 @@ use mathlib.Core.Bool.{Bool, true, false, not, _&&_}
 use native.Mathlib.Omega.{arith}
 use native.Mathlib.Nat.{mul-le-mul-right}
 use lib.Dec.{eqb}
-use lib.ListN.{length, take, drop}
-use lib.Seq.{getD-take, take-all}
+use lib.ListN.{length, drop}
+use lib.Seq.{take-all}
 use borrow.Author.Tests.{eqb-true, eq-eqb, ne-eqb, leb-false, not-true, not-false}
 use Rattle.buffer.specs.Choice.{pick}
 use Rattle.buffer.specs.ChoiceLaws.{by-test, pick-true, pick-false}
@@ -25,7 +25,7 @@ use Rattle.model.specs.Layout.{Store, view, slotAt, unitsIn, keyOf}
 use Rattle.model.specs.LayoutLaws.{view-shaped, key-first}
 use Rattle.model.specs.Reads.{homeIn, fillIn, rankIn, listedKey, listedFill, listedRank, wholeSlot, bodyIn}
 use Rattle.model.specs.Sound.{sound}
-use Rattle.model.specs.SoundSays.{ranged}
+use Rattle.model.specs.SoundSays.{ranged, units-some, units-few}
 use Rattle.model.specs.Numbers.{read, readInPlace, refusalsIn, numberIn}
 use Rattle.model.specs.RowLaws.{Free, first-free}
 use Rattle.model.specs.Perform.{Place, placeIn, givenIn}
@@ -45,11 +45,9 @@ slot-body x u r = sym (part-part (slotAt (view x .size) u r) slotBytes keyBytes 
 -- ---- what soundness says of the bytes
 
 module _ (s : List ℕ) (ok : sound s ≡ true) where
-  home-low : (k : ℕ) → homeIn (view s) k < 16
-  unfolding homeIn unitsIn view
-  home-low k =
-      let e : byte (take 8 s) 6 ≡ byte s 6 = getD-take 8 s 6 0 (omega arith) in
-      omega (arith, unit-below (byte (take 8 s) 6) k (omega (arith, e, ranged s ok .some)), e, ranged s ok .few)
+  pub home-low : (k : ℕ) → homeIn (view s) k < 16
+  unfolding homeIn
+  home-low k = omega (arith, unit-below (unitsIn (view s)) k (units-some s ok), units-few s ok)
 
   -- the body of a slot lies inside the store
   inside : (u r : ℕ) → u < 16 → r < view s .size → slotAt (view s .size) u r + keyBytes + bodyBytes ≤ length s

@@ -2,4 +2,10 @@ pub mod Refusals
 pub mod InPlace
 pub mod Demand1
 pub mod history
+pub mod Left
 pub mod MadeAnew
+pub mod RepairKeeps
+pub mod Hashing
+pub mod RebuiltSlots
+pub mod Recovered
+pub mod Demand2

@@ -1,78 +1,33 @@
 -- The check units that grow, shrink and repair make anew hold the check records of the slots that the call leaves, whatever the store. Assumes nothing.
-use Prim.Native.Nat.{ℕ, pred, _+_, _*_, _/_, _%_, _≤_, _<_}
+use Prim.Native.Nat.{ℕ, pred, _+_, _*_, _/_, _%_, _<_}
 use mathlib.Core.Path.{_≡_, refl, sym, _∙_}
 use mathlib.Core.List.{List}
-use mathlib.Core.Bool.{Bool, true, false, _||_}
+use mathlib.Core.Bool.{true}
 use native.Mathlib.Omega.{arith}
-use lib.Dec.{eqb}
-use borrow.Author.Tests.{eq-eqb, eqb-true, ltb-false, leb-false, not-false}
-use Rattle.buffer.specs.Choice.{pick}
-use Rattle.buffer.specs.ChoiceLaws.{by-test, pick-true}
+use borrow.Author.Tests.{eq-eqb, leb-false, not-false}
+use Rattle.buffer.specs.ChoiceLaws.{pick-true}
 use Rattle.buffer.specs.TestLaws.{and-true}
 use Rattle.group.specs.CheckRecordLaws.{checkRecord-ext}
-use Rattle.model.specs.Units.{touched}
-use Rattle.model.specs.Layout.{Store, bytes, view, unitsIn}
-use Rattle.model.specs.LayoutLaws.{Shaped, Same, view-bytes, view-shaped}
+use Rattle.model.specs.Units.{splitPointer, touched}
+use Rattle.model.specs.Layout.{Store, view, unitsIn}
+use Rattle.model.specs.LayoutLaws.{Same}
 use Rattle.model.specs.Sound.{sound}
+use Rattle.model.specs.SoundSays.{units-some, units-few}
 use Rattle.model.specs.Changes.{repaired, grown, shrunk}
-use Rattle.model.specs.Numbers.{Call, repair, grow, shrink, refusalsIn, numberIn}
-use Rattle.model.specs.RowLaws.{Free}
-use Rattle.model.specs.Perform.{grantedIn, afterIn, perform}
-use Rattle.model.specs.PerformLaws.{none-holds}
+use Rattle.model.specs.Numbers.{repair, grow, shrink, refusalsIn}
+use Rattle.model.specs.Perform.{grantedIn}
 use Rattle.model.specs.MadeAnew.{HoldsCheckRecords, leftBy, MadeAnew}
-use Rattle.model.specs.SoundSays.{ranged, units-some, units-few, Stateful, check-states}
-use Rattle.model.proofs.history.Alike.{Alike, alike-refl, left-shaped}
+use Rattle.model.proofs.history.Alike.{left-shaped}
 use Rattle.model.proofs.history.AlikeNumbers.{split-inside, split-before}
-use Rattle.model.proofs.history.AlikeRepaired.{repaired-alike}
 use Rattle.model.proofs.history.AlikeDealt.{grown-shaped, shrunk-alike}
+use Rattle.model.proofs.Left.{itself, free, left-same, repair-left}
 
--- what check unit c holds, read back from the bytes
-seen-holds : (t : Store) → Shaped t → (c : ℕ) → c < 12 → HoldsCheckRecords t c → HoldsCheckRecords (view (bytes t)) c
-seen-holds t h c l f r m =
-    let s : Same (view (bytes t)) t = view-bytes t h in
-    let n : r < t .size = omega (arith, s .size) in
-    s .check c r l n ∙ f r n ∙ sym (checkRecord-ext (c % 3) (λ p. view (bytes t) .slot (4 * (c / 3) + p) r) (λ p. t .slot (4 * (c / 3) + p) r) (λ p q. s .slot (4 * (c / 3) + p) r (omega arith) n))
-
--- a state that a unit may have
-state-most : (p : Bool) (n : ℕ) → Stateful p n → n ≤ 2
-unfolding pick
-state-most true n e =
-    by-test (λ (t : Bool). (t || eqb n 2) ≡ true → n ≤ 2) (eqb n 1)
-    (λ q _. omega (arith, eqb-true n 1 q)) (λ _ z. omega (arith, eqb-true n 2 z)) e
-state-most false n e = omega (arith, eqb-true n 0 e)
-
--- ---- a granted call
-
-module _ (s : List ℕ) (c : Call) (zero : numberIn s c ≡ 0) where
-  free : Free (refusalsIn (sound s) (view s) c)
-  unfolding numberIn
-  free = none-holds (sound s) (view s) c (numberIn s c) refl zero
-
-  left-store : perform s c .store ≡ grantedIn s c
-  unfolding perform afterIn
-  left-store = pick-true (eq-eqb (numberIn s c) 0 zero) (grantedIn s c) s
-
-  -- it leaves the bytes of the store t
-  module _ (t : Store) (e : grantedIn s c ≡ bytes t) (h : Shaped t) (i : ℕ) (l : i < 12) where
-    left-cstate : leftBy s c .cstate i ≡ t .cstate i
-    left-cstate = rw (left-store, e) (view-bytes t h .cstate i l)
-
-    left-holds : HoldsCheckRecords t i → HoldsCheckRecords (leftBy s c) i
-    left-holds f = rw (left-store, e) (seen-holds t h i l f)
-
--- ---- a sound store
-
-module _ (s : List ℕ) (ok : sound s ≡ true) where
-  shaped : Shaped (view s)
-  shaped = view-shaped s (ranged s ok .long)
-
-  itself : Alike (view s) (view s)
-  itself = alike-refl (view s) shaped
-
-  states-low : (c : ℕ) → c < 12 → view s .cstate c ≤ 2
-  states-low c l =
-      let k : 3 * (c / 3) + c % 3 ≡ c = omega arith in
-      rw k at (state-most _ (view s .cstate (3 * (c / 3) + c % 3)) (check-states s ok (c / 3) (c % 3) (omega arith) (omega arith)))
+-- what check unit c holds, in stores whose parts are the same
+same-holds : (s t : Store) → Same s t → (c : ℕ) → c < 12 → HoldsCheckRecords t c → HoldsCheckRecords s c
+same-holds s t h c l f r m =
+    let n : r < t .size = omega (arith, h .size) in
+    h .check c r l n ∙ f r n
+    ∙ sym (checkRecord-ext (c % 3) (λ p. s .slot (4 * (c / 3) + p) r) (λ p. t .slot (4 * (c / 3) + p) r) (λ p q. h .slot (4 * (c / 3) + p) r (omega arith) n))
 
 -- ---- what each call makes anew
 
@@ -99,21 +54,20 @@ made-anew s = record {
       let ok : sound s ≡ true = not-false (sound s) (f .0) in
       let v : Store = view s in
       let m : ℕ = unitsIn (view s) in
-      let h : Shaped (grown v m) = grown-shaped v v (itself s ok) m (leb-false 16 m (f .1 .0)) (split-inside v v (itself s ok) (units-some s ok) (units-few s ok)) in
-      left-holds s grow z (grown v m) refl h c l (grown-holds v m c q (sym (left-cstate s grow z (grown v m) refl h c l) ∙ e));
+      let h : Same (leftBy s grow) (grown v m) =
+      left-same s grow z (grown v m) refl
+      (grown-shaped v v (itself s ok) m (leb-false 16 m (f .1 .0)) (split-inside v v (itself s ok) (units-some s ok) (units-few s ok))) in
+      same-holds (leftBy s grow) (grown v m) h c l (grown-holds v m c q (sym (h .cstate c l) ∙ e));
   by-shrink = λ z c l q e.
       let f = free s shrink z in
       let ok : sound s ≡ true = not-false (sound s) (f .0) in
       let v : Store = view s in
       let m : ℕ = pred (unitsIn (view s)) in
       let two : 1 < unitsIn (view s) = leb-false (unitsIn v) 1 (f .1 .0) in
-      let h : Shaped (shrunk v m) = left-shaped (shrunk v m) (shrunk v m) (shrunk-alike v v (itself s ok) m (omega (arith, units-few s ok)) (split-before v v (itself s ok) (units-some s ok) (units-few s ok) two)) in
-      left-holds s shrink z (shrunk v m) refl h c l (shrunk-holds v m c q (sym (left-cstate s shrink z (shrunk v m) refl h c l) ∙ e));
-  by-repair = λ g z c l d e.
-      let f = free s (repair g) z in
-      let ok : sound s ≡ true = not-false (sound s) (f .1 .0) in
-      let v : Store = view s in
-      let low : g < 4 = omega (arith, ltb-false 3 g (f .0)) in
-      let h : Shaped (repaired v g) = left-shaped (repaired v g) (repaired v g) (repaired-alike v v (itself s ok) g low (states-low s ok) (f .1 .1 .1 .0)) in
-      left-holds s (repair g) z (repaired v g) refl h c l (repaired-holds v g c d e);
+      let before : splitPointer m < 16 = split-before v v (itself s ok) (units-some s ok) (units-few s ok) two in
+      let h : Same (leftBy s shrink) (shrunk v m) =
+      left-same s shrink z (shrunk v m) refl
+      (left-shaped (shrunk v m) (shrunk v m) (shrunk-alike v v (itself s ok) m (omega (arith, units-few s ok)) before)) in
+      same-holds (leftBy s shrink) (shrunk v m) h c l (shrunk-holds v m c q (sym (h .cstate c l) ∙ e));
+  by-repair = λ g z c l d e. same-holds (leftBy s (repair g)) (repaired (view s) g) (repair-left s g z) c l (repaired-holds (view s) g c d e);
 }

@@ -16,9 +16,9 @@ use Rattle.model.specs.Layout.{view, storeBytes}
 use Rattle.model.specs.Reads.{totalIn}
 use Rattle.model.specs.Sound.{sound}
 use Rattle.model.specs.Numbers.{Call, teach, correct, erase, read, readInPlace, list, unitOut, repair, grow, shrink, raise, firstOf, refusalsIn, numberIn}
-use Rattle.model.specs.RowLaws.{first-low, numbered-in, row-holds, row-fails, row-pair}
+use Rattle.model.specs.RowLaws.{first-low, free-first, numbered-in, row-holds, row-fails, row-pair}
 use Rattle.model.specs.Perform.{refusal, plain, copied, lent, listed, output, reply, placeIn, givenIn, grantedIn, answerIn, afterIn, outcome, perform, laidOut, layOutNumber, layOut}
-use Rattle.model.specs.Demand1.{Refuses, Misused, LayoutRefuses}
+use Rattle.model.specs.Demand1.{Refuses, Misused, LaysOut}
 
 -- ---- the numbers are those of the table
 
@@ -147,11 +147,18 @@ layout-as : (s : List ℕ) (b n : ℕ) → layOutNumber s b ≡ n → n ≢ 0 �
 unfolding layOut
 layout-as s b n e z = ap₂ outcome (ap plain e) (pick-false (ne-eqb (layOutNumber s b) 0 (λ q. z (sym e ∙ q))) (laidOut b s) s)
 
-pub layout-refuses : (s : List ℕ) (b : ℕ) → LayoutRefuses s b
+granted-layout : (s : List ℕ) (b : ℕ) → layOutNumber s b ≡ 0 → layOut s b ≡ outcome (plain 0) (laidOut b s)
+unfolding layOut
+granted-layout s b e = ap₂ outcome (ap plain e) (pick-true (eq-eqb (layOutNumber s b) 0 e) (laidOut b s) s)
+
+pub lays-out : (s : List ℕ) (b : ℕ) → LaysOut s b
 unfolding layOutNumber
-layout-refuses s b = record {
+lays-out s b = record {
   numbered = first-low ((ltb b 1, 2) ∷ (ltb 64 b, 2) ∷ (ltb (length s) (storeBytes b), 7) ∷ []) (refl, (refl, (refl, tt)));
   refused = λ z. layout-as s b (layOutNumber s b) refl z;
   misused = λ e. layout-as s b 2 (row-pair (ltb b 1) (ltb 64 b) 2 _ ∙ row-holds _ _ e) (omega arith);
   short = λ e l. layout-as s b 7 (row-pair (ltb b 1) (ltb 64 b) 2 _ ∙ row-fails _ _ e ∙ row-holds _ _ (lt-ltb (length s) (storeBytes b) l)) (omega arith);
+  granted = λ least most long.
+      granted-layout s b
+      (row-fails _ _ (le-ltb b 1 least) ∙ row-fails _ _ (le-ltb 64 b most) ∙ row-fails _ _ (le-ltb (length s) (storeBytes b) long) ∙ free-first [] tt);
 }

@@ -14,7 +14,7 @@ use Rattle.model.specs.Layout.{view, storeBytes, unitsIn}
 use Rattle.model.specs.Reads.{homeIn, stateIn, lostIn, totalIn}
 use Rattle.model.specs.Sound.{sound}
 use Rattle.model.specs.Numbers.{Call, teach, correct, erase, read, readInPlace, list, unitOut, repair, numberIn}
-use Rattle.model.specs.Perform.{plain, refusal, outcome, givenIn, perform, layOutNumber, layOut}
+use Rattle.model.specs.Perform.{plain, refusal, outcome, givenIn, perform, laidOut, layOutNumber, layOut}
 
 -- a call on any bytes: its number is the table's; refused, it leaves all as it was; a damaged store gets 1 where 2 does not apply
 pub record Refuses (s : List ℕ) (c : Call) : Type 0 where
@@ -46,16 +46,17 @@ pub record InPlace (s : List ℕ) (k : ℕ) : Type 0 where
   pub same : (out : List ℕ) → length out ≡ bodyBytes → numberIn s (read k out) ≡ 0 → view s .dstate (homeIn (view s) k) ≢ 2
       → givenIn s (readInPlace k) ≡ givenIn s (read k out)
 
--- lay out, of any bytes and any number
-pub record LayoutRefuses (s : List ℕ) (b : ℕ) : Type 0 where
+-- lay out, of any bytes and any number: refused as the table says, and else granted
+pub record LaysOut (s : List ℕ) (b : ℕ) : Type 0 where
   pub numbered : layOutNumber s b ≤ 9
   pub refused : layOutNumber s b ≢ 0 → layOut s b ≡ outcome (plain (layOutNumber s b)) s
   pub misused : (ltb b 1 || ltb 64 b) ≡ true → layOut s b ≡ outcome (plain 2) s
   pub short : (ltb b 1 || ltb 64 b) ≡ false → length s < storeBytes b → layOut s b ≡ outcome (plain 7) s
+  pub granted : 1 ≤ b → b ≤ 64 → storeBytes b ≤ length s → layOut s b ≡ outcome (plain 0) (laidOut b s)
 
 -- DEMAND 1
 pub record Demand1 : Type 0 where
   pub calls : (s : List ℕ) (c : Call) → Refuses s c
   pub misuses : (s : List ℕ) → Misused s
   pub in-place : (s : List ℕ) (k : ℕ) → InPlace s k
-  pub layouts : (s : List ℕ) (b : ℕ) → LayoutRefuses s b
+  pub layouts : (s : List ℕ) (b : ℕ) → LaysOut s b

@@ -6,6 +6,7 @@ pub mod StoreLaws
 pub mod RunLaws
 pub mod RunTurns
 pub mod Reads
+pub mod ReadLaws
 pub mod Sound
 pub mod SoundLaws
 pub mod SoundSays
@@ -18,4 +19,7 @@ pub mod PerformLaws
 pub mod GrantedLayout
 pub mod Demand1
 pub mod MadeAnew
+pub mod Recovered
+pub mod RepairKeeps
+pub mod Demand2
 pub mod history

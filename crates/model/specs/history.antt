@@ -5,6 +5,6 @@ pub mod Answers
 pub mod Runs
 pub mod Typed
 pub mod Claims
-pub mod Commissioning
+pub mod Example
 pub mod StaysSound
 pub mod Contracts

@@ -30,7 +30,7 @@ fn header(b: u32) -> [u8; lookup::HEADER]
     requires { ⌜ b ≤ 64 ⌝ }
     ensures { λ r. ⌜ r ≡ frontOf b 1 1 ++ ((1 ∷ zeros 15) ++ (1 ∷ zeros 11)) ⌝ }
 {
-    let size = lookup::HEADER + lookup::PER_RANK * buffer::index(b);
+    let size = lookup::HEADER as u32 + lookup::PER_RANK as u32 * b;
     let mut head = [0u8; lookup::HEADER];
     head[0] = lookup::VERSION;
     head[1] = (size / 16777216 % 256) as u8;

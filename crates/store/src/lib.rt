@@ -3,7 +3,7 @@ pub mod lay_out;
 
 ghost use mathlib.Core.Path.{_≡_};
 ghost use Rattle.model.specs.Numbers.{Call};
-ghost use Rattle.model.specs.Perform.{outcome, plain, copied, perform, layOut};
+ghost use Rattle.model.specs.Perform.{outcome, plain, copied, listed, perform, layOut};
 
 #[no_mangle]
 pub extern "C" fn lhrs_lay_out(store: &mut [u8], b: u32) -> u8
@@ -52,6 +52,17 @@ pub extern "C" fn lhrs_read(store: &[u8], key: u32, out: &mut [u8]) -> u8
     ensures { λ r. ⌜ outcome (copied r (now (out .exit))) (now (store .entry)) ≡ perform (now (store .entry)) (Call.read key (now (out .entry))) ⌝ }
 {
     reading::read(store, key, out)
+}
+
+// The count goes into the number that the caller lends; 0 when refused.
+#[no_mangle]
+pub extern "C" fn lhrs_list(store: &[u8], out: &mut [u8], count: &mut usize) -> u8
+    ensures { λ r. ⌜ outcome (listed r (now (count .exit)) (now (out .exit))) (now (store .entry))
+        ≡ perform (now (store .entry)) (Call.list (now (out .entry))) ⌝ }
+{
+    let listing = reading::list(store, out);
+    *count = listing.count;
+    listing.number
 }
 
 #[no_mangle]

@@ -43,7 +43,7 @@ impl Answer {
 }
 
 /// The kinds of call, in the order of document 01.
-#[derive(Clone, Copy, Debug, PartialEq, Eq, Hash)]
+#[derive(Clone, Copy, Debug, PartialEq, Eq, PartialOrd, Ord, Hash)]
 pub enum Kind {
     LayOut,
     Teach,
@@ -92,11 +92,6 @@ impl Call {
         }
     }
 
-    /// Whether the call returns a number alone, so that it has a C name.
-    pub fn has_c_name(&self) -> bool {
-        !matches!(self.kind(), Kind::ReadInPlace | Kind::List)
-    }
-
     /// Whether a line of hallrun can say it.
     pub fn has_line(&self) -> bool {
         match self {
@@ -125,7 +120,7 @@ impl fmt::Display for Call {
             Call::Read { key, out: 16 } => write!(f, "R {key:08X}"),
             Call::Read { key, out } => write!(f, "R {key:08X} (output of {out} bytes)"),
             Call::ReadInPlace { key } => write!(f, "read in place {key:08X}"),
-            Call::List { .. } => write!(f, "P"),
+            Call::List { out } => write!(f, "P (output of {out} bytes)"),
             Call::Out { unit } => write!(f, "O {unit:02X}"),
             Call::Repair { group } => write!(f, "F {group:02X}"),
             Call::Grow => write!(f, "G"),

@@ -89,7 +89,7 @@ fn refusals_change_nothing() {
     let mut reached = Reached::new();
     (0..3000).for_each(|index| reached.extend(damaged(index, unchanged).1));
     let unsound = NUMBERS.iter().map(|(kind, _)| (*kind, 1));
-    for pair in unsound.filter(|(kind, _)| !matches!(kind, Kind::LayOut | Kind::List)) {
+    for pair in unsound.filter(|(kind, _)| *kind != Kind::LayOut) {
         assert!(reached.contains(&pair), "{pair:?}");
     }
     assert!(!reached.contains(&(Kind::LayOut, 1)));

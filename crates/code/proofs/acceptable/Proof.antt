@@ -10,13 +10,16 @@ all-within-requires : tie.Need-all-within-requires
 all-within-requires c κs = search needs
 
 returns : tie.Need-returns
-returns c = sym (not-columns (c .before .before .args .columns) (c .before .before .args .symbols) (sym (c .before .all-within .ensures) ∙ not-true _ (c .if1 .taken)))
+returns c =
+    sym (not-columns (c .before .before .args .columns) (c .before .before .args .symbols) (sym (c .before .all-within .ensures) ∙ not-true _ (c .if1 .taken)))
 
 all-different-requires : tie.Need-all-different-requires
 all-different-requires c κs = search needs
 
 returns-2 : tie.Need-returns-2
-returns-2 c = sym (repeated (c .before .before .before .before .args .columns) (c .before .before .before .before .args .symbols) (sym (c .before .all-different .ensures) ∙ not-true _ (c .if2 .taken)))
+returns-2 c =
+    sym (repeated (c .before .before .before .before .args .columns) (c .before .before .before .before .args .symbols)
+    (sym (c .before .all-different .ensures) ∙ not-true _ (c .if2 .taken)))
 
 all-within-requires-2 : tie.Need-all-within-requires-2
 all-within-requires-2 c κs = search needs

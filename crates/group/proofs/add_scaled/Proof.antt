@@ -7,7 +7,7 @@ use lib.ListN.{length, length-set}
 use borrow.Author.Needs.{needs}
 use Rattle.buffer.specs.Bytes.{byte}
 use Rattle.buffer.specs.LoopWrites.{Filling, filling-start, filling-turn, filling-read, filling-end}
-use Rattle.field.specs.Byte.{scale}
+use Rattle.code.specs.Scaling.{scale}
 use Rattle.group.specs.ParityLaws.{add-scaled-entries}
 use Rattle.group.proofs.add_scaled.Statement.{statement}
 use Rattle.group.proofs.add_scaled.Tie as tie

@@ -1,7 +1,7 @@
 -- `group::times` meets its contract. Assumes nothing.
 use mathlib.Core.Path.{sym}
 use borrow.Author.Needs.{needs}
-use Rattle.field.specs.ByteLaws.{scale-one}
+use Rattle.code.specs.ScalingLaws.{scale-one}
 use Rattle.group.proofs.times.Statement.{statement}
 use Rattle.group.proofs.times.Tie as tie
 

@@ -12,7 +12,8 @@ use Rattle.buffer.specs.Table.{tab, upd}
 use Rattle.buffer.specs.TableLaws.{Wide, tab-ext, length-tab, part-chunk, upd-map}
 use Rattle.group.specs.Widths.{keyBytes, bodyBytes, slotBytes, keysBytes, checkBytes}
 use Rattle.group.specs.Body.{addBody}
-use Rattle.group.specs.BodyLaws.{zeros-is, IsBody}
+use Rattle.group.specs.Body.{IsBody}
+use Rattle.group.specs.BodyLaws.{zeros-is}
 use Rattle.group.specs.Parity.{parity}
 use Rattle.group.specs.ParityLaws.{parity-ext}
 use Rattle.group.specs.CheckRecord.{checkRecord, patched}

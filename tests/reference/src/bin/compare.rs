@@ -1,15 +1,18 @@
 //! Compares the store under its C names with the reference: `compare [HISTORIES [DAMAGED]]`.
 //! The last line counts the differences; the exit status is 1 if there are any.
 
-use reference::call::KINDS;
-use reference::compare::{minimal, run};
+use reference::compare::{compare_code, minimal, run, Tally};
 use reference::generate::cases::{damaged_case, history_case};
 use std::sync::atomic::{AtomicUsize, Ordering};
 use std::{env, process, thread};
 
+/// Rebuildings beside those at every choice of columns.
+const REBUILDINGS: usize = 200_000;
+
 /// What the cases gave.
+#[derive(Default)]
 struct Total {
-    numbers: [[usize; 10]; 12],
+    tally: Tally,
     /// Cases with a difference.
     differing: Vec<usize>,
 }
@@ -18,15 +21,26 @@ fn main() {
     let mut counts = env::args().skip(1).map(|word| word.parse().expect("a number of cases"));
     let histories = counts.next().unwrap_or(6_000);
     let damaged = counts.next().unwrap_or(24_000);
+    let code_differs = report_code();
     let total = compare(histories, damaged);
-    print_numbers(&total);
+    print!("{}", total.tally);
     if let Some(&first) = total.differing.iter().min() {
         print_difference(first, histories);
     }
-    let calls: usize = total.numbers.iter().flatten().sum();
-    let differences = total.differing.len();
+    let calls = total.tally.calls();
+    let differences = total.differing.len() + code_differs as usize;
     println!("compared: {histories} histories, {damaged} damaged stores, {calls} calls, {differences} differences");
     process::exit((differences > 0) as i32);
+}
+
+/// Compares the code layer; true where it differs.
+fn report_code() -> bool {
+    let code = compare_code(REBUILDINGS);
+    println!("the matrix, and {} rebuildings, {} of them granted", code.compared, code.granted);
+    if let Some(words) = &code.difference {
+        println!("the code layer differs: {words}");
+    }
+    code.difference.is_some()
 }
 
 fn case(index: usize, histories: usize) -> reference::compare::case::Case {
@@ -41,14 +55,14 @@ fn case(index: usize, histories: usize) -> reference::compare::case::Case {
 fn compare(histories: usize, damaged: usize) -> Total {
     let next = AtomicUsize::new(0);
     let work = || {
-        let mut total = Total { numbers: [[0; 10]; 12], differing: Vec::new() };
+        let mut total = Total::default();
         loop {
             let index = next.fetch_add(1, Ordering::Relaxed);
             if index >= histories + damaged {
                 return total;
             }
             let outcome = run(&case(index, histories));
-            add(&mut total.numbers, &outcome.numbers);
+            total.tally.join(outcome.tally);
             total.differing.extend(outcome.difference.map(|_| index));
         }
     };
@@ -61,26 +75,9 @@ fn compare(histories: usize, damaged: usize) -> Total {
 }
 
 fn joined(mut a: Total, b: Total) -> Total {
-    add(&mut a.numbers, &b.numbers);
+    a.tally.join(b.tally);
     a.differing.extend(b.differing);
     a
-}
-
-fn add(sum: &mut [[usize; 10]; 12], more: &[[usize; 10]; 12]) {
-    for (row, other) in sum.iter_mut().zip(more) {
-        row.iter_mut().zip(other).for_each(|(x, y)| *x += y);
-    }
-}
-
-/// How often each number was returned, by kind of call.
-fn print_numbers(total: &Total) {
-    for (kind, row) in KINDS.iter().zip(&total.numbers) {
-        let reached = row.iter().enumerate().filter(|(_, count)| **count > 0);
-        let words: Vec<String> = reached.map(|(n, count)| format!("{n}: {count}")).collect();
-        if !words.is_empty() {
-            println!("{:8} {}", format!("{kind:?}"), words.join(", "));
-        }
-    }
 }
 
 fn print_difference(index: usize, histories: usize) {

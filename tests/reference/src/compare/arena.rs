@@ -26,6 +26,11 @@ impl Arena {
         arena
     }
 
+    /// The length of the room.
+    pub fn capacity(&self) -> usize {
+        self.capacity
+    }
+
     /// The first `length` bytes of the room.
     pub fn slice(&mut self, length: usize) -> &mut [u8] {
         &mut self.bytes[self.front..self.front + length]

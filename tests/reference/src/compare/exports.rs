@@ -1,14 +1,29 @@
 //! This crate's byte store under the C names of the store under test, so that the comparison and
 //! the C programs can be tried on it.
 
-use super::faults::spoil;
+use super::faults::{seeded, spoil};
 use crate::call::Kind;
-use crate::store;
-use std::slice::{from_raw_parts, from_raw_parts_mut};
+use crate::store::{self, matrix};
+use std::slice;
+
+/// A slice that C lends; with length 0 its pointer may be null.
+unsafe fn lent<'a>(start: *const u8, len: usize) -> &'a [u8] {
+    if len == 0 {
+        return &[];
+    }
+    slice::from_raw_parts(start, len)
+}
+
+unsafe fn lent_mut<'a>(start: *mut u8, len: usize) -> &'a mut [u8] {
+    if len == 0 {
+        return &mut [];
+    }
+    slice::from_raw_parts_mut(start, len)
+}
 
 #[no_mangle]
 unsafe extern "C" fn lhrs_lay_out(store: *mut u8, len: usize, b: u32) -> u8 {
-    spoil(Kind::LayOut, from_raw_parts_mut(store, len), |store| store::lay_out(store, b))
+    spoil(Kind::LayOut, lent_mut(store, len), |store| store::lay_out(store, b))
 }
 
 #[no_mangle]
@@ -19,8 +34,8 @@ unsafe extern "C" fn lhrs_teach(
     body: *const u8,
     body_len: usize,
 ) -> u8 {
-    let body = from_raw_parts(body, body_len);
-    spoil(Kind::Teach, from_raw_parts_mut(store, len), |store| store::teach(store, key, body))
+    let body = lent(body, body_len);
+    spoil(Kind::Teach, lent_mut(store, len), |store| store::teach(store, key, body))
 }
 
 #[no_mangle]
@@ -31,13 +46,13 @@ unsafe extern "C" fn lhrs_correct(
     body: *const u8,
     body_len: usize,
 ) -> u8 {
-    let body = from_raw_parts(body, body_len);
-    spoil(Kind::Correct, from_raw_parts_mut(store, len), |store| store::correct(store, key, body))
+    let body = lent(body, body_len);
+    spoil(Kind::Correct, lent_mut(store, len), |store| store::correct(store, key, body))
 }
 
 #[no_mangle]
 unsafe extern "C" fn lhrs_erase(store: *mut u8, len: usize, key: u32) -> u8 {
-    spoil(Kind::Erase, from_raw_parts_mut(store, len), |store| store::erase(store, key))
+    spoil(Kind::Erase, lent_mut(store, len), |store| store::erase(store, key))
 }
 
 #[no_mangle]
@@ -48,31 +63,94 @@ unsafe extern "C" fn lhrs_read(
     out: *mut u8,
     out_len: usize,
 ) -> u8 {
-    let out = from_raw_parts_mut(out, out_len);
-    spoil(Kind::Read, from_raw_parts_mut(store, len), |store| store::read(store, key, out))
+    let out = lent_mut(out, out_len);
+    spoil(Kind::Read, lent_mut(store, len), |store| store::read(store, key, out))
+}
+
+#[no_mangle]
+unsafe extern "C" fn lhrs_list(
+    store: *const u8,
+    len: usize,
+    out: *mut u8,
+    out_len: usize,
+    count: *mut usize,
+) -> u8 {
+    let out = lent_mut(out, out_len);
+    let (number, listed) = store::list(lent(store, len), out);
+    let end = 20 * listed as usize;
+    if seeded("list-writes-behind") && number == 0 && end < out_len {
+        out[end] ^= 1;
+    }
+    let count_left = seeded("list-leaves-the-count-when-refused") && number != 0;
+    if !count_left {
+        *count = listed as usize + seeded("list-invents-its-count") as usize;
+    }
+    number
+}
+
+#[no_mangle]
+unsafe extern "C" fn compared_read_in_place(
+    store: *const u8,
+    len: usize,
+    key: u32,
+    out: *mut u8,
+    out_len: usize,
+) -> usize {
+    let store = lent(store, len);
+    let mut part = store::read_in_place(store, key);
+    if seeded("read-in-place-of-a-unit-out") && store::read(store, key, &mut [0; 16]) == 0 {
+        part = if part.is_empty() { &store[40..56] } else { part };
+    }
+    if part.len() <= out_len {
+        lent_mut(out, part.len()).copy_from_slice(part);
+    }
+    part.len()
+}
+
+#[no_mangle]
+unsafe extern "C" fn compared_rebuild(
+    columns: *const [u8; 4],
+    symbols: *const [u8; 4],
+    data: *mut [u8; 4],
+) -> u8 {
+    let columns = (*columns).map(usize::from);
+    let (number, found) = matrix::rebuild(columns, *symbols);
+    if !(seeded("rebuild-leaves-data-when-refused") && number != 0) {
+        *data = found;
+    }
+    if seeded("rebuild-without-column-16") && columns.contains(&16) {
+        return 2;
+    }
+    number
+}
+
+#[no_mangle]
+extern "C" fn compared_coefficient(place: usize, column: usize) -> u8 {
+    let entry = matrix::entry(place % 4, column % 17);
+    entry ^ (seeded("a-wrong-coefficient") && place == 2 && column == 11) as u8
 }
 
 #[no_mangle]
 unsafe extern "C" fn lhrs_out(store: *mut u8, len: usize, unit: u32) -> u8 {
-    spoil(Kind::Out, from_raw_parts_mut(store, len), |store| store::unit_out(store, unit))
+    spoil(Kind::Out, lent_mut(store, len), |store| store::unit_out(store, unit))
 }
 
 #[no_mangle]
 unsafe extern "C" fn lhrs_repair(store: *mut u8, len: usize, group: u32) -> u8 {
-    spoil(Kind::Repair, from_raw_parts_mut(store, len), |store| store::repair(store, group))
+    spoil(Kind::Repair, lent_mut(store, len), |store| store::repair(store, group))
 }
 
 #[no_mangle]
 unsafe extern "C" fn lhrs_grow(store: *mut u8, len: usize) -> u8 {
-    spoil(Kind::Grow, from_raw_parts_mut(store, len), store::grow)
+    spoil(Kind::Grow, lent_mut(store, len), store::grow)
 }
 
 #[no_mangle]
 unsafe extern "C" fn lhrs_shrink(store: *mut u8, len: usize) -> u8 {
-    spoil(Kind::Shrink, from_raw_parts_mut(store, len), store::shrink)
+    spoil(Kind::Shrink, lent_mut(store, len), store::shrink)
 }
 
 #[no_mangle]
 unsafe extern "C" fn lhrs_raise(store: *mut u8, len: usize) -> u8 {
-    spoil(Kind::Raise, from_raw_parts_mut(store, len), store::raise)
+    spoil(Kind::Raise, lent_mut(store, len), store::raise)
 }

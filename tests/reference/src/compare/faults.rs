@@ -53,8 +53,35 @@ const FAULTS: [Fault; 10] = [
     }),
 ];
 
+/// Faults of what is handed back beside a number, which `exports` asks for by name.
+const SEEDED: [&str; 7] = [
+    "list-invents-its-count",
+    "list-leaves-the-count-when-refused",
+    "list-writes-behind",
+    "read-in-place-of-a-unit-out",
+    "rebuild-leaves-data-when-refused",
+    "rebuild-without-column-16",
+    "a-wrong-coefficient",
+];
+
 pub fn fault_names() -> impl Iterator<Item = &'static str> {
-    FAULTS.iter().map(|(name, _, _)| *name)
+    FAULTS.iter().map(|(name, _, _)| *name).chain(SEEDED)
+}
+
+/// Whether the fault of this name is chosen.
+pub fn seeded(name: &str) -> bool {
+    assert!(SEEDED.contains(&name), "{name}: no such fault");
+    name_chosen() == Some(name)
+}
+
+fn name_chosen() -> Option<&'static str> {
+    static CHOSEN: OnceLock<Option<String>> = OnceLock::new();
+    let chosen = CHOSEN.get_or_init(|| {
+        let name = env::var("LHRS_FAULT").ok()?;
+        assert!(fault_names().any(|fault| fault == name), "LHRS_FAULT={name}: no such fault");
+        Some(name)
+    });
+    chosen.as_deref()
 }
 
 /// Makes a call, with the chosen fault where it is of the fault's kind.
@@ -70,12 +97,7 @@ pub fn spoil(kind: Kind, store: &mut [u8], call: impl FnOnce(&mut [u8]) -> u8) -
 }
 
 fn chosen() -> Option<&'static Fault> {
-    static CHOSEN: OnceLock<Option<&Fault>> = OnceLock::new();
-    *CHOSEN.get_or_init(|| {
-        let name = env::var("LHRS_FAULT").ok()?;
-        let fault = FAULTS.iter().find(|fault| fault.0 == name);
-        Some(fault.unwrap_or_else(|| panic!("LHRS_FAULT={name}: no such fault")))
-    })
+    FAULTS.iter().find(|fault| Some(fault.0) == name_chosen())
 }
 
 /// Puts the check units back as they were, where the call was granted.

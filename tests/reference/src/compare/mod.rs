@@ -3,6 +3,8 @@
 #[cfg(feature = "subject")]
 mod arena;
 pub mod case;
+#[cfg(feature = "subject")]
+mod code;
 #[cfg(feature = "self")]
 mod exports;
 #[cfg(feature = "self")]
@@ -10,14 +12,20 @@ mod faults;
 #[cfg(feature = "subject")]
 mod minimal;
 #[cfg(feature = "subject")]
+mod returned;
+#[cfg(feature = "subject")]
 mod run;
 #[cfg(feature = "subject")]
 mod subject;
 
+#[cfg(feature = "subject")]
+pub use code::{compare_code, CodeOutcome};
 #[cfg(feature = "self")]
 pub use faults::fault_names;
 #[cfg(feature = "subject")]
 pub use minimal::minimal;
+#[cfg(feature = "subject")]
+pub use returned::Tally;
 #[cfg(feature = "subject")]
 pub use run::{run, Outcome};
 

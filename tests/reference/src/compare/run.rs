@@ -2,14 +2,17 @@
 
 use super::arena::Arena;
 use super::case::{Case, Step};
+use super::returned::{Returned, Tally};
 use super::subject;
 use crate::call::{Answer, Call};
 use crate::ledger::Ledger;
 use crate::store;
 
+/// A body that stands nowhere in a generated store.
+const MARK: &[u8; 16] = b"the body is here";
+
 pub struct Outcome {
-    /// How often each kind of call returned each number.
-    pub numbers: [[usize; 10]; 12],
+    pub tally: Tally,
     /// The step with the first difference, and what differs.
     pub difference: Option<(usize, String)>,
 }
@@ -20,7 +23,7 @@ struct Run {
     lent: usize,
     /// The ledger, as long as nothing but calls has changed the slice since the layout.
     ledger: Option<Ledger>,
-    numbers: [[usize; 10]; 12],
+    tally: Tally,
 }
 
 pub fn run(case: &Case) -> Outcome {
@@ -30,7 +33,7 @@ pub fn run(case: &Case) -> Outcome {
         reference: arena,
         lent: 0,
         ledger: None,
-        numbers: [[0; 10]; 12],
+        tally: Tally::default(),
     };
     let mut difference = None;
     for (at, step) in case.steps.iter().enumerate() {
@@ -42,7 +45,7 @@ pub fn run(case: &Case) -> Outcome {
     if difference.is_none() {
         difference = run.picture_differs().map(|words| (case.steps.len() - 1, words));
     }
-    Outcome { numbers: run.numbers, difference }
+    Outcome { tally: run.tally, difference }
 }
 
 impl Run {
@@ -66,35 +69,69 @@ impl Run {
         let mut lent = lent_to(call);
         let mut expected_lent = lent.clone();
         let expected = perform(self.reference.slice(self.lent), call, &mut expected_lent);
-        let number = subject::call(&mut self.subject, self.lent, call, &mut lent);
-        if number != expected {
-            return Err(format!("number {number}, expected {expected}"));
+        let returned = subject::call(&mut self.subject, self.lent, call, &mut lent);
+        if returned != expected {
+            return Err(format!("{returned}, expected {expected}"));
         }
-        self.numbers[call.kind() as usize][number as usize] += 1;
+        self.tally.add(call.kind(), returned);
         same(&self.subject, &self.reference, "store")?;
         same(&lent, &expected_lent, "body or output")?;
-        self.ask_ledger(call, number, &mut lent)
+        if let Call::ReadInPlace { key } = call {
+            self.place(*key)?;
+        }
+        self.ask_ledger(call, returned, &mut lent)
     }
 
-    fn ask_ledger(&mut self, call: &Call, number: u8, lent: &mut Arena) -> Result<(), String> {
+    /// The part that read in place hands back lies where the reference finds the body: a mark
+    /// written there is what comes back. Bodies are no part of soundness.
+    fn place(&mut self, key: u32) -> Result<(), String> {
+        let bytes = self.reference.slice(self.lent);
+        let start = bytes.as_ptr() as usize;
+        let part = store::read_in_place(bytes, key);
+        if part.is_empty() {
+            return Ok(());
+        }
+        let at = part.as_ptr() as usize - start;
+        let body = part.to_vec();
+        let call = Call::ReadInPlace { key };
+        let mut lent = lent_to(&call);
+        self.subject.write(at, MARK);
+        subject::call(&mut self.subject, self.lent, &call, &mut lent);
+        self.subject.write(at, &body);
+        if lent.slice(MARK.len()) != MARK {
+            return Err(format!("the part handed back does not start at byte {at}"));
+        }
+        Ok(())
+    }
+
+    fn ask_ledger(
+        &mut self,
+        call: &Call,
+        returned: Returned,
+        lent: &mut Arena,
+    ) -> Result<(), String> {
         if let Call::LayOut { b } = call {
-            return match Ledger::open(*b, self.lent) {
-                Ok(ledger) => {
-                    self.ledger = Some(ledger);
-                    agree(number, 0)
-                }
-                Err(expected) => agree(number, expected),
-            };
+            let opened = Ledger::open(*b, self.lent);
+            let number = opened.as_ref().err().copied().unwrap_or(0);
+            self.ledger = opened.ok().or(self.ledger.take());
+            return agree(returned, Returned::Number(number));
         }
         let Some(ledger) = &mut self.ledger else { return Ok(()) };
-        let answer = ledger.perform(call);
-        agree(number, answer.number().expect("calls with a C name return a number"))?;
-        match answer {
-            Answer::Read(_, Some(body)) if lent.slice(16) != body => {
-                Err("the body read is not the ledger's".into())
+        let (expected, bytes) = match ledger.perform(call) {
+            Answer::Number(number) => (Returned::Number(number), Vec::new()),
+            Answer::Read(number, body) => {
+                (Returned::Number(number), body.map_or(Vec::new(), |body| body.to_vec()))
             }
-            _ => Ok(()),
+            Answer::Part(part) => (Returned::Part(part.len()), part),
+            Answer::List(number, count, records) => {
+                (Returned::Listed(number, count as usize), records)
+            }
+        };
+        agree(returned, expected)?;
+        if lent.slice(bytes.len()) != bytes {
+            return Err("the bytes handed back are not the ledger's".into());
         }
+        Ok(())
     }
 
     fn picture_differs(&mut self) -> Option<String> {
@@ -109,14 +146,25 @@ fn lent_to(call: &Call) -> Arena {
     match call {
         Call::Teach { body, .. } | Call::Correct { body, .. } => Arena::holding(31, body),
         Call::Read { out, .. } => Arena::new(29, *out),
+        Call::ReadInPlace { .. } => Arena::new(27, 16),
+        Call::List { out } => Arena::new(25, *out),
         _ => Arena::new(0, 0),
     }
 }
 
-fn perform(bytes: &mut [u8], call: &Call, lent: &mut Arena) -> u8 {
+fn perform(bytes: &mut [u8], call: &Call, lent: &mut Arena) -> Returned {
     match call {
-        Call::Read { key, out } => store::read(bytes, *key, lent.slice(*out)),
-        _ => store::perform(bytes, call).number().expect("calls with a C name return a number"),
+        Call::Read { key, out } => Returned::Number(store::read(bytes, *key, lent.slice(*out))),
+        Call::ReadInPlace { key } => {
+            let part = store::read_in_place(bytes, *key);
+            lent.write(0, part);
+            Returned::Part(part.len())
+        }
+        Call::List { out } => {
+            let (number, count) = store::list(bytes, lent.slice(*out));
+            Returned::Listed(number, count as usize)
+        }
+        _ => Returned::Number(store::perform(bytes, call).number().expect("a number is returned")),
     }
 }
 
@@ -127,9 +175,9 @@ fn same(got: &Arena, expected: &Arena, name: &str) -> Result<(), String> {
     Err(got.difference(expected, name).expect("arenas of one shape"))
 }
 
-fn agree(number: u8, ledger: u8) -> Result<(), String> {
-    if number == ledger {
+fn agree(returned: Returned, ledger: Returned) -> Result<(), String> {
+    if returned == ledger {
         return Ok(());
     }
-    Err(format!("number {number}, the ledger's is {ledger}"))
+    Err(format!("{returned}, by the ledger {ledger}"))
 }

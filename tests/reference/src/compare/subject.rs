@@ -1,14 +1,23 @@
 //! The store under test, by its C names.
 
 use super::arena::Arena;
+use super::returned::Returned;
 use crate::call::Call;
 
+// What a library exports for C.
 extern "C" {
     fn lhrs_lay_out(store: *mut u8, len: usize, b: u32) -> u8;
     fn lhrs_teach(store: *mut u8, len: usize, key: u32, body: *const u8, body_len: usize) -> u8;
     fn lhrs_correct(store: *mut u8, len: usize, key: u32, body: *const u8, body_len: usize) -> u8;
     fn lhrs_erase(store: *mut u8, len: usize, key: u32) -> u8;
     fn lhrs_read(store: *const u8, len: usize, key: u32, out: *mut u8, out_len: usize) -> u8;
+    fn lhrs_list(
+        store: *const u8,
+        len: usize,
+        out: *mut u8,
+        out_len: usize,
+        count: *mut usize,
+    ) -> u8;
     fn lhrs_out(store: *mut u8, len: usize, unit: u32) -> u8;
     fn lhrs_repair(store: *mut u8, len: usize, group: u32) -> u8;
     fn lhrs_grow(store: *mut u8, len: usize) -> u8;
@@ -16,25 +25,56 @@ extern "C" {
     fn lhrs_raise(store: *mut u8, len: usize) -> u8;
 }
 
-/// Makes a call that has a C name on the first `len` bytes of a store's arena. `lent` is the
-/// arena of the body or of the output.
-pub fn call(store: &mut Arena, len: usize, call: &Call, lent: &mut Arena) -> u8 {
+// What crate comparing exports for these comparisons.
+extern "C" {
+    fn compared_read_in_place(
+        store: *const u8,
+        len: usize,
+        key: u32,
+        out: *mut u8,
+        out_len: usize,
+    ) -> usize;
+    fn compared_rebuild(columns: *const u8, symbols: *const u8, data: *mut u8) -> u8;
+    fn compared_coefficient(place: usize, column: usize) -> u8;
+}
+
+/// Makes a call on the first `len` bytes of a store's arena. `lent` is the arena of the body or of
+/// the output; the part of read in place is copied to its front.
+pub fn call(store: &mut Arena, len: usize, call: &Call, lent: &mut Arena) -> Returned {
     let store = store.start();
+    let out_len = lent.capacity();
     let lent = lent.start();
     // The arenas hold the slices whole, and they are different allocations.
-    unsafe {
+    Returned::Number(unsafe {
         match call {
             Call::LayOut { b } => lhrs_lay_out(store, len, *b),
-            Call::Teach { key, body } => lhrs_teach(store, len, *key, lent, body.len()),
-            Call::Correct { key, body } => lhrs_correct(store, len, *key, lent, body.len()),
+            Call::Teach { key, .. } => lhrs_teach(store, len, *key, lent, out_len),
+            Call::Correct { key, .. } => lhrs_correct(store, len, *key, lent, out_len),
             Call::Erase { key } => lhrs_erase(store, len, *key),
-            Call::Read { key, out } => lhrs_read(store, len, *key, lent, *out),
+            Call::Read { key, .. } => lhrs_read(store, len, *key, lent, out_len),
+            Call::ReadInPlace { key } => {
+                return Returned::Part(compared_read_in_place(store, len, *key, lent, out_len));
+            }
+            Call::List { .. } => {
+                let mut count = usize::MAX;
+                let number = lhrs_list(store, len, lent, out_len, &mut count);
+                return Returned::Listed(number, count);
+            }
             Call::Out { unit } => lhrs_out(store, len, *unit),
             Call::Repair { group } => lhrs_repair(store, len, *group),
             Call::Grow => lhrs_grow(store, len),
             Call::Shrink => lhrs_shrink(store, len),
             Call::Raise => lhrs_raise(store, len),
-            Call::ReadInPlace { .. } | Call::List { .. } => panic!("{call} has no C name"),
         }
-    }
+    })
+}
+
+/// Rebuilds from the symbols at four columns; each arena has room for four bytes.
+pub fn rebuild(columns: &mut Arena, symbols: &mut Arena, data: &mut Arena) -> u8 {
+    unsafe { compared_rebuild(columns.start(), symbols.start(), data.start()) }
+}
+
+/// The entry of the matrix of a place, 0 to 3, and a column, 0 to 16.
+pub fn coefficient(place: usize, column: usize) -> u8 {
+    unsafe { compared_coefficient(place, column) }
 }

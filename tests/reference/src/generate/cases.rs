@@ -41,7 +41,7 @@ fn opening(random: &mut Random, b: u32) -> Vec<Step> {
 }
 
 fn steps_of(calls: &[Call]) -> impl Iterator<Item = Step> + '_ {
-    calls.iter().filter(|call| call.has_c_name()).cloned().map(Step::Call)
+    calls.iter().cloned().map(Step::Call)
 }
 
 fn case(random: &mut Random, calls: &[Call]) -> Case {

@@ -47,7 +47,10 @@ fn listing(bytes: &[u8], records: &[u8]) -> String {
     records.chunks_exact(20).map(line).collect()
 }
 
-/// The line of a call, where it has one.
+/// The line of a call, where it has one. The program's list buffer is one for all lines.
 pub fn line_of(call: &Call) -> Option<String> {
-    call.has_line().then(|| call.to_string())
+    call.has_line().then(|| match call {
+        Call::List { .. } => "P".into(),
+        _ => call.to_string(),
+    })
 }

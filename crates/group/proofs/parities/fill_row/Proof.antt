@@ -4,7 +4,7 @@ use Prim.Native.Nat.{_-_}
 use mathlib.Core.Path.{ap, _∙_}
 use Rattle.buffer.specs.Loops.{entries}
 use Rattle.buffer.specs.LoopWrites.{Filling, filling-start, filling-turn, filling-end}
-use Rattle.field.specs.Byte.{scale}
+use Rattle.code.specs.Scaling.{scale}
 use Rattle.group.specs.ScaledRow.{scaledRow}
 use Rattle.group.proofs.parities.fill_row.Statement.{statement}
 use Rattle.group.proofs.parities.fill_row.Tie as tie

@@ -4,6 +4,7 @@ use mathlib.Core.Path.{refl}
 use native.Mathlib.Omega.{arith}
 use borrow.Author.Needs.{needs}
 use Rattle.buffer.specs.Bytes.{zeros}
+use Rattle.group.specs.Widths.{bodyBytes}
 use Rattle.lines.proofs.Reading.{ok, not-ok, Bodying, bodying-start, bodying-turn, bodying-fail, bodying-end, two-digits}
 use Rattle.lines.proofs.digits.read_body.Statement.{statement}
 use Rattle.lines.proofs.digits.read_body.Tie as tie
@@ -12,7 +13,7 @@ abbrev Inv-loop : tie.InvT-loop
 Inv-loop l at bytes₀ i₀ bytes i = Bodying l at bytes₀ bytes i
 
 abbrev μ-loop : tie.MeasureT-loop
-μ-loop l at bytes₀ i₀ bytes i = 16 - i
+μ-loop l at bytes₀ i₀ bytes i = bodyBytes - i
 
 returns : tie.Need-returns Inv-loop μ-loop
 unfolding zeros

@@ -24,7 +24,8 @@ use Rattle.lines.proofs.line.parse.Statement.{statement}
 use Rattle.lines.proofs.line.parse.Tie as tie
 
 -- a letter with arguments, and a line of its length
-argued : (c : tie.Else3) → Argued (c .before .before .before .before .before .before .before .args .l .now) (c .before .before .before .before .before .byte-at .result) (c .before .before .before .before .digits-of .result)
+argued : (c : tie.Else3) → Argued (c .before .before .before .before .before .before .before .args .l .now)
+    (c .before .before .before .before .before .byte-at .result) (c .before .before .before .before .digits-of .result)
 argued c =
     record {
       letter = c .before .before .before .before .before .byte-at .ensures;
@@ -35,17 +36,20 @@ argued c =
     }
 
 returns : tie.Need-returns
-returns c = c .unread .ensures ∙ sym (unknown _ _ _ (c .before .before .before .byte-at .ensures) (c .before .before .digits-of .ensures .0) (c .before .if1 .taken))
+returns c =
+    c .unread .ensures ∙ sym (unknown _ _ _ (c .before .before .before .byte-at .ensures) (c .before .before .digits-of .ensures .0) (c .before .if1 .taken))
 
 returns-2 : tie.Need-returns-2
 returns-2 c =
     c .unread2 .ensures
-    ∙ sym (misfit _ _ _ (c .before .before .before .before .before .byte-at .ensures) (c .before .before .before .before .digits-of .ensures .0) (λ e. c .before .if2 .taken (e ∙ sym (c .before .before .length-of .ensures))))
+    ∙ sym (misfit _ _ _ (c .before .before .before .before .before .byte-at .ensures) (c .before .before .before .before .digits-of .ensures .0)
+    (λ e. c .before .if2 .taken (e ∙ sym (c .before .before .length-of .ensures))))
 
 returns-3 : tie.Need-returns-3
 returns-3 c =
     let i = c .before in
-    c .bodiless .ensures ∙ bare _ _ _ (i .before .before .before .before .before .byte-at .ensures) (i .before .before .before .before .digits-of .ensures .0) (i .if3 .taken) (i .before .if2 .left ∙ i .before .before .length-of .ensures)
+    c .bodiless .ensures ∙ bare _ _ _ (i .before .before .before .before .before .byte-at .ensures) (i .before .before .before .before .digits-of .ensures .0)
+    (i .if3 .taken) (i .before .if2 .left ∙ i .before .before .length-of .ensures)
 
 shared-slice-read-if4 : tie.Need-shared-slice-read-if4
 shared-slice-read-if4 c = omega (arith, room (argued (c .before)))
@@ -57,21 +61,30 @@ number-requires : tie.Need-number-requires
 number-requires c κs = (room (argued (c .before .before)), argued (c .before .before) .known)
 
 returns-5 : tie.Need-returns-5
-returns-5 c = c .unread4 .ensures ∙ sym (no-number (argued (c .before .before .before .before .before .before)) (not-ok (c .before .before .before .number .ensures) (c .before .if5 .taken)))
+returns-5 c =
+    c .unread4 .ensures ∙ sym (no-number (argued (c .before .before .before .before .before .before))
+    (not-ok (c .before .before .before .number .ensures) (c .before .if5 .taken)))
 
 returns-6 : tie.Need-returns-6
 returns-6 c =
     let i = c .before in
     let n = i .before .before .before .before in
-    c .bodiless2 .ensures ∙ numbered (argued (n .before .before .before)) (n .before .if4 .left) (ok (n .number .ensures) (i .before .before .if5 .left)) (is-no (i .before .has-body .ensures) (i .if6 .taken))
+    c .bodiless2 .ensures ∙ numbered (argued (n .before .before .before)) (n .before .if4 .left) (ok (n .number .ensures) (i .before .before .if5 .left))
+    (is-no (i .before .has-body .ensures) (i .if6 .taken))
 
 shared-slice-read-if7 : tie.Need-shared-slice-read-if7
-shared-slice-read-if7 c = omega (arith, body-length (argued (c .before .before .before .before .before .before .before .before)) (is-yes (c .before .before .has-body .ensures) (c .before .if6 .left)))
+shared-slice-read-if7 c =
+    omega (
+      arith,
+      body-length (argued (c .before .before .before .before .before .before .before .before))
+          (is-yes (c .before .before .has-body .ensures) (c .before .if6 .left)),
+    )
 
 returns-7 : tie.Need-returns-7
 returns-7 c =
     let b = c .before .before .before .before in
-    c .unread5 .ensures ∙ sym (no-second-space (argued (b .before .before .before .before .before .before)) (is-yes (b .has-body .ensures) (c .before .before .before .if6 .left)) (c .before .if7 .taken))
+    c .unread5 .ensures ∙ sym (no-second-space (argued (b .before .before .before .before .before .before))
+    (is-yes (b .has-body .ensures) (c .before .before .before .if6 .left)) (c .before .if7 .taken))
 
 read-body-requires : tie.Need-read-body-requires
 read-body-requires c κs =
@@ -82,7 +95,9 @@ returns-8 : tie.Need-returns-8
 returns-8 c =
     let b = c .before .before .before .before .before .before .before in
     c .unread6 .ensures
-    ∙ sym (no-body (argued (b .before .before .before .before .before .before)) (is-yes (b .has-body .ensures) (c .before .before .before .before .before .before .if6 .left)) (body-not-ok (c .before .before .before .read-body .ensures) (c .before .if8 .taken)))
+    ∙ sym (no-body (argued (b .before .before .before .before .before .before))
+    (is-yes (b .has-body .ensures) (c .before .before .before .before .before .before .if6 .left))
+    (body-not-ok (c .before .before .before .read-body .ensures) (c .before .if8 .taken)))
 
 returns-9 : tie.Need-returns-9
 returns-9 c =

@@ -19,8 +19,11 @@ clear-unit-requires-3 : tie.Need-clear-unit-requires-3
 clear-unit-requires-3 c κs =
     let k2 = c .before .before .before in
     let k = k2 .before .before .before .before in
-    let e = k .before .before .before in
-    (holds-long (holds-step (wiped-change (isUnit (3 * e .args .g + 1))) (holds-step (wiped-change (isUnit (3 * e .args .g))) (holds-start (e .pre .0)) (k .clear-unit .ensures)) (k2 .clear-unit2 .ensures)), omega (arith, e .pre .1))
+    let e = k .before .before .before in (
+      holds-long (holds-step (wiped-change (isUnit (3 * e .args .g + 1)))
+          (holds-step (wiped-change (isUnit (3 * e .args .g))) (holds-start (e .pre .0)) (k .clear-unit .ensures)) (k2 .clear-unit2 .ensures)),
+      omega (arith, e .pre .1),
+    )
 
 returns : tie.Need-returns
 returns c =
@@ -28,7 +31,8 @@ returns c =
     let k2 = k3 .before .before .before .before in
     let k = k2 .before .before .before .before in
     let e = k .before .before .before in
-    three-steps wiped wiped-change wiped-twice (e .args .s .now) (e .args .g) (e .pre .0) (k .clear-unit .ensures) (k2 .clear-unit2 .ensures) (k3 .clear-unit3 .ensures)
+    three-steps wiped wiped-change wiped-twice (e .args .s .now) (e .args .g) (e .pre .0) (k .clear-unit .ensures) (k2 .clear-unit2 .ensures)
+    (k3 .clear-unit3 .ensures)
 
 pub clear-checks-spec : {M : Type 1} → statement M
 clear-checks-spec =

@@ -22,8 +22,10 @@ returns c =
     let to = clear .before .before in
     let e = to .before .before .before .before in
     let n : ℕ = to .check-at2 .result - to .before .check-at .result in
-    let room : to .before .check-at .result + n ≤ length (e .args .s .now) = omega (arith, check-unit-end (e .args .s .now) (e .args .c) (e .pre .0) (e .pre .1), to .check-at2 .ensures .0, to .before .check-at .ensures .0) in
-    clear-check (e .args .s .now) _ _ (to .before .check-at .result) (to .check-at2 .result) n (e .args .c) (e .pre .0) refl (to .before .check-at .ensures .0) (to .check-at2 .ensures .0) refl (e .pre .1)
+    let room : to .before .check-at .result + n ≤ length (e .args .s .now) =
+    omega (arith, check-unit-end (e .args .s .now) (e .args .c) (e .pre .0) (e .pre .1), to .check-at2 .ensures .0, to .before .check-at .ensures .0) in
+    clear-check (e .args .s .now) _ _ (to .before .check-at .result) (to .check-at2 .result) n (e .args .c) (e .pre .0) refl (to .before .check-at .ensures .0)
+    (to .check-at2 .ensures .0) refl (e .pre .1)
     (rw (clear .clear .ensures ∙ ap zeros (length-part (to .before .check-at .result) n (e .args .s .now) room)) refl)
 
 pub clear-unit-spec : {M : Type 1} → statement M

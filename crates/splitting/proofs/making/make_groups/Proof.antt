@@ -15,15 +15,20 @@ make-group-requires-2 : tie.Need-make-group-requires-2
 make-group-requires-2 c κs =
     let k = c .before .before .before .before .before .before in
     let rows = k .before .before .before .before in
-    let e = rows .before .before .before in
-    (holds-long (holds-step (remade-change (inGroup (e .args .m / 4))) (holds-start (e .pre .0)) (k .make-group .ensures)), omega (arith, e .pre .2, e .pre .3), rows .before .scaled-row .ensures, rows .scaled-row2 .ensures)
+    let e = rows .before .before .before in (
+      holds-long (holds-step (remade-change (inGroup (e .args .m / 4))) (holds-start (e .pre .0)) (k .make-group .ensures)),
+      omega (arith, e .pre .2, e .pre .3),
+      rows .before .first-row .ensures,
+      rows .second-row .ensures,
+    )
 
 returns : tie.Need-returns
 returns c =
     let k2 = c .before .before in
     let k = k2 .before .before .before .before .before .before .before in
     let e = k .before .before .before .before .before .before .before in
-    two-steps remade remade-change remade-twice (e .args .s .now) (inGroup (e .args .m / 4)) (inGroup (e .args .n / 4)) (ofBoth (e .args .m)) (both-groups (e .args .n) (e .args .m) (e .pre .1)) (e .pre .0) (k .make-group .ensures) (k2 .make-group2 .ensures)
+    two-steps remade remade-change remade-twice (e .args .s .now) (inGroup (e .args .m / 4)) (inGroup (e .args .n / 4)) (ofBoth (e .args .m))
+    (both-groups (e .args .n) (e .args .m) (e .pre .1)) (e .pre .0) (k .make-group .ensures) (k2 .make-group2 .ensures)
 
 returns-2 : tie.Need-returns-2
 returns-2 c =

@@ -33,13 +33,16 @@ returns c =
     let keys : at .check-at .result + 16 - at .check-at .result ≡ keysBytes = omega arith in
     let rest : at .check-at .result + 32 - (at .check-at .result + 16) ≡ bodyBytes = omega arith in
     rw (k2 .copy2 .ensures, k .copy .ensures, keys, rest)
-    (put-serving (e .args .s .now) (e .args .c) (e .args .r) (e .args .t4) (e .args .t5) (e .pre) _ (at .check-at .result) (ap (λ x. byte (e .args .s .now) (24 + x)) (sym (w .wide .ensures .0)) ∙ i .if1 .taken) (search (needs, e .good .1 .1 .1 .0)) refl (at .check-at .ensures .0))
+    (put-serving (e .args .s .now) (e .args .c) (e .args .r) (e .args .t4) (e .args .t5) (e .pre) _ (at .check-at .result)
+    (ap (λ x. byte (e .args .s .now) (24 + x)) (sym (w .wide .ensures .0)) ∙ i .if1 .taken) (search (needs, e .good .1 .1 .1 .0)) refl
+    (at .check-at .ensures .0))
 
 returns-2 : tie.Need-returns-2
 returns-2 c =
     let w = c .before .before in
     let e = w .before .before in
-    put-nothing (e .args .s .now) (e .args .c) (e .args .r) (e .args .t4) (e .args .t5) (e .pre) (λ h. c .if1 .left (ap (λ x. byte (e .args .s .now) (24 + x)) (w .wide .ensures .0) ∙ h))
+    put-nothing (e .args .s .now) (e .args .c) (e .args .r) (e .args .t4) (e .args .t5) (e .pre)
+    (λ h. c .if1 .left (ap (λ x. byte (e .args .s .now) (24 + x)) (w .wide .ensures .0) ∙ h))
 
 pub put-check-spec : {M : Type 1} → statement M
 put-check-spec =

@@ -40,7 +40,13 @@ part-copy-end c =
     let a = i .before .before .before .before .args in
     let g = layout-granted (a .s .now) (a .b) (sym (i .before .layout-number .ensures) ∙ is-zero _ (i .if1 .left)) in
     let n : ℕ = 36 + 704 * w .index .result - 36 in
-    omega (arith, g .long, w .index .ensures, kept (a .s .now) _ 36 n (omega (arith, g .long, w .index .ensures)) (c .before .before .before .clear .ensures ∙ ap zeros (length-part 36 n (a .s .now) (omega (arith, g .long, w .index .ensures)))))
+    omega (
+      arith,
+      g .long,
+      w .index .ensures,
+      kept (a .s .now) _ 36 n (omega (arith, g .long, w .index .ensures))
+          (c .before .before .before .clear .ensures ∙ ap zeros (length-part 36 n (a .s .now) (omega (arith, g .long, w .index .ensures)))),
+    )
 
 returns-2 : tie.Need-returns-2
 unfolding part splice
@@ -52,7 +58,8 @@ returns-2 c =
     let n : ℕ = 36 + 704 * w .index .result - 36 in
     granted _ _ _ _ (i .before .layout-number .ensures) (i .if1 .left)
     (laid (a .s .now) _ _ (a .b) n (g .long) (omega (arith, w .index .ensures))
-    (c .before .before .before .before .before .before .before .before .clear .ensures ∙ ap zeros (length-part 36 n (a .s .now) (omega (arith, g .long, w .index .ensures))))
+    (c .before .before .before .before .before .before .before .before .clear .ensures
+    ∙ ap zeros (length-part 36 n (a .s .now) (omega (arith, g .long, w .index .ensures))))
     (c .before .before .copy .ensures ∙ c .before .before .before .before .before .header .ensures))
 
 pub lay-out-spec : {M : Type 1} → statement M

@@ -1,0 +1,187 @@
+-- What repair, read and list give of units that are out are the bodies that have, by the matrix, what the four members used hold. Assumes that the
+-- store holds bytes.
+use Prim.Native.Nat.{ℕ, suc, _+_, _*_, _-_, _/_, _%_, _≤_, _<_}
+use mathlib.Core.Path.{_≡_, refl, ap, ap₂, _∙_}
+use mathlib.Core.List.{List, [], _++_, append-nil}
+use mathlib.Core.Bool.{Bool, true, _&&_}
+use native.Mathlib.Omega.{arith}
+use native.Mathlib.Nat.{mul-le-mul-left}
+use lib.Dec.{eqb}
+use lib.ListN.{length, drop, length-append, length-drop, drop-of-length-le}
+use lib.Seq.{drop-at}
+use borrow.Author.Tests.{eqb-true, eq-eqb, ne-eqb, ltb-false, leb-false, not-false}
+use Rattle.buffer.specs.Choice.{pick}
+use Rattle.buffer.specs.ChoiceLaws.{by-test, pick-true}
+use Rattle.buffer.specs.Range.{count, sum}
+use Rattle.buffer.specs.RangeLaws.{count-zero, sum-more, sum-mono}
+use Rattle.buffer.specs.Bytes.{zeros, part}
+use Rattle.buffer.specs.SpliceLaws.{part-left, part-right}
+use Rattle.buffer.specs.Table.{tab}
+use Rattle.buffer.specs.TableLaws.{tab-one, tab-append, length-tab, length-tab-sum, part-chunk}
+use Rattle.group.specs.Widths.{keyBytes, bodyBytes, slotBytes}
+use Rattle.group.specs.Rebuilding.{rebuilt}
+use Rattle.model.specs.Layout.{Store, view, keyOf}
+use Rattle.model.specs.Reads.{homeIn, beyondIn, servesIn, holds, listedKey, listedFill, listedRank}
+use Rattle.model.specs.Reads.{wholeSlot, bodyIn, lostIn, totalIn, listingIn}
+use Rattle.model.specs.ReadLaws.{listed-most, whole-own}
+use Rattle.model.specs.Sound.{sound}
+use Rattle.model.specs.Changes.{repaired}
+use Rattle.model.specs.Numbers.{read, list, repair, refusalsIn, numberIn}
+use Rattle.model.specs.Perform.{copied, listed, output, reply, givenIn, answerIn, perform}
+use Rattle.model.specs.MadeAnew.{leftBy}
+use Rattle.model.specs.Recovered.{Listing, Recovered}
+use Rattle.model.specs.history.Typed.{Bytes}
+use Rattle.model.proofs.InPlace.{home-low}
+use Rattle.model.proofs.Left.{shaped, free, repair-group, repair-sound, repair-near, repair-left}
+use Rattle.model.proofs.RebuiltSlots.{Rebuildable, bodies-held, key, body, whole-slot, key-long, body-long, whole-out, whole-long}
+
+-- rows of chunks of w bytes, g i of them in row i, one behind the other: the chunk at place r of row i
+part-rows : (n w : ℕ) (g : ℕ → ℕ) (f : ℕ → ℕ → List ℕ) → ((i r : ℕ) → i < n → r < g i → length (f i r) ≡ w) → (i r : ℕ) → i < n → r < g i
+    → part (w * (sum i g + r)) w (tab n (λ i. tab (g i) (f i))) ≡ f i r
+part-rows n w g f h i r l m =
+    let row : ℕ → List ℕ = λ i. tab (g i) (f i) in
+    let k : ℕ = n - suc i in
+    let whole : n ≡ i + (1 + k) = omega arith in
+    let here : i + 0 ≡ i = omega arith in
+    let at : w * (sum i g + r) ≡ w * sum i g + w * r = omega arith in
+    let inside : w * suc r ≤ w * g i = mul-le-mul-left w m in
+    let long : length (row i) ≡ w * g i = length-tab (g i) w (f i) (λ q d. h i q l d) in
+    let before : length (tab i row) ≡ w * sum i g = length-tab-sum i w row g (λ q d. length-tab (g q) w (f q) (λ t e. h q t (omega arith) e)) in
+    ap₂ (λ (o : ℕ) (x : List ℕ). part o w x) at
+    (ap (λ j. tab j row) whole ∙ tab-append i (1 + k) row
+    ∙ ap (λ x. tab i row ++ x) (tab-append 1 k (λ j. row (i + j)) ∙ ap (λ x. x ++ tab k (λ j. row (i + (1 + j)))) (tab-one (λ j. row (i + j)) ∙ ap row here)))
+    ∙ part-right (w * sum i g) (w * r) w (tab i row) _ before
+    ∙ part-left (w * r) w (row i) _ (omega arith)
+    ∙ part-chunk (g i) w (f i) (λ q d. h i q l d) r m
+
+-- ---- a granted repair
+
+module _ (s : List ℕ) (b : Bytes s) (g : ℕ) (zero : numberIn s (repair g) ≡ 0) (r : ℕ) (hr : r < view s .size) where
+  repair-rebuildable : Rebuildable s g r
+  repair-rebuildable = record { bytes = b; ok = repair-sound s g zero; group = repair-group s g zero; near = repair-near s g zero; rank = hr }
+
+  repaired-slot : (p : ℕ) → p < 4
+      → leftBy s (repair g) .slot (4 * g + p) r
+      ≡ pick (eqb (view s .dstate (4 * g + p)) 2 && eqb (keyOf (listedKey (view s) (4 * g + p) r)) 0) (zeros slotBytes)
+      (listedKey (view s) (4 * g + p) r ++ rebuilt (servesIn (view s) g) (holds (view s) g r) p)
+  unfolding repaired
+  repaired-slot p l =
+      let d : (4 * g + p) / 4 ≡ g = omega arith in
+      let m : (4 * g + p) % 4 ≡ p = omega arith in
+      let h : Rebuildable s ((4 * g + p) / 4) r = rw d repair-rebuildable in
+      repair-left s g zero .slot (4 * g + p) r (omega (arith, repair-group s g zero)) hr
+      ∙ pick-true (eq-eqb ((4 * g + p) / 4) g d) (wholeSlot (view s) (4 * g + p) r) (view s .slot (4 * g + p) r)
+      ∙ rw (d, m) at (whole-slot (4 * g + p) h)
+
+-- ---- a granted read
+
+module _ (s : List ℕ) (b : Bytes s) (k : ℕ) (out : List ℕ) (zero : numberIn s (read k out) ≡ 0) (lost : view s .dstate (homeIn (view s) k) ≡ 2) where
+  abbrev home : ℕ
+  home = homeIn (view s) k
+
+  abbrev at : ℕ
+  at = listedRank (view s) (homeIn (view s) k) k
+
+  fits : length out ≡ bodyBytes
+  unfolding refusalsIn
+  fits = eqb-true (length out) bodyBytes (not-false (eqb (length out) bodyBytes) (free s (read k out) zero .1 .0))
+
+  present : at < listedFill (view s) home
+  unfolding refusalsIn
+  present = leb-false (listedFill (view s) home) at (free s (read k out) zero .1 .1 .1 .1 .0)
+
+  read-rebuildable : Rebuildable s (home / 4) at
+  unfolding refusalsIn
+  read-rebuildable =
+      let f = free s (read k out) zero in
+      let sure : sound s ≡ true = not-false (sound s) (f .1 .1 .0) in
+      record {
+        bytes = b;
+        ok = sure;
+        group = omega (arith, home-low s sure k);
+        near = rw (eq-eqb (view s .dstate home) 2 lost) at (f .1 .1 .1 .0);
+        rank = omega (arith, present, listed-most (view s) home);
+      }
+
+  body-read : bodyIn (view s) k ≡ body home read-rebuildable
+  unfolding bodyIn
+  body-read =
+      ap (drop keyBytes) (whole-out home read-rebuildable lost present)
+      ∙ drop-at (key home read-rebuildable) (body home read-rebuildable) keyBytes (key-long home read-rebuildable lost present)
+
+  read-answer : perform s (read k out) .answer ≡ copied 0 (body home read-rebuildable)
+  unfolding perform answerIn reply givenIn output
+  read-answer =
+      let filled : drop (length (body home read-rebuildable)) out ≡ [] =
+      drop-of-length-le out {i = length (body home read-rebuildable)} (omega (arith, fits, body-long home read-rebuildable lost present)) in
+      rw (zero, body-read, filled) (ap (copied 0) (pick-true refl _ out ∙ append-nil _))
+
+-- ---- a granted list
+
+module _ (s : List ℕ) (b : Bytes s) (out : List ℕ) (zero : numberIn s (list out) ≡ 0) where
+  abbrev t : Store
+  t = view s
+
+  list-sound : sound s ≡ true
+  unfolding refusalsIn
+  list-sound = not-false (sound s) (free s (list out) zero .0)
+
+  room : slotBytes * totalIn t ≤ length out
+  unfolding refusalsIn
+  room = ltb-false (length out) (slotBytes * totalIn t) (free s (list out) zero .1 .1 .0)
+
+  -- no unit is lost
+  list-rebuildable : (u r : ℕ) → u < 16 → r < listedFill t u → t .dstate u ≡ 2 → Rebuildable s (u / 4) r
+  unfolding refusalsIn lostIn
+  list-rebuildable u r l m e =
+      let f : ℕ → Bool = λ u. eqb (t .dstate u) 2 && beyondIn t (u / 4) in
+      let none : count 16 f ≤ 0 = ltb-false 0 (count 16 f) (free s (list out) zero .1 .0) in
+      record {
+        bytes = b;
+        ok = list-sound;
+        group = omega arith;
+        near = rw (eq-eqb (t .dstate u) 2 e) at (count-zero 16 f (omega arith) u l);
+        rank = omega (arith, listed-most t u);
+      }
+
+  slot-long : (u r : ℕ) → u < 16 → r < listedFill t u → length (wholeSlot t u r) ≡ slotBytes
+  slot-long u r l m =
+      by-test (λ _. length (wholeSlot t u r) ≡ slotBytes) (eqb (t .dstate u) 2)
+      (λ e. let lost : t .dstate u ≡ 2 = eqb-true (t .dstate u) 2 e in whole-long u (list-rebuildable u r l m lost) lost m)
+      (λ e. ap length (whole-own t u r e) ∙ shaped s list-sound .slot u r l (omega (arith, listed-most t u)))
+
+  listing-long : length (listingIn t) ≡ slotBytes * totalIn t
+  unfolding listingIn totalIn
+  listing-long = length-tab-sum 16 slotBytes _ (listedFill t) (λ u l. length-tab (listedFill t u) slotBytes (wholeSlot t u) (λ r m. slot-long u r l m))
+
+  abbrev rest : List ℕ
+  rest = drop (slotBytes * totalIn t) out
+
+  record-at : (u r : ℕ) → u < 16 → r < listedFill t u → part (slotBytes * (sum u (listedFill t) + r)) slotBytes (listingIn t ++ rest) ≡ wholeSlot t u r
+  unfolding listingIn totalIn
+  record-at u r l m =
+      part-left (slotBytes * (sum u (listedFill t) + r)) slotBytes (listingIn t) rest
+      (omega (arith, listing-long, sum-more (listedFill t) u, sum-mono (u + 1) 16 (listedFill t) (omega arith)))
+      ∙ part-rows 16 slotBytes (listedFill t) (wholeSlot t) slot-long u r l m
+
+  list-answer : perform s (list out) .answer ≡ listed 0 (totalIn t) (listingIn t ++ rest)
+  unfolding perform answerIn reply givenIn output
+  list-answer = rw (zero, listing-long) (ap₂ (listed 0) (pick-true refl (totalIn t) 0) (pick-true refl (listingIn t ++ rest) out))
+
+  listing : Listing s out
+  listing = record {
+    written = listingIn t ++ rest;
+    answered = list-answer;
+    long = length-append (listingIn t) rest ∙ simp length-drop (omega (arith, listing-long, room));
+    own = λ u r l m e. record-at u r l m ∙ whole-own t u r (ne-eqb (t .dstate u) 2 e);
+    rebuilt = λ u r l m e. let h : Rebuildable s (u / 4) r = list-rebuildable u r l m e in (_, bodies-held h, record-at u r l m ∙ whole-out u h e m);
+    behind = drop-at (listingIn t) rest (slotBytes * totalIn t) listing-long;
+  }
+
+-- EVERY SOUND STORE
+pub recovered : (s : List ℕ) → Bytes s → Recovered s
+recovered s b = record {
+  by-repair = λ g z r hr. (_, bodies-held (repair-rebuildable s b g z r hr), repaired-slot s b g z r hr);
+  by-read = λ k out z lost. (_, bodies-held (read-rebuildable s b k out z lost), read-answer s b k out z lost);
+  by-list = listing s b;
+}

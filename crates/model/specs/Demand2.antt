@@ -1,0 +1,74 @@
+-- Demand 2: the statements. A key's unit is the one that linear hashing gives. Check records are the group's records times the paper's matrix over
+-- GF(16). Four members under any four different columns, of all seventeen, fix the data, and rebuilding returns just that data. Assumes nothing.
+use Prim.Native.Nat.{ℕ, _+_, _*_, _-_, _%_, _^_, _≤_, _<_}
+use mathlib.Core.Path.{_≡_}
+use mathlib.Core.List.{List, _++_, map}
+use mathlib.Core.Bool.{true}
+use lib.Dec.{ltb}
+use lib.ListN.{length, getD}
+use Rattle.buffer.specs.Choice.{pick}
+use Rattle.buffer.specs.Bytes.{bytes32}
+use Rattle.buffer.specs.Table.{tab}
+use Rattle.code.specs.Matrix.{encode, within, Rebuilds}
+use Rattle.code.specs.Columns.{FourColumns}
+use Rattle.group.specs.Body.{Bodies}
+use Rattle.group.specs.Parity.{bodyAt}
+use Rattle.group.specs.Rebuilding.{rebuiltFrom}
+use Rattle.model.specs.Units.{unitOf}
+use Rattle.model.specs.Layout.{Store, view}
+use Rattle.model.specs.Numbers.{Call}
+use Rattle.model.specs.Perform.{layOutNumber}
+use Rattle.model.specs.MadeAnew.{MadeAnew}
+use Rattle.model.specs.Recovered.{Recovered}
+use Rattle.model.specs.RepairKeeps.{RepairKeeps}
+use Rattle.model.specs.history.Ledger.{Ledger, opened, recordAt}
+use Rattle.model.specs.history.Answers.{final}
+use Rattle.model.specs.history.Typed.{Bytes, AllTyped}
+use Rattle.model.specs.history.Claims.{left}
+
+-- linear hashing over m units: there is a largest j for which 2^j ≤ m, and a key's unit is key mod 2^j, or key mod 2^(j+1) where the former is below
+-- n = m - 2^j
+pub record LinearHashing (m : ℕ) : Type 0 where
+  pub level : (j : ℕ) × (2 ^ j ≤ m) × (m < 2 ^ (j + 1))
+  pub unit : (j : ℕ) → 2 ^ j ≤ m → m < 2 ^ (j + 1) → (k : ℕ) → unitOf m k ≡ pick (ltb (k % 2 ^ j) (m - 2 ^ j)) (k % 2 ^ (j + 1)) (k % 2 ^ j)
+
+-- each check unit in service holds, at each rank, the four keys of the ledger's records of its group, and their bodies at column 4 + j
+abbrev pub HoldsLedger : Store → Ledger → Type 0
+HoldsLedger v l = (g j r : ℕ) → g < 4 → j < 3 → r < v .size → v .cstate (3 * g + j) ≡ 1
+    → v .check (3 * g + j) r ≡ tab 4 (λ p. bytes32 (recordAt l (4 * g + p) r .key)) ++ bodyAt (4 + j) (λ p. recordAt l (4 * g + p) r .body)
+
+-- symbols at four columns
+pub record SymbolsFixed (cs : List ℕ) : Type 0 where
+  -- data that have the same symbols there are the same
+  pub fixed : (ds es : List ℕ) → length ds ≡ 4 → length es ≡ 4 → within 15 ds ≡ true → within 15 es ≡ true
+      → ((i : ℕ) → i < 4 → encode ds (getD cs i 0) ≡ encode es (getD cs i 0)) → ds ≡ es
+  -- rebuilding from the symbols of data is granted, and returns just them
+  pub returned : (ds : List ℕ) → length ds ≡ 4 → within 15 ds ≡ true → (n : ℕ) (es : List ℕ) → Rebuilds cs (map (encode ds) cs) n es → (n ≡ 0) × (es ≡ ds)
+
+-- bodies of n bytes at four columns
+pub record BodiesFixed (n : ℕ) (cs : List ℕ) : Type 0 where
+  -- bodies that are the same there are the same
+  pub fixed : (f g : ℕ → List ℕ) → Bodies n f → Bodies n g → ((i : ℕ) → i < 4 → bodyAt (getD cs i 0) f ≡ bodyAt (getD cs i 0) g)
+      → (p : ℕ) → p < 4 → f p ≡ g p
+  -- rebuilding from them returns just them
+  pub returned : (f : ℕ → List ℕ) → Bodies n f → (p : ℕ) → p < 4 → rebuiltFrom cs (λ i. bodyAt (getD cs i 0) f) p ≡ f p
+  -- whatever is held there, right or wrong, rebuilding gives bodies that have it
+  pub bodies : (hold : ℕ → List ℕ) → Bodies n hold → Bodies n (rebuiltFrom cs hold)
+  pub held : (hold : ℕ → List ℕ) → Bodies n hold → (i : ℕ) → i < 4 → bodyAt (getD cs i 0) (rebuiltFrom cs hold) ≡ hold i
+
+-- DEMAND 2
+pub record Demand2 : Type 0 where
+  -- "A key's unit is the one that linear hashing gives."
+  pub hashed : (m : ℕ) → 1 ≤ m → m ≤ 16 → LinearHashing m
+  -- "Check records are the group's records times the paper's matrix": in every history, and of every check unit that a call makes anew
+  pub in-histories : (s : List ℕ) (b : ℕ) → layOutNumber s b ≡ 0 → (cs : List Call) → AllTyped cs → HoldsLedger (view (left s b cs)) (final (opened b) cs)
+  pub made-anew : (s : List ℕ) → MadeAnew s
+  -- "Four members under any four different columns fix the data, and rebuilding returns just that data": of symbols and of bodies
+  pub symbols : (cs : List ℕ) → FourColumns cs → SymbolsFixed cs
+  pub bodies : (n : ℕ) (cs : List ℕ) → FourColumns cs → BodiesFixed n cs
+  -- rebuilding of symbols has an answer for any columns and symbols, and only one
+  pub answered : (cs ys : List ℕ) → length cs ≡ 4 → length ys ≡ 4 → (n : ℕ) × (ds : List ℕ) × Rebuilds cs ys n ds
+  pub only : (cs ys : List ℕ) → length cs ≡ 4 → (n k : ℕ) (ds es : List ℕ) → Rebuilds cs ys n ds → Rebuilds cs ys k es → (n ≡ k) × (ds ≡ es)
+  -- rebuilding in a store, by repair, read and list; and what repair leaves alone
+  pub recovered : (s : List ℕ) → Bytes s → Recovered s
+  pub repair-keeps : (s : List ℕ) (g : ℕ) → RepairKeeps s g

@@ -1,0 +1,82 @@
+/*
+ * What include/lhrs.h says and the other tests do not show: a pointer with length 0 may be null, and
+ * what its macros read. It is C99 and C++98. Build and run it with tests/header.
+ */
+#include "lhrs.h"
+
+#include <stdio.h>
+#include <stdlib.h>
+
+#define SLOTS 2u
+
+static uint8_t store[LHRS_LENGTH(SLOTS)];
+static uint8_t body[LHRS_BODY];
+
+/* Stops where a number is not the expected one. */
+static void expect(const char *what, size_t number, size_t expected)
+{
+    if (number != expected) {
+        printf("%s: %lu, expected %lu\n", what, (unsigned long)number, (unsigned long)expected);
+        exit(EXIT_FAILURE);
+    }
+}
+
+/* No store, no body, no output: the numbers of the table. */
+static void null_blocks(void)
+{
+    size_t count = 99;
+    expect("lay out", lhrs_lay_out(NULL, 0, SLOTS), LHRS_NO_ROOM);
+    expect("lay out, b = 0", lhrs_lay_out(NULL, 0, 0), LHRS_BAD_ARGUMENT);
+    expect("teach", lhrs_teach(NULL, 0, 1, body, LHRS_BODY), LHRS_NOT_SOUND);
+    expect("teach, no body", lhrs_teach(store, sizeof store, 1, NULL, 0), LHRS_BAD_ARGUMENT);
+    expect("correct", lhrs_correct(NULL, 0, 1, body, LHRS_BODY), LHRS_NOT_SOUND);
+    expect("correct, no body", lhrs_correct(store, sizeof store, 1, NULL, 0), LHRS_BAD_ARGUMENT);
+    expect("erase", lhrs_erase(NULL, 0, 1), LHRS_NOT_SOUND);
+    expect("read", lhrs_read(NULL, 0, 1, body, LHRS_BODY), LHRS_NOT_SOUND);
+    expect("read, no output", lhrs_read(store, sizeof store, 1, NULL, 0), LHRS_BAD_ARGUMENT);
+    expect("list", lhrs_list(NULL, 0, NULL, 0, &count), LHRS_NOT_SOUND);
+    expect("count of a refused list", count, 0);
+    expect("out", lhrs_out(NULL, 0, 0), LHRS_NOT_SOUND);
+    expect("repair", lhrs_repair(NULL, 0, 0), LHRS_NOT_SOUND);
+    expect("grow", lhrs_grow(NULL, 0), LHRS_NOT_SOUND);
+    expect("shrink", lhrs_shrink(NULL, 0), LHRS_NOT_SOUND);
+    expect("raise", lhrs_raise(NULL, 0), LHRS_NOT_SOUND);
+}
+
+/* A list into no output: granted while there is no record. */
+static void list_into_nothing(void)
+{
+    size_t count = 99;
+    expect("list of none", lhrs_list(store, sizeof store, NULL, 0, &count), LHRS_GRANTED);
+    expect("count of none", count, 0);
+    expect("teach", lhrs_teach(store, sizeof store, 1, body, LHRS_BODY), LHRS_GRANTED);
+    count = 99;
+    expect("list of one", lhrs_list(store, sizeof store, NULL, 0, &count), LHRS_NO_ROOM);
+    expect("count of a refused list", count, 0);
+}
+
+/* What the macros read of a store with so many data units, so many levels, and unit 0 in a state. */
+static void reads(unsigned units, unsigned level, enum lhrs_state first)
+{
+    expect("units", LHRS_UNITS(store), units);
+    expect("level", LHRS_LEVEL(store), level);
+    expect("state of data unit 0", LHRS_STATE(store, 0), (size_t)first);
+    expect("state of data unit 15", LHRS_STATE(store, 15), LHRS_STATE_NOT_IN_PLACE);
+    expect("state of check unit 0", LHRS_STATE(store, LHRS_CHECK_UNIT(0, 0)),
+           LHRS_STATE_IN_SERVICE);
+    expect("state of the last unit", LHRS_STATE(store, LHRS_CHECK_UNIT(3, 2)),
+           LHRS_STATE_NOT_IN_PLACE);
+}
+
+int main(void)
+{
+    expect("lay out", lhrs_lay_out(store, sizeof store, SLOTS), LHRS_GRANTED);
+    null_blocks();
+    reads(1, 1, LHRS_STATE_IN_SERVICE);
+    list_into_nothing();
+    expect("raise", lhrs_raise(store, sizeof store), LHRS_GRANTED);
+    expect("grow", lhrs_grow(store, sizeof store), LHRS_GRANTED);
+    expect("out", lhrs_out(store, sizeof store, 0), LHRS_GRANTED);
+    reads(2, 2, LHRS_STATE_OUT);
+    return EXIT_SUCCESS;
+}
