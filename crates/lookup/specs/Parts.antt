@@ -12,5 +12,6 @@ pub part-start : (block o at to : ℕ) → at ≡ to → _≡_ {A = ℕ × ℕ} 
 part-start block o at to e = let same : at + o ≡ o + to = omega arith in ap (λ (n : ℕ). (block, n)) same
 
 -- n bytes from at on, as code hands them back
-pub handed-back : (s : List ℕ) (block o at n to : ℕ) → at ≡ to → (take (at + n - at) (drop at s) ≡ part to n s) × _≡_ {A = ℕ × ℕ} (block, at + o) (block, o + to)
+pub handed-back : (s : List ℕ) (block o at n to : ℕ) → at ≡ to
+    → (take (at + n - at) (drop at s) ≡ part to n s) × _≡_ {A = ℕ × ℕ} (block, at + o) (block, o + to)
 handed-back s block o at n to e = (part-lent s at n to e, part-start block o at to e)

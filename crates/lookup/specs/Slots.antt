@@ -77,7 +77,8 @@ pub record Recipe (s : List ℕ) (u : ℕ) (members weights : List ℕ) : Type 0
   pub small : within 15 weights ≡ true
 
 -- the first four members in service are four different columns below 7
-pub recipe-members : {s : List ℕ} {u : ℕ} {members : List ℕ} → Recoverable s u → byte s (8 + u) ≡ 2 → members ≡ firstFour (servesIn (view s) (u / 4)) → Members (servesIn (view s) (u / 4)) members
+pub recipe-members : {s : List ℕ} {u : ℕ} {members : List ℕ} → Recoverable s u → byte s (8 + u) ≡ 2 → members ≡ firstFour (servesIn (view s) (u / 4))
+    → Members (servesIn (view s) (u / 4)) members
 recipe-members {s} {u} h e f = rw f (group-four (h .sized) (u / 4) (let q = h .unit in omega arith) (h .whole e))
 
 -- four bodies that were read one by one
@@ -95,7 +96,8 @@ module _ {s : List ℕ} {u : ℕ} {members weights : List ℕ} (recipe : Recipe 
   unfolding rebuilt
   body-rebuilt r bodies h = weighed-ext weights _ _ h ∙ rw (recipe .weigh, recipe .four)
 
-  pub slot-rebuilt : (r : ℕ) (body : List ℕ) → (keyOf (listedKey (view s) u r) ≡ 0 → ⊥) → body ≡ rebuilt (servesIn (view s) (u / 4)) (holds (view s) (u / 4) r) (u % 4)
+  pub slot-rebuilt : (r : ℕ) (body : List ℕ) → (keyOf (listedKey (view s) u r) ≡ 0 → ⊥)
+      → body ≡ rebuilt (servesIn (view s) (u / 4)) (holds (view s) (u / 4) r) (u % 4)
       → listedKey (view s) u r ++ body ≡ wholeSlot (view s) u r
   unfolding wholeSlot
   slot-rebuilt r body h e =
@@ -148,7 +150,8 @@ module _ {s : List ℕ} {u : ℕ} (unit : Recoverable s u) (r : ℕ) (l : r < by
       by-pick
       (λ (x : List ℕ). length x ≡ slotBytes)
       (eqb (view s .dstate u) 2)
-      (pick (eqb (keyOf (listedKey (view s) u r)) 0) (zeros slotBytes) (listedKey (view s) u r ++ rebuilt (servesIn (view s) (u / 4)) (holds (view s) (u / 4) r) (u % 4)))
+      (pick (eqb (keyOf (listedKey (view s) u r)) 0) (zeros slotBytes)
+      (listedKey (view s) u r ++ rebuilt (servesIn (view s) (u / 4)) (holds (view s) (u / 4) r) (u % 4)))
       (view s .slot u r)
       (λ e.
       let out : byte s (8 + u) ≡ 2 = unfold view in eqb-true (view s .dstate u) 2 e in

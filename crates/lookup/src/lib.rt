@@ -301,7 +301,8 @@ pub fn rebuild_body(
     weights: [u8; 4],
     table: &[u8; 256],
 )
-    requires { ⌜ (length (now out) ≡ bodyBytes) × Sized (now s) × (g < 4) × (r < byte (now s) 5) × ((i : ℕ) → i < 4 → getD members i 0 < 7) × (within 15 weights ≡ true) × (now table ≡ products) ⌝ }
+    requires { ⌜ (length (now out) ≡ bodyBytes) × Sized (now s) × (g < 4) × (r < byte (now s) 5) × ((i : ℕ) → i < 4 → getD members i 0 < 7)
+        × (within 15 weights ≡ true) × (now table ≡ products) ⌝ }
     ensures { λ _. ⌜ now (out .exit) ≡ weighed weights (λ i. holds (view (now (s .entry))) g r (getD members i 0)) ⌝ }
 {
     let a = held(s, g, r, members[0]);
@@ -322,7 +323,8 @@ pub fn rebuild_slot(
     weights: [u8; 4],
     table: &[u8; 256],
 )
-    requires { ⌜ (length (now out) ≡ slotBytes) × Recipe (now s) u members weights × (r < byte (now s) 5) × (keys ≡ keysAt (now s) u) × (now table ≡ products) ⌝ }
+    requires { ⌜ (length (now out) ≡ slotBytes) × Recipe (now s) u members weights × (r < byte (now s) 5) × (keys ≡ keysAt (now s) u)
+        × (now table ≡ products) ⌝ }
     ensures { λ _. ⌜ now (out .exit) ≡ wholeSlot (view (now (s .entry))) u r ⌝ }
 {
     let at = keys + group::CHECK * buffer::wide(r);

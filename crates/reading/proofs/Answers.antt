@@ -20,7 +20,8 @@ use Rattle.model.specs.Numbers.{Call, numberIn, refusalsIn, firstOf}
 use Rattle.model.specs.Perform.{copied, lent, listed, output, reply, Place, placeIn, givenIn, grantedIn, outcome, answerIn, afterIn, perform}
 
 -- ---- read
-pub read-refused : (s : List ℕ) (k : ℕ) (out : List ℕ) (r : ℕ) → r ≡ numberIn s (Call.read k out) → (r ≡ 0 → ⊥) → outcome (copied r out) s ≡ perform s (Call.read k out)
+pub read-refused : (s : List ℕ) (k : ℕ) (out : List ℕ) (r : ℕ) → r ≡ numberIn s (Call.read k out) → (r ≡ 0 → ⊥)
+    → outcome (copied r out) s ≡ perform s (Call.read k out)
 unfolding perform answerIn afterIn reply output pick
 read-refused s k out r e h = rw (← e, ne-eqb r 0 h)
 
@@ -29,12 +30,14 @@ pub read-granted : (s : List ℕ) (k : ℕ) (out new : List ℕ) → 0 ≡ numbe
 unfolding perform answerIn afterIn reply output givenIn grantedIn pick
 read-granted s k out new e f l = rw (← e, ← f, drop-of-length-le out {i = length new} (omega arith), append-nil new)
 
-pub body-is : (s : List ℕ) (k u r : ℕ) (x : List ℕ) → u ≡ homeIn (view s) k → r ≡ listedRank (view s) u k → x ≡ drop keyBytes (wholeSlot (view s) u r) → x ≡ bodyIn (view s) k
+pub body-is : (s : List ℕ) (k u r : ℕ) (x : List ℕ) → u ≡ homeIn (view s) k → r ≡ listedRank (view s) u k → x ≡ drop keyBytes (wholeSlot (view s) u r)
+    → x ≡ bodyIn (view s) k
 unfolding bodyIn
 body-is s k u r x eu er ex = ex ∙ rw (er, eu)
 
 -- ---- list
-pub list-refused : (s out : List ℕ) (r n : ℕ) → r ≡ numberIn s (Call.list out) → (r ≡ 0 → ⊥) → n ≡ pick (eqb r 0) (totalIn (view s)) 0 → outcome (listed r n out) s ≡ perform s (Call.list out)
+pub list-refused : (s out : List ℕ) (r n : ℕ) → r ≡ numberIn s (Call.list out) → (r ≡ 0 → ⊥) → n ≡ pick (eqb r 0) (totalIn (view s)) 0
+    → outcome (listed r n out) s ≡ perform s (Call.list out)
 unfolding perform answerIn afterIn reply output pick
 list-refused s out r n e h f = rw (f, ← e, ne-eqb r 0 h)
 
@@ -44,28 +47,6 @@ unfolding perform answerIn afterIn reply output givenIn grantedIn pick
 list-granted s out new r n e z f g = rw (f, g, ← e, z)
 
 -- ---- read in place
--- the part that code hands back: nothing, or the 16 bytes behind the key of a slot
-pub part-empty : (s : List ℕ) (p : Place) → p ≡ record { at = 0; size = 0 } → [] ≡ part (p .at) (p .size) s
-unfolding part
-part-empty s p e = sym (ap (λ (q : Place). part (q .at) (q .size) s) e)
-
-pub part-body : (s : List ℕ) (p : Place) (slot at : ℕ) → p ≡ record { at = slot + keyBytes; size = bodyBytes } → at ≡ slot → take (at + 20 - (at + 4)) (drop (at + 4) s) ≡ part (p .at) (p .size) s
-unfolding part
-part-body s p slot at e f =
-    let w : at + 20 - (at + 4) ≡ 16 = omega arith in
-    rw (w, f) (sym (ap (λ (q : Place). part (q .at) (q .size) s) e))
-
--- where it starts: the place of the part, counted from the start of the store at (block, o); nothing is said of an empty part
-pub start-empty : {A : Type 0} (p : Place) → p ≡ record { at = 0; size = 0 } → p .size ≡ bodyBytes → A
-start-empty p e h =
-    let none : p .size ≡ 0 = ap (λ (q : Place). q .size) e in
-    absurd (omega arith)
-
-pub start-body : (block o : ℕ) (p : Place) (slot at : ℕ) → p ≡ record { at = slot + keyBytes; size = bodyBytes } → at ≡ slot → _≡_ {A = ℕ × ℕ} (block, at + 4 + o) (block, o + p .at)
-start-body block o p slot at e f =
-    let there : p .at ≡ slot + keyBytes = ap (λ (q : Place). q .at) e in
-    part-start block o (at + 4) (p .at) (omega arith)
-
 module _ (s : List ℕ) (k : ℕ) where
   -- refused as read into a buffer that fits
   pub nowhere : (n : ℕ) → n ≡ numberIn s (Call.read k (zeros bodyBytes)) → (n ≡ 0 → ⊥) → placeIn s k ≡ record { at = 0; size = 0 }
@@ -88,6 +69,28 @@ module _ (s : List ℕ) (k : ℕ) where
       pick-true (and-true (ap (λ x. eqb x 0) (sym e)) (ap not (ne-eqb _ 2 here))) _ _
       ∙ rw (← eu, own-rank s u h k, ← er) (unfold view in refl)
 
-  pub lent-part : (x : List ℕ) → x ≡ part (placeIn s k .at) (placeIn s k .size) s → outcome (lent x) s ≡ perform s (Call.readInPlace k)
+  -- the part that code hands back, and where it starts in the store, which starts at (block, o): nothing, of which no start is asked
+  lent-part : (x : List ℕ) → x ≡ part (placeIn s k .at) (placeIn s k .size) s → outcome (lent x) s ≡ perform s (Call.readInPlace k)
   unfolding perform answerIn afterIn reply givenIn grantedIn numberIn refusalsIn firstOf pick
   lent-part x e = rw e
+
+  pub lent-nothing : {A : Type 0} → placeIn s k ≡ record { at = 0; size = 0 }
+      → (outcome (lent []) s ≡ perform s (Call.readInPlace k)) × (([] ≡ part (placeIn s k .at) (placeIn s k .size) s) × (placeIn s k .size ≡ bodyBytes → A))
+  unfolding part
+  lent-nothing e =
+      let none : placeIn s k .size ≡ 0 = ap (λ (q : Place). q .size) e in
+      let here : [] ≡ part (placeIn s k .at) (placeIn s k .size) s = sym (ap (λ (q : Place). part (q .at) (q .size) s) e) in
+      (lent-part [] here, (here, λ h. absurd (omega arith)))
+
+  -- or the 16 bytes behind the key of a slot
+  pub lent-body : (block o slot at : ℕ) → placeIn s k ≡ record { at = slot + keyBytes; size = bodyBytes } → at ≡ slot
+      → (outcome (lent (take (at + 20 - (at + 4)) (drop (at + 4) s))) s ≡ perform s (Call.readInPlace k))
+      × ((take (at + 20 - (at + 4)) (drop (at + 4) s) ≡ part (placeIn s k .at) (placeIn s k .size) s)
+      × (placeIn s k .size ≡ bodyBytes → _≡_ {A = ℕ × ℕ} (block, at + 4 + o) (block, o + placeIn s k .at)))
+  unfolding part
+  lent-body block o slot at e f =
+      let there : placeIn s k .at ≡ slot + keyBytes = ap (λ (q : Place). q .at) e in
+      let width : at + 20 - (at + 4) ≡ 16 = omega arith in
+      let here : take (at + 20 - (at + 4)) (drop (at + 4) s) ≡ part (placeIn s k .at) (placeIn s k .size) s =
+      rw (width, f) (sym (ap (λ (q : Place). part (q .at) (q .size) s) e)) in
+      (lent-part _ here, (here, λ _. part-start block o (at + 4) (placeIn s k .at) (omega arith)))

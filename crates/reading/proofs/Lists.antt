@@ -23,7 +23,8 @@ records s u = tab (listedFill (view s) u) (wholeSlot (view s) u)
 pub fill-at : {s fills firstChecks : List ℕ} {u i : ℕ} → Learned s fills firstChecks → u < 16 → i ≡ u → getD fills i 0 ≡ listedFill (view s) u
 fill-at {s} {fills} {u = u} h l e = ap (λ j. getD fills j 0) e ∙ h .listed u l
 
-pub first-check-at : {s fills firstChecks : List ℕ} {u i : ℕ} → Learned s fills firstChecks → u < 16 → i ≡ u / 4 → getD firstChecks i 0 ≡ firstCheck (view s) (u / 4)
+pub first-check-at : {s fills firstChecks : List ℕ} {u i : ℕ} → Learned s fills firstChecks → u < 16 → i ≡ u / 4
+    → getD firstChecks i 0 ≡ firstCheck (view s) (u / 4)
 first-check-at {firstChecks = firstChecks} {u = u} h l e = ap (λ j. getD firstChecks j 0) e ∙ h .kept (u / 4) (omega arith)
 
 pub slots-wide : {s : List ℕ} {u : ℕ} → Recoverable s u → (n : ℕ) → n ≤ byte s 5 → Wide n slotBytes (wholeSlot (view s) u)
@@ -31,17 +32,20 @@ slots-wide h n l r k = length-whole h r (omega arith)
 
 module _ {s : List ℕ} (whole : Whole s) where
   pub records-long : (u : ℕ) → u < 16 → length (records s u) ≡ slotBytes * listedFill (view s) u
-  records-long u l = length-tab (listedFill (view s) u) slotBytes (wholeSlot (view s) u) (slots-wide (whole-unit whole u l) (listedFill (view s) u) (listed-fill-small s u))
+  records-long u l =
+      length-tab (listedFill (view s) u) slotBytes (wholeSlot (view s) u) (slots-wide (whole-unit whole u l) (listedFill (view s) u) (listed-fill-small s u))
 
   pub listing-long : length (tab 16 (records s)) ≡ slotBytes * totalIn (view s)
   unfolding totalIn
   listing-long = length-tab-sum 16 slotBytes (records s) (listedFill (view s)) records-long
 
   -- a buffer with room for all has room for the next unit's
-  pub records-fit : (u n room : ℕ) → u < 16 → n ≡ listedFill (view s) u → slotBytes * totalIn (view s) ≤ room → length (tab u (records s)) + slotBytes * n ≤ room
+  pub records-fit : (u n room : ℕ) → u < 16 → n ≡ listedFill (view s) u → slotBytes * totalIn (view s) ≤ room
+      → length (tab u (records s)) + slotBytes * n ≤ room
   records-fit u n room l e h = omega (arith, tab-room 16 u (records s) l, records-long u l, listing-long)
 
-pub listing-is : (s o o₀ : List ℕ) → o ≡ tab 16 (records s) ++ drop (length (tab 16 (records s))) o₀ → o ≡ listingIn (view s) ++ drop (length (listingIn (view s))) o₀
+pub listing-is : (s o o₀ : List ℕ) → o ≡ tab 16 (records s) ++ drop (length (tab 16 (records s))) o₀
+    → o ≡ listingIn (view s) ++ drop (length (listingIn (view s))) o₀
 unfolding listingIn
 listing-is s o o₀ e = e
 

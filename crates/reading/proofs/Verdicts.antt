@@ -104,14 +104,22 @@ module _ {s : List ℕ} {ok : Bool} {fills firstChecks outs : List ℕ} {k n u :
 
 -- ---- list
 pub not-counted : {s : List ℕ} {ok : Bool} {n : ℕ} (m : ℕ) → suc m ≡ listNumber ok (view s) n → Counted s ok n (suc m) 0
-not-counted m e = record { given = e; records = sym (pick-false (ne-eqb (suc m) 0 (λ z. omega arith)) _ _); sound = λ z. absurd (omega arith); whole = λ z. absurd (omega arith); room = λ z. absurd (omega arith) }
+not-counted m e =
+    record {
+      given = e;
+      records = sym (pick-false (ne-eqb (suc m) 0 (λ z. omega arith)) _ _);
+      sound = λ z. absurd (omega arith);
+      whole = λ z. absurd (omega arith);
+      room = λ z. absurd (omega arith);
+    }
 
 -- nothing is lost
 pub safe-store : {s : List ℕ} → Sized s → lostIn (view s) ≡ false → Whole s
 safe-store {s} h e = record { sized = h; units = λ u l. safe-unit h l (none-lost s e u l) .whole }
 
 -- then the survey has counted every unit
-pub whole-learned : {s : List ℕ} {ok : Bool} {fills firstChecks outs : List ℕ} → Surveyed s ok fills firstChecks outs → ok ≡ true → Whole s → Learned s fills firstChecks
+pub whole-learned : {s : List ℕ} {ok : Bool} {fills firstChecks outs : List ℕ} → Surveyed s ok fills firstChecks outs → ok ≡ true → Whole s
+    → Learned s fills firstChecks
 whole-learned g e h =
     record {
       listed = λ u l. fill-read g e u refl l (recoverable-known (whole-unit h u l) .listed);

@@ -102,7 +102,8 @@ pub fn read(s: &[u8], key: u32, out: &mut [u8]) -> u8
 pub fn read_in_place(s: &[u8], key: u32) -> &[u8]
     ensures answer { λ r. ⌜ outcome (lent (now r)) (now (s .entry)) ≡ perform (now (s .entry)) (Call.readInPlace key) ⌝ }
     ensures place { λ r. ⌜ now r ≡ part (placeIn (now (s .entry)) key .at) (placeIn (now (s .entry)) key .size) (now (s .entry)) ⌝ }
-    ensures start { λ r. ⌜ (placeIn (now (s .entry)) key .size ≡ bodyBytes → ptr r ≡ (ptr (s .entry) .0, ptr (s .entry) .1 + placeIn (now (s .entry)) key .at)) ⌝ }
+    ensures start { λ r. ⌜ (placeIn (now (s .entry)) key .size ≡ bodyBytes
+        → ptr r ≡ (ptr (s .entry) .0, ptr (s .entry) .1 + placeIn (now (s .entry)) key .at)) ⌝ }
 {
     let place = look_up(s, soundness::survey_of(s), key, group::BODY);
     if place.number != 0 {
@@ -165,7 +166,8 @@ fn count_records(s: &[u8], survey: soundness::Survey, len: usize) -> Listing
 
 // Rebuilds the first n slots of data unit u, which is out, one behind the other. The first check unit in service of its group is c.
 fn rebuild_unit(s: &[u8], u: u8, n: u8, c: u8, out: &mut [u8], table: &[u8; 256])
-    requires { ⌜ Recoverable (now s) u × (byte (now s) (8 + u) ≡ 2) × (n ≤ byte (now s) 5) × (length (now out) ≡ slotBytes * n) × (now table ≡ products) × (c ≡ firstCheck (view (now s)) (u / 4)) ⌝ }
+    requires { ⌜ Recoverable (now s) u × (byte (now s) (8 + u) ≡ 2) × (n ≤ byte (now s) 5) × (length (now out) ≡ slotBytes * n)
+        × (now table ≡ products) × (c ≡ firstCheck (view (now s)) (u / 4)) ⌝ }
     ensures { λ _. ⌜ now (out .exit) ≡ tab n (wholeSlot (view (now (s .entry))) u) ⌝ }
 {
     let members = lookup::members(s, u / 4);
@@ -191,7 +193,8 @@ fn rebuild_unit(s: &[u8], u: u8, n: u8, c: u8, out: &mut [u8], table: &[u8; 256]
 
 // Copies the first n slots of data unit u, rebuilt where the unit is out, one behind the other. The first check unit in service of its group is c.
 fn copy_unit(s: &[u8], u: u8, n: u8, c: u8, out: &mut [u8], table: &[u8; 256])
-    requires { ⌜ Recoverable (now s) u × (n ≤ byte (now s) 5) × (length (now out) ≡ slotBytes * n) × (now table ≡ products) × (c ≡ firstCheck (view (now s)) (u / 4)) ⌝ }
+    requires { ⌜ Recoverable (now s) u × (n ≤ byte (now s) 5) × (length (now out) ≡ slotBytes * n) × (now table ≡ products)
+        × (c ≡ firstCheck (view (now s)) (u / 4)) ⌝ }
     ensures { λ _. ⌜ now (out .exit) ≡ tab n (wholeSlot (view (now (s .entry))) u) ⌝ }
 {
     if lookup::state(s, u) == 2 {

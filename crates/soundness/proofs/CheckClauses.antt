@@ -60,7 +60,8 @@ module _ (s : List ℕ) (x y b : ℕ) where
   lists-holds h =
       all-holds b (λ r. samePair s (x + 32 * r) (y + 32 * r) && samePair s (x + 32 * r + 8) (y + 32 * r + 8)) (λ r l.
       and-true
-      (and-true (at r l 0 (x + 32 * r) (y + 32 * r) (omega arith) (omega arith) (omega arith)) (at r l 1 (x + 32 * r + 4) (y + 32 * r + 4) (omega arith) (omega arith) (omega arith)))
+      (and-true (at r l 0 (x + 32 * r) (y + 32 * r) (omega arith) (omega arith) (omega arith))
+      (at r l 1 (x + 32 * r + 4) (y + 32 * r + 4) (omega arith) (omega arith) (omega arith)))
       (and-true
       (at r l 2 (x + 32 * r + 8) (y + 32 * r + 8) (omega arith) (omega arith) (omega arith))
       (at r l 3 (x + 32 * r + 8 + 4) (y + 32 * r + 8 + 4) (omega arith) (omega arith) (omega arith))))
@@ -90,5 +91,6 @@ module _ (s : List ℕ) (ok : Ranged s) (c : ℕ) (low : c < 12) where
   unfolding checkGood sameAsFirst checkZero Four
   check-good g =
       by-test (λ _. pick (eqb (byte s (24 + c)) 1) (sameAsFirst s c) (checkZero s c) ≡ true) (eqb (byte s (24 + c)) 1)
-      (λ e. pick-true e _ _ ∙ or-else (eqb (firstCheck (view s) (c / 3)) c) _ (λ _. lists-holds s _ _ (byte s 5) (λ r l p k. sym (g .lists (eqb-true _ _ e) r l p k))))
+      (λ e. pick-true e _ _
+      ∙ or-else (eqb (firstCheck (view s) (c / 3)) c) _ (λ _. lists-holds s _ _ (byte s 5) (λ r l p k. sym (g .lists (eqb-true _ _ e) r l p k))))
       (λ e. pick-false e _ _ ∙ range-zero s _ _ (omega arith) fits (zero-checks s c fits (λ r l. rw e at (g .zero r l))))

@@ -35,7 +35,8 @@ kept-at {s} {firstChecks} {i} g h e l =
     record { found = found; most = omega arith }
 
 -- the units out of a group: four states from 8 + 4g on, three from 24 + 3g on
-pub group-outs : (s : List ℕ) (g : ℕ) {w a b : ℕ} → w ≡ g → a ≡ count 4 (λ i. eqb (byte s (8 + 4 * w + i)) 2) → b ≡ count 3 (λ i. eqb (byte s (24 + 3 * w + i)) 2)
+pub group-outs : (s : List ℕ) (g : ℕ) {w a b : ℕ} → w ≡ g → a ≡ count 4 (λ i. eqb (byte s (8 + 4 * w + i)) 2)
+    → b ≡ count 3 (λ i. eqb (byte s (24 + 3 * w + i)) 2)
     → a + b ≡ outsIn (view s) g
 unfolding outsIn outs view
 group-outs s g e f h =

@@ -64,7 +64,8 @@ module _ {s fills firstChecks outs : List ℕ} where
         out = none-known 4 (outsIn (view s)) (n .unsound) (n .unknown);
       }
 
-  pub surveyed : {good : Bool} → ranges s ≡ true → all 16 (λ u. placed (ltb u (byte s 6)) (byte s (8 + u))) ≡ true → all 4 (groupPlaced s) ≡ true → Counted s good fills → good ≡ true → all 12 (checkGood s) ≡ true
+  pub surveyed : {good : Bool} → ranges s ≡ true → all 16 (λ u. placed (ltb u (byte s 6)) (byte s (8 + u))) ≡ true → all 4 (groupPlaced s) ≡ true
+      → Counted s good fills → good ≡ true → all 12 (checkGood s) ≡ true
       → firstChecks ≡ entries 4 (firstCheck (view s)) → outs ≡ entries 4 (outsIn (view s)) → Surveyed s true fills firstChecks outs
   unfolding pieces
   surveyed {good} range states groups found e checks kept out =

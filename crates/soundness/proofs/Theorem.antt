@@ -100,13 +100,15 @@ module _ (s : List ℕ) where
       ∙ us (4 * (c / 3) + p) (omega arith) .lists (ap (unkept s) g ∙ kept c e) r k
 
   -- the firstCheck of a group in which a check unit is in service
-  first-check-serves : (g : ℕ) → unkept s g ≡ false → (firstCheck (view s) g < 3 * g + 3) × (3 * g ≤ firstCheck (view s) g) × (byte s (24 + firstCheck (view s) g) ≡ 1)
+  first-check-serves : (g : ℕ) → unkept s g ≡ false
+      → (firstCheck (view s) g < 3 * g + 3) × (3 * g ≤ firstCheck (view s) g) × (byte s (24 + firstCheck (view s) g) ≡ 1)
   unfolding unkept firstCheck view
   first-check-serves g h =
       let p : ℕ → Bool = λ j. eqb (byte s (24 + (3 * g + j))) 1 in
       let n : ℕ = first 3 p in
       let w : n ≤ 3 = first-le 3 p in
-      let l : n < 3 = by-test (λ _. n < 3) (ltb n 3) (λ e. ltb-true n 3 e) (λ e. absurd (eqb-false (3 * g + n) (3 * g + 3) h (let v : 3 ≤ n = ltb-false n 3 e in omega arith))) in
+      let l : n < 3 = by-test (λ _. n < 3) (ltb n 3) (λ e. ltb-true n 3 e)
+      (λ e. absurd (eqb-false (3 * g + n) (3 * g + 3) h (let v : 3 ≤ n = ltb-false n 3 e in omega arith))) in
       (omega arith, omega arith, eqb-true _ _ (first-holds 3 p l))
 
   first-check-agrees : ((c : ℕ) → c < 12 → Agree c) → (g : ℕ) → g < 4 → unkept s g ≡ false → (r : ℕ) → r < byte s 5 → (p : ℕ) → p < 4
@@ -145,7 +147,8 @@ module _ (s : List ℕ) where
         let cs : (c : ℕ) → c < 12 → Check s c = λ c l. good-check s ok c l (all-true 12 (checkGood s) (and-second (all 16 (unitGood s)) _ h) c l) in
         and-true
         (and-true
-        (zeroing ∙ and-true (all-holds 16 slotsZero (λ u l. all-holds (byte s 5) _ (us u l .zero))) (all-holds 12 checksZero (λ c l. all-holds (byte s 5) _ (cs c l .zero))))
+        (zeroing ∙ and-true (all-holds 16 slotsZero (λ u l. all-holds (byte s 5) _ (us u l .zero)))
+        (all-holds 12 checksZero (λ c l. all-holds (byte s 5) _ (cs c l .zero))))
         (sym keys-placed ∙ all-holds 16 _ (λ u l. us u l .keys)))
         (agree-holds (agree-from us cs))
 
@@ -154,7 +157,8 @@ module _ (s : List ℕ) where
     to-pieces h =
         let zk = and-first (zeroed (view s) && keysPlaced (view s)) _ h in
         let z = sym zeroing ∙ and-first (zeroed (view s)) _ zk in
-        let k = all-true 16 (λ u. not (keysKnown (view s) u) || keysGood (byte s 5) (byte s 6) u (λ r. keyOf (listedKey (view s) u r))) (keys-placed ∙ and-second (zeroed (view s)) _ zk) in
+        let k = all-true 16 (λ u. not (keysKnown (view s) u) || keysGood (byte s 5) (byte s 6) u (λ r. keyOf (listedKey (view s) u r)))
+        (keys-placed ∙ and-second (zeroed (view s)) _ zk) in
         let a = agree-true (and-second (zeroed (view s) && keysPlaced (view s)) _ h) in
         and-true
         (all-holds 16 (unitGood s) (λ u l.

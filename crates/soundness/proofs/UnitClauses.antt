@@ -25,7 +25,8 @@ use Rattle.soundness.proofs.Joined.{or-right, or-left, either, behind, 
 use Rattle.soundness.proofs.Places.{row-within}
 use Rattle.soundness.proofs.Listed.{slot-key, listed-own, listed-out}
 use Rattle.soundness.proofs.Zeros.{Zero, zero-range, range-zero, slot-zero, zero-slots}
-use Rattle.soundness.proofs.Good.{keysGood, fill-le, reached-fill, reached-front, front-reached, good-parts, parts-good, no-keys-true, no-keys-holds, no-fill}
+use Rattle.soundness.proofs.Good.{keysGood, fill-le, reached-fill, reached-front, front-reached, good-parts, parts-good, no-keys-true, no-keys-holds}
+use Rattle.soundness.proofs.Good.{no-fill}
 
 -- the clauses of soundness that speak of data unit u
 pub record Unit (s : List ℕ) (u : ℕ) : Type 0 where
@@ -37,7 +38,8 @@ pub record Unit (s : List ℕ) (u : ℕ) : Type 0 where
 key-zero : (s : List ℕ) (at : ℕ) → Zero s at (at + 4) → be32 s at ≡ 0
 unfolding be32
 key-zero s at z =
-    omega (arith, z at (omega arith) (omega arith), z (at + 1) (omega arith) (omega arith), z (at + 2) (omega arith) (omega arith), z (at + 3) (omega arith) (omega arith))
+    let byte-zero : (i : ℕ) → i < 4 → byte s (at + i) ≡ 0 = λ i l. z (at + i) (omega arith) (omega arith) in
+    omega (arith, z at (omega arith) (omega arith), byte-zero 1 (omega arith), byte-zero 2 (omega arith), byte-zero 3 (omega arith))
 
 module _ (s : List ℕ) (u : ℕ) where
   pub fill-in : fillIn (view s) u ≡ fillOf (byte s 5) (dataKeys s u)
@@ -116,7 +118,8 @@ module _ (s : List ℕ) (u : ℕ) where
   unfolding unitGood unitFill pick
   fill-small =
       by-test
-      (λ t. pick t (pick (eqb (byte s (8 + u)) 1) (served s u) (lost s u)) (absent s u) ≡ true → pick t (pick (eqb (byte s (8 + u)) 1) (dataFill s u) (lostFill s u)) 0 ≤ 64)
+      (λ t. pick t (pick (eqb (byte s (8 + u)) 1) (served s u) (lost s u)) (absent s u) ≡ true
+      → pick t (pick (eqb (byte s (8 + u)) 1) (dataFill s u) (lostFill s u)) 0 ≤ 64)
       (ltb u (byte s 6))
       (λ _.
       by-test
@@ -198,7 +201,8 @@ module _ (s : List ℕ) (ok : Ranged s) (u : ℕ) (low : u < 16) where
         and-true
         (and-true
         (front-reached (byte s 5) (byte s 6) u (dataKeys s u) (ok .few) (k .0))
-        (rw (reached-fill (byte s 5) (byte s 6) u (dataKeys s u) (k .0)) (range-zero s _ _ (omega (arith, fill-le (byte s 5) (byte s 6) u (dataKeys s u))) fits z)))
+        (rw (reached-fill (byte s 5) (byte s 6) u (dataKeys s u) (k .0))
+        (range-zero s _ _ (omega (arith, fill-le (byte s 5) (byte s 6) u (dataKeys s u))) fits z)))
         (or-else (unkept s (u / 4)) _ (λ e.
         all-holds (byte s 5) (λ r. eqb (dataKeys s u r) (columnKeys s u r)) (λ r l. eq-eqb _ _ (sym (ap (λ f. f r) own) ∙ sym (g .lists e r l)))))
 
@@ -251,7 +255,8 @@ module _ (s : List ℕ) (ok : Ranged s) (u : ℕ) (low : u < 16) where
         (λ e.
         let both = or-other (unkept s (u / 4)) _ e (and-second (unitZero s u) _ h) in
         pick-false e 0 (columnFill s u)
-        ∙ reached-fill (byte s 5) (byte s 6) u (columnKeys s u) (reached-front (byte s 5) (byte s 6) u (columnKeys s u) (and-first (leb (columnFill s u) 64) _ both))
+        ∙ reached-fill (byte s 5) (byte s 6) u (columnKeys s u)
+        (reached-front (byte s 5) (byte s 6) u (columnKeys s u) (and-first (leb (columnFill s u) 64) _ both))
         ∙ fill-known s u (lost-out s u state ∙ e) listed)
 
   -- ---- not in place
@@ -283,7 +288,8 @@ module _ (s : List ℕ) (ok : Ranged s) (u : ℕ) (low : u < 16) where
     unfolding absent
     absent-fill h =
         let z = and-first (unitZero s u) _ h in
-        sym (no-fill (byte s 5) (dataKeys s u) (λ r l. data-zero s u 0 (whole z) r (omega arith) l)) ∙ fill-known s u (not-lost s u (λ e. absurd (omega arith))) none
+        sym (no-fill (byte s 5) (dataKeys s u) (λ r l. data-zero s u 0 (whole z) r (omega arith) l))
+        ∙ fill-known s u (not-lost s u (λ e. absurd (omega arith))) none
 
   -- ---- by the unit's state
   by-state : (Q : Bool → ℕ → Type 0) → placed (ltb u (byte s 6)) (byte s (8 + u)) ≡ true
@@ -294,7 +300,8 @@ module _ (s : List ℕ) (ok : Ranged s) (u : ℕ) (low : u < 16) where
       by-test
       (λ t.
       pick t (eqb (byte s (8 + u)) 1 || eqb (byte s (8 + u)) 2) (eqb (byte s (8 + u)) 0) ≡ true
-      → Q (pick t (pick (eqb (byte s (8 + u)) 1) (served s u) (lost s u)) (absent s u)) (pick t (pick (eqb (byte s (8 + u)) 1) (dataFill s u) (lostFill s u)) 0))
+      → Q (pick t (pick (eqb (byte s (8 + u)) 1) (served s u) (lost s u)) (absent s u))
+      (pick t (pick (eqb (byte s (8 + u)) 1) (dataFill s u) (lostFill s u)) 0))
       (ltb u (byte s 6))
       (λ _.
       by-test

@@ -47,7 +47,8 @@ module _ (s : List ℕ) where
   part-zero : (at n : ℕ) → same (part at n s) (zeros n) ≡ true → Zero s at (at + n)
   part-zero at n h i l k =
       let e : at + (i - at) ≡ i = omega arith in
-      ap (λ j. byte s j) (sym e) ∙ sym (byte-part at n s (i - at) (omega arith)) ∙ ap (λ x. byte x (i - at)) (same-true (part at n s) (zeros n) h) ∙ byte-zeros n (i - at)
+      ap (λ j. byte s j) (sym e) ∙ sym (byte-part at n s (i - at) (omega arith)) ∙ ap (λ x. byte x (i - at)) (same-true (part at n s) (zeros n) h)
+      ∙ byte-zeros n (i - at)
 
   zero-part : (at n : ℕ) → at + n ≤ length s → Zero s at (at + n) → same (part at n s) (zeros n) ≡ true
   zero-part at n l z =

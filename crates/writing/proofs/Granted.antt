@@ -46,7 +46,8 @@ lost s s′ w v e f = f ∙ rw e
 -- the rows of a call: the shared ones, and its own, which look at how many records the key's unit has and at the key's rank
 pub record Opens (s : List ℕ) (k : ℕ) (fits : Bool) (c : Call) (own : ℕ → ℕ → List (Bool × ℕ)) : Type 0 where
   pub alone : Plain c
-  pub rows : firstOf (refusalsIn (sound s) (view s) c) ≡ firstOf (openingRows s k fits ++ own (fillIn (view s) (homeIn (view s) k)) (rankIn (view s) (homeIn (view s) k) k))
+  pub rows : firstOf (refusalsIn (sound s) (view s) c) ≡ firstOf
+      (openingRows s k fits ++ own (fillIn (view s) (homeIn (view s) k)) (rankIn (view s) (homeIn (view s) k) k))
 
 pub of-teaching : (s : List ℕ) (k : ℕ) (x : List ℕ) → Opens s k (eqb (length x) bodyBytes) (Call.teach k x) (λ n r. (ltb r n, 5) ∷ (leb (byte s 5) n, 7) ∷ [])
 unfolding refusalsIn openingRows
@@ -60,7 +61,8 @@ pub of-erasing : (s : List ℕ) (k : ℕ) → Opens s k true (Call.erase k) (λ 
 unfolding firstOf pick refusalsIn openingRows
 of-erasing s k = record { alone = of-erase; rows = refl }
 
-module _ {s : List ℕ} {k : ℕ} {fits : Bool} {c : Call} {own : ℕ → ℕ → List (Bool × ℕ)} (o : Opens s k fits c own) {number u n r : ℕ} (h : Homed s k fits number u n r) where
+module _ {s : List ℕ} {k : ℕ} {fits : Bool} {c : Call} {own : ℕ → ℕ → List (Bool × ℕ)} (o : Opens s k fits c own) {number u n r : ℕ}
+    (h : Homed s k fits number u n r) where
   pub refused-first : (number ≡ 0 → ⊥) → outcome (plain number) s ≡ perform s c
   refused-first e = refused s (o .alone) refl (h .found ∙ sym (o .rows ∙ front-holds (openingRows s k fits) _ (λ z. e (h .found ∙ z)))) e
 

@@ -22,7 +22,8 @@ part-rest o n x h = take-all n (drop o x) (simp length-drop (omega arith))
 
 -- the change of body, from the two parts that are lent
 pub slot-change : (s x : List ℕ) (u r b at : ℕ) → SlotIn s u r → length x ≡ slotBytes → b ≡ byte s 5 → at ≡ slotAt b u r
-    → addBody (part (at + keyBytes) (at + slotBytes - (at + keyBytes)) s) (part keyBytes bodyBytes x) ≡ addBody (drop keyBytes (view s .slot u r)) (drop keyBytes x)
+    → addBody (part (at + keyBytes) (at + slotBytes - (at + keyBytes)) s) (part keyBytes bodyBytes x) ≡ addBody
+    (drop keyBytes (view s .slot u r)) (drop keyBytes x)
 slot-change s x u r b at p hx eb ea =
     let width : at + slotBytes - (at + keyBytes) ≡ bodyBytes = omega arith in
     let long : length (view s .slot u r) ≡ slotBytes = view-shaped s (p .long) .slot u r (p .unit) (rw (← size-of s) (p .rank)) in
@@ -47,7 +48,8 @@ module _ (s₀ s x : List ℕ) (u r : ℕ) (p : SlotIn s₀ u r) (hx : length x 
   pub written-again : (q : ℕ) (y : List ℕ) → SlotIn s₀ u q → bytes (written (view s) u q y) ≡ bytes (written (written (view s₀) u r x) u q y)
   written-again q y k =
       on-bytes (λ t. written t u q y) (written (view s₀) u r x) s shaped e (λ h.
-      written-same (view (bytes (written (view s₀) u r x))) u q y (written (view s₀) u r x) h (k .unit) (rw (written-size (view s₀) u r x, ← size-of s₀) (k .rank)))
+      written-same (view (bytes (written (view s₀) u r x))) u q y (written (view s₀) u r x) h (k .unit)
+      (rw (written-size (view s₀) u r x, ← size-of s₀) (k .rank)))
 
 -- the two writes of an erase
 pub erased-bytes : (s₀ s s′ x : List ℕ) (u r q : ℕ) → SlotIn s₀ u r → SlotIn s₀ u q → length x ≡ slotBytes → x ≡ view s₀ .slot u q

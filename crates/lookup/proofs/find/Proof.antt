@@ -1,8 +1,9 @@
 -- `lookup::find` meets its contract. Assumes nothing.
 use mathlib.Core.Path.{refl, ap, _∙_}
-use Prim.Native.Nat.{ℕ, _+_, _*_}
+use Prim.Native.Nat.{ℕ, _+_, _*_, _≤_}
 use native.Mathlib.Omega.{arith}
 use lib.Dec.{eqb}
+use lib.ListN.{length}
 use borrow.Author.Needs.{needs}
 use Rattle.buffer.specs.Bytes.{be32}
 use Rattle.buffer.specs.LoopTests.{Seeking, seeking-start, seeking-hit, seeking-miss, seeking-end}
@@ -24,37 +25,39 @@ loop-holds c = seeking-start
 sub-i : tie.Need-sub-i Inv-loop μ-loop
 sub-i c = c .loop-test .taken
 
--- the key that is read lies within the bytes
+-- ---- the key that is read: it lies within the bytes, and is that of the list
+abbrev start : tie.After-wide Inv-loop μ-loop → tie.Start Inv-loop μ-loop
+start c = c .before .before .before .before
+
+fits : (c : tie.After-wide Inv-loop μ-loop) → start c .args .base + start c .args .step * c .wide .result + 4 ≤ length (start c .args .s .now)
+fits c =
+    let inv = c .before .before .loop .inv in
+    start c .pre .fits (c .wide .result) (omega (arith, c .wide .ensures, inv .least, inv .most, c .before .loop-test .taken))
+
 mul-load32 : tie.Need-mul-load32 Inv-loop μ-loop
-mul-load32 c =
-    let l = c .before .before .loop in
-    let h = c .before .before .before .before .pre .fits (c .wide .result) (omega (arith, c .wide .ensures, l .inv .least, l .inv .most, c .before .loop-test .taken)) in
-    search needs
+mul-load32 c = let h = fits c in search needs
 
 add-load32 : tie.Need-add-load32 Inv-loop μ-loop
-add-load32 c =
-    let l = c .before .before .loop in
-    let h = c .before .before .before .before .pre .fits (c .wide .result) (omega (arith, c .wide .ensures, l .inv .least, l .inv .most, c .before .loop-test .taken)) in
-    search needs
+add-load32 c = let h = fits c in search needs
 
 load32-requires : tie.Need-load32-requires Inv-loop μ-loop
-load32-requires c κs =
-    let l = c .before .before .loop in
-    omega (arith, c .before .before .before .before .pre .fits (c .wide .result) (omega (arith, c .wide .ensures, l .inv .least, l .inv .most, c .before .loop-test .taken)))
+load32-requires c κs = omega (arith, fits c)
 
 loop-again : tie.Need-loop-again Inv-loop μ-loop
 unfolding strided32
 loop-again c =
-    let l = c .before .before .before .before .loop in
-    let a = c .before .before .before .before .before .before .args in
-    seeking-hit (l .inv) (omega (arith, c .before .before .before .loop-test .taken)) (is-eq (c .before .load32 .ensures ∙ ap (λ (i : ℕ). be32 (a .s .now) (a .base + a .step * i)) (c .before .before .wide .ensures .0)) refl (c .if1 .taken))
+    let at = c .before .before in
+    let a = start at .args in
+    let key = c .before .load32 .ensures ∙ ap (λ (i : ℕ). be32 (a .s .now) (a .base + a .step * i)) (at .wide .ensures .0) in
+    seeking-hit (at .before .before .loop .inv) (omega (arith, at .before .loop-test .taken)) (is-eq key refl (c .if1 .taken))
 
 loop-again-2 : tie.Need-loop-again-2 Inv-loop μ-loop
 unfolding strided32
 loop-again-2 c =
-    let l = c .before .before .before .before .loop in
-    let a = c .before .before .before .before .before .before .args in
-    seeking-miss (l .inv) (omega (arith, c .before .before .before .loop-test .taken)) (is-ne (c .before .load32 .ensures ∙ ap (λ (i : ℕ). be32 (a .s .now) (a .base + a .step * i)) (c .before .before .wide .ensures .0)) refl (c .if1 .left))
+    let at = c .before .before in
+    let a = start at .args in
+    let key = c .before .load32 .ensures ∙ ap (λ (i : ℕ). be32 (a .s .now) (a .base + a .step * i)) (at .wide .ensures .0) in
+    seeking-miss (at .before .before .loop .inv) (omega (arith, at .before .loop-test .taken)) (is-ne key refl (c .if1 .left))
 
 returns : tie.Need-returns Inv-loop μ-loop
 returns c =

@@ -30,7 +30,8 @@ rebuild-body-requires c κs =
     let a = b .before in
     let start = a .before .before .before in
     let p = start .pre in
-    let long : (i : ℕ) → i < 4 → length (holds (view (start .args .s .now)) (start .args .g) (start .args .r) (getD (start .args .t5) i 0)) ≡ length (start .args .out .now) =
+    let long : (i : ℕ) → i < 4
+    → length (holds (view (start .args .s .now)) (start .args .g) (start .args .r) (getD (start .args .t5) i 0)) ≡ length (start .args .out .now) =
     λ i l. length-holds (p .1) (start .args .g) (start .args .r) (getD (start .args .t5) i 0) (p .2) (p .3) (p .4 i l) ∙ sym (p .0) in (
       ap length (a .held .ensures .0) ∙ long 0 (omega arith),
       ap length (b .held2 .ensures .0) ∙ long 1 (omega arith),
@@ -48,7 +49,8 @@ returns c =
     let a = b .before in
     let start = a .before .before .before in
     c .before .before .rebuild-body .ensures
-    ∙ weighed-held _ _ _ _ _ (λ i. holds (view (start .args .s .now)) (start .args .g) (start .args .r) (getD (start .args .t5) i 0)) (a .held .ensures .0) (b .held2 .ensures .0) (e .held3 .ensures .0) (d .held4 .ensures .0)
+    ∙ weighed-held _ _ _ _ _ (λ i. holds (view (start .args .s .now)) (start .args .g) (start .args .r) (getD (start .args .t5) i 0)) (a .held .ensures .0)
+    (b .held2 .ensures .0) (e .held3 .ensures .0) (d .held4 .ensures .0)
 
 pub rebuild-body-spec : {M : Type 1} → statement M
 rebuild-body-spec =

@@ -50,7 +50,8 @@ copy-requires c κs =
     let at = c .before .before .before .before in
     let start = at .before .before .before in
     let p = start .pre in
-    simp (length-take, length-drop) (omega (arith, p .0, recipe-keys (p .1) (p .3) .within .fits (at .wide .result) (omega (arith, at .wide .ensures .0, p .2))))
+    let fits = recipe-keys (p .1) (p .3) .within .fits (at .wide .result) (omega (arith, at .wide .ensures .0, p .2)) in
+    simp (length-take, length-drop) (omega (arith, p .0, fits))
 
 rebuild-body-requires : tie.Need-rebuild-body-requires
 rebuild-body-requires c κs =
@@ -60,9 +61,11 @@ rebuild-body-requires c κs =
     let p = start .pre in
     let keys = start .args .keys in
     let r = start .args .r in
-    let key = part-lent (start .args .s .now) (keys + 32 * at .wide .result) 4 (keys + 32 * r) (ap (λ (n : ℕ). keys + 32 * n) (at .wide .ensures .0)) ∙ recipe-keys (p .1) (p .3) .bytes r in
+    let key = part-lent (start .args .s .now) (keys + 32 * at .wide .result) 4 (keys + 32 * r) (ap (λ (n : ℕ). keys + 32 * n) (at .wide .ensures .0))
+    ∙ recipe-keys (p .1) (p .3) .bytes r in
     let long : length (copied .copy .last .0) ≡ 4 = ap length (copied .copy .ensures ∙ key) ∙ out-key-long (p .1 .unit) r (p .2) (p .1 .out) in
-    (body-room (start .args .out .now) (copied .copy .last .0) (p .0) long, p .1 .unit .sized, omega (arith, p .1 .unit .unit), p .2, p .1 .low, p .1 .small, p .4)
+    let room = body-room (start .args .out .now) (copied .copy .last .0) (p .0) long in
+    (room, p .1 .unit .sized, omega (arith, p .1 .unit .unit), p .2, p .1 .low, p .1 .small, p .4)
 
 returns : tie.Need-returns
 returns c =
@@ -71,7 +74,8 @@ returns c =
     let at = read .before in
     let start = at .before .before .before in
     let p = start .pre in
-    let none = sym (key-read (recipe-keys (p .1) (p .3)) (start .args .r) (at .wide .result) (at .wide .ensures .0) (read .load32 .ensures)) ∙ test .if1 .taken in
+    let none =
+    sym (key-read (recipe-keys (p .1) (p .3)) (start .args .r) (at .wide .result) (at .wide .ensures .0) (read .load32 .ensures)) ∙ test .if1 .taken in
     c .before .before .clear .ensures ∙ ap zeros (p .0) ∙ slot-none (p .1) (start .args .r) none
 
 returns-2 : tie.Need-returns-2
@@ -89,8 +93,10 @@ returns-2 c =
     let place = ap (λ (n : ℕ). keys + 32 * n) (at .wide .ensures .0) in
     let k : copied .copy .last .0 ≡ listedKey (view (start .args .s .now)) (start .args .u) r =
     copied .copy .ensures ∙ part-lent (start .args .s .now) (keys + 32 * at .wide .result) 4 (keys + 32 * r) place ∙ lists .bytes r in
-    let some : (keyOf (listedKey (view (start .args .s .now)) (start .args .u) r) ≡ 0 → ⊥) = λ z. test .if1 .left (key-read lists r (at .wide .result) (at .wide .ensures .0) (read .load32 .ensures) ∙ z) in
-    two-parts (start .args .out .now) (copied .copy .last .0) (p .0) (ap length k ∙ out-key-long (p .1 .unit) r (p .2) (p .1 .out)) (built .rebuild-body .last .0)
+    let some : (keyOf (listedKey (view (start .args .s .now)) (start .args .u) r) ≡ 0 → ⊥) =
+    λ z. test .if1 .left (key-read lists r (at .wide .result) (at .wide .ensures .0) (read .load32 .ensures) ∙ z) in
+    two-parts (start .args .out .now) (copied .copy .last .0) (p .0)
+    (ap length k ∙ out-key-long (p .1 .unit) r (p .2) (p .1 .out)) (built .rebuild-body .last .0)
     ∙ ap (λ x. x ++ built .rebuild-body .last .0) k
     ∙ slot-rebuilt (p .1) r (built .rebuild-body .last .0) some (built .rebuild-body .ensures ∙ body-rebuilt (p .1) r _ (λ i l. refl))
 

@@ -22,7 +22,8 @@ returns c =
     let b = c .before .before in
     let a = b .before in
     let start = a .before .before in
-    let unit = unit-split _ _ _ _ (a .wide32 .ensures .0 ∙ a .before .power-below .ensures .0) (rw (b .wide322 .ensures .0) at (c .before .if1 .taken)) (c .narrow .ensures) in
+    let unit = unit-split _ _ _ _ (a .wide32 .ensures .0 ∙ a .before .power-below .ensures .0)
+    (rw (b .wide322 .ensures .0) at (c .before .if1 .taken)) (c .narrow .ensures) in
     (unit, rw unit (unit-below (start .args .m) (start .args .key) (start .pre)))
 
 narrow-requires-2 : tie.Need-narrow-requires-2
@@ -35,7 +36,8 @@ returns-2 c =
     let b = c .before .before in
     let a = b .before in
     let start = a .before .before in
-    let unit = unit-whole _ _ _ _ (a .wide32 .ensures .0 ∙ a .before .power-below .ensures .0) (rw (b .wide322 .ensures .0) at (c .before .if1 .left)) (c .narrow2 .ensures) in
+    let unit = unit-whole _ _ _ _ (a .wide32 .ensures .0 ∙ a .before .power-below .ensures .0)
+    (rw (b .wide322 .ensures .0) at (c .before .if1 .left)) (c .narrow2 .ensures) in
     (unit, rw unit (unit-below (start .args .m) (start .args .key) (start .pre)))
 
 pub unit-of-spec : {M : Type 1} → statement M

@@ -37,7 +37,8 @@ returns-2 c =
     copied .copy .ensures
     ∙ part-lent s (at .slot-at .result) (20 * wide .wide .result) (slotAt (byte s 5) u 0) (at .slot-at .ensures .0)
     ∙ ap (λ (n : ℕ). part (slotAt (byte s 5) u 0) (20 * n) s) (wide .wide .ensures .0)
-    ∙ own-slots s u (start .args .n) (λ h. test .if1 .left (test .before .state .ensures ∙ sym (state-byte s u) ∙ h)) (slots-fit (start .pre .0 .sized) u (start .args .n) (start .pre .0 .unit) (start .pre .1))
+    ∙ own-slots s u (start .args .n) (λ h. test .if1 .left (test .before .state .ensures ∙ sym (state-byte s u) ∙ h))
+    (slots-fit (start .pre .0 .sized) u (start .args .n) (start .pre .0 .unit) (start .pre .1))
 
 pub copy-unit-spec : {M : Type 1} → statement M
 copy-unit-spec =

@@ -37,7 +37,8 @@ returns-2 c =
     let s = start .args .s .now in
     let out = start .args .out .now in
     let verdict = count .count-records .ensures in
-    list-granted s out _ _ _ (verdict .given ∙ list-rows s _ _ out (count .before .survey-of .ensures .tested) refl) (test .if1 .left) (verdict .records) (written .write-records .ensures)
+    list-granted s out _ _ _ (verdict .given ∙ list-rows s _ _ out (count .before .survey-of .ensures .tested) refl)
+    (test .if1 .left) (verdict .records) (written .write-records .ensures)
 
 pub list-spec : {M : Type 1} → statement M
 list-spec =

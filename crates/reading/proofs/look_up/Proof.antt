@@ -68,7 +68,9 @@ array-read-gone : tie.Need-array-read-gone
 array-read-gone c = omega (arith, c .wide .ensures .0, sought (c .before .before) .low)
 
 gone-requires : tie.Need-gone-requires
-gone-requires c κs = let key = sought (c .before .before) in (sought-sized key, key .low, outs-read (key .surveyed) (key .good) _ (c .wide .ensures .0) (omega (arith, key .low)))
+gone-requires c κs =
+    let key = sought (c .before .before) in
+    (sought-sized key, key .low, outs-read (key .surveyed) (key .good) _ (c .wide .ensures .0) (omega (arith, key .low)))
 
 returns-4 : tie.Need-returns-4
 returns-4 c =
@@ -87,7 +89,8 @@ listed-rank-requires c κs =
     let unlost = count .before .before in
     let key = sought (unit unlost) in
     let fill = listed-read key (safe unlost) (count .wide2 .ensures .0) in
-    (recoverable-known (there key (safe unlost)), first-check-read (key .surveyed) (key .good) _ (c .wide3 .ensures .0) (omega (arith, key .low)), fill .0, fill .1)
+    let firstCheck = first-check-read (key .surveyed) (key .good) _ (c .wide3 .ensures .0) (omega (arith, key .low)) in
+    (recoverable-known (there key (safe unlost)), firstCheck, fill .0, fill .1)
 
 returns-5 : tie.Need-returns-5
 returns-5 c =

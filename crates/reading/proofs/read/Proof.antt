@@ -16,7 +16,8 @@ returns c =
     let start = look .before .before .before .before in
     let s = start .args .s .now in
     let out = start .args .out .now in
-    read-refused s (start .args .key) out (look .look-up .result .number) (look .look-up .ensures .given ∙ read-rows s _ _ _ out (look .before .survey-of .ensures .tested) refl) (c .if1 .taken)
+    read-refused s (start .args .key) out (look .look-up .result .number)
+    (look .look-up .ensures .given ∙ read-rows s _ _ _ out (look .before .survey-of .ensures .tested) refl) (c .if1 .taken)
 
 copy-body-requires : tie.Need-copy-body-requires
 copy-body-requires c κs =
@@ -36,7 +37,8 @@ returns-2 c =
     let key = start .args .key in
     let placed = look .look-up .ensures .placed (test .if1 .left) in
     let body = body-is s key (look .look-up .result .unit) (look .look-up .result .rank) _ (placed .home) (placed .found) (copied .copy-body .ensures) in
-    read-granted s key out _ (sym (test .if1 .left) ∙ look .look-up .ensures .given ∙ read-rows s _ _ _ out (look .before .survey-of .ensures .tested) refl) body (omega arith)
+    read-granted s key out _ (sym (test .if1 .left) ∙ look .look-up .ensures .given ∙ read-rows s _ _ _ out (look .before .survey-of .ensures .tested) refl)
+    body (omega arith)
 
 pub read-spec : {M : Type 1} → statement M
 read-spec =

@@ -1,6 +1,5 @@
--- `reading::read_in_place` meets its contract. Assumes nothing.
+-- `reading::read_in_place` meets its contract. What is known at a place is said once, and the needs behind it use it. Assumes nothing.
 use mathlib.Core.Path.{_≡_, sym, _∙_}
-use mathlib.Core.List.{[]}
 use Prim.Native.Nat.{_+_}
 use native.Mathlib.Omega.{arith}
 use borrow.Author.Needs.{needs}
@@ -8,72 +7,58 @@ use Rattle.buffer.specs.Bytes.{byte, zeros}
 use Rattle.buffer.specs.ByteLaws.{length-zeros}
 use Rattle.group.specs.Widths.{bodyBytes}
 use Rattle.model.specs.Layout.{slotAt}
-use Rattle.model.specs.Perform.{placeIn}
+use Rattle.model.specs.Numbers.{Call, numberIn}
 use Rattle.lookup.specs.Sized.{slot-fits}
 use Rattle.lookup.specs.States.{state-byte}
+use Rattle.reading.specs.Found.{Placed}
 use Rattle.reading.specs.Rows.{read-rows}
-use Rattle.reading.proofs.Answers.{nowhere, out-unit, stands, part-empty, part-body, start-empty, start-body, lent-part}
+use Rattle.reading.proofs.Answers.{nowhere, out-unit, stands, lent-nothing, lent-body}
 use Rattle.reading.proofs.read_in_place.Statement.{statement}
 use Rattle.reading.proofs.read_in_place.Tie as tie
 
+-- ---- the number of a read into 16 bytes, and where that is 0 the key's place
+abbrev start : tie.After-look-up → tie.Start
+start c = c .before .before .before
+
+number : (c : tie.After-look-up) → c .look-up .result .number ≡ numberIn (start c .args .s .now) (Call.read (start c .args .key) (zeros bodyBytes))
+number c = c .look-up .ensures .given ∙ read-rows _ _ _ _ (zeros bodyBytes) (c .before .survey-of .ensures .tested) (sym (length-zeros bodyBytes))
+
+abbrev look : tie.Else1 → tie.After-look-up
+look c = c .before .before
+
+placed : (c : tie.Else1) → Placed (start (look c) .args .s .now) (start (look c) .args .key) (look c .look-up .result .unit) (look c .look-up .result .rank)
+placed c = look c .look-up .ensures .placed (c .if1 .left)
+
+-- ---- the needs
 look-up-requires : tie.Need-look-up-requires
 look-up-requires c κs = c .survey-of .ensures
 
 returns : tie.Need-returns
-returns c =
-    let test = c .before in
-    let look = test .before .before in
-    let start = look .before .before .before in
-    let s = start .args .s .now in
-    let key = start .args .key in
-    let number = look .look-up .ensures .given ∙ read-rows s _ _ _ (zeros bodyBytes) (look .before .survey-of .ensures .tested) (sym (length-zeros bodyBytes)) in
-    let none = nowhere s key (look .look-up .result .number) number (test .if1 .taken) in
-    let place = part-empty s (placeIn s key) none in
-    (lent-part s key [] place, (place, start-empty (placeIn s key) none))
+returns c = let read = c .before .before .before in lent-nothing _ _ (nowhere _ _ _ (number read) (c .before .if1 .taken))
 
 returns-2 : tie.Need-returns-2
 returns-2 c =
-    let out = c .before in
-    let test = out .before .before in
-    let look = test .before .before in
-    let start = look .before .before .before in
-    let s = start .args .s .now in
-    let key = start .args .key in
-    let unit = look .look-up .result .unit in
-    let placed = look .look-up .ensures .placed (test .if1 .left) in
-    let none = out-unit s key unit (placed .home) (state-byte s unit ∙ sym (out .before .state .ensures) ∙ out .if2 .taken) in
-    let place = part-empty s (placeIn s key) none in
-    (lent-part s key [] place, (place, start-empty (placeIn s key) none))
+    let state = c .before .before in
+    lent-nothing _ _ (out-unit _ _ _ (placed (state .before) .home) (state-byte _ _ ∙ sym (state .state .ensures) ∙ c .before .if2 .taken))
 
 shared-slice-read-slot-at : tie.Need-shared-slice-read-slot-at
-shared-slice-read-slot-at c =
-    let test = c .before .before .before in
-    omega (arith, test .before .before .look-up .ensures .placed (test .if1 .left) .there .sized .long)
+shared-slice-read-slot-at c = omega (arith, placed (c .before .before .before) .there .sized .long)
 
 part-result-end-3 : tie.Need-part-result-end-3
 part-result-end-3 c =
-    let test = c .before .before .before .before in
-    let look = test .before .before in
-    let placed = look .look-up .ensures .placed (test .if1 .left) in
-    omega (arith, slot-fits (placed .there .sized) (look .look-up .result .unit) (look .look-up .result .rank) (placed .there .unit) (placed .small))
+    let here = placed (c .before .before .before .before) in
+    omega (arith, slot-fits (here .there .sized) _ _ (here .there .unit) (here .small))
 
 returns-3 : tie.Need-returns-3
 returns-3 c =
     let at = c .before in
     let out = at .before .before in
     let test = out .before .before in
-    let look = test .before .before in
-    let start = look .before .before .before in
-    let s = start .args .s .now in
-    let key = start .args .key in
-    let unit = look .look-up .result .unit in
-    let rank = look .look-up .result .rank in
-    let placed = look .look-up .ensures .placed (test .if1 .left) in
-    let number = sym (test .if1 .left) ∙ look .look-up .ensures .given ∙ read-rows s _ _ _ (zeros bodyBytes) (look .before .survey-of .ensures .tested) (sym (length-zeros bodyBytes)) in
-    let serves : (byte s (8 + unit) ≡ 2 → ⊥) = λ h. out .if2 .left (out .before .state .ensures ∙ sym (state-byte s unit) ∙ h) in
-    let there = stands s key unit rank number (placed .home) (placed .found) serves in
-    let place = part-body s (placeIn s key) (slotAt (byte s 5) unit rank) (at .slot-at .result) there (at .slot-at .ensures .0) in
-    (lent-part s key _ place, (place, λ _. start-body (start .args .s .ptr .0) (start .args .s .ptr .1) (placeIn s key) (slotAt (byte s 5) unit rank) (at .slot-at .result) there (at .slot-at .ensures .0)))
+    let here = placed test in
+    let s = start (look test) .args .s in
+    let serves : (byte (s .now) (8 + look test .look-up .result .unit) ≡ 2 → ⊥) = λ h. out .if2 .left (out .before .state .ensures ∙ sym (state-byte _ _) ∙ h) in
+    let there = stands _ _ _ _ (sym (test .if1 .left) ∙ number (look test)) (here .home) (here .found) serves in
+    lent-body _ _ (s .ptr .0) (s .ptr .1) _ _ there (at .slot-at .ensures .0)
 
 pub read-in-place-spec : {M : Type 1} → statement M
 read-in-place-spec =

@@ -39,7 +39,8 @@ rebuild-slot-requires c κs =
     let l = turn .before in
     let start = l .before .before .before .before .before .before in
     let p = start .pre in
-    (length-lent (l .loop .out) (l .loop .at) 20 (omega (arith, l .loop .inv .1 .long, p .3)), l .before .before .weights .ensures, omega (arith, p .2), l .before .keys-at .ensures, p .4)
+    let long = length-lent (l .loop .out) (l .loop .at) 20 (omega (arith, l .loop .inv .1 .long, p .3)) in
+    (long, l .before .before .weights .ensures, omega (arith, p .2), l .before .keys-at .ensures, p .4)
 
 loop-again : tie.Need-loop-again Inv-loop μ-loop
 loop-again c =
@@ -51,14 +52,16 @@ loop-again c =
     let o = l .loop .out in
     let at = l .loop .at in
     let written = put-lent o (built .rebuild-slot .last .0) at 20 ∙ ap (λ x. splice at 20 x o) (built .rebuild-slot .ensures) in
-    (omega arith, appending-turn 20 (l .loop .inv .1) (turn .loop-test .taken) (sym (length-whole (p .0) (l .loop .r) (omega (arith, p .2)))) (omega (arith, l .loop .inv .1 .long, p .3)) written)
+    let long = sym (length-whole (p .0) (l .loop .r) (omega (arith, p .2))) in
+    (omega arith, appending-turn 20 (l .loop .inv .1) (turn .loop-test .taken) long (omega (arith, l .loop .inv .1 .long, p .3)) written)
 
 returns : tie.Need-returns Inv-loop μ-loop
 returns c =
     let l = c .before in
     let start = l .before .before .before .before .before .before in
     let p = start .pre in
-    filled-whole _ _ _ (appending-end (l .loop .inv .1) (c .loop-test .left)) (p .3 ∙ sym (length-tab (start .args .n) slotBytes (wholeSlot (view (start .args .s .now)) (start .args .u)) (slots-wide (p .0) (start .args .n) (p .2))))
+    filled-whole _ _ _ (appending-end (l .loop .inv .1) (c .loop-test .left))
+    (p .3 ∙ sym (length-tab (start .args .n) slotBytes (wholeSlot (view (start .args .s .now)) (start .args .u)) (slots-wide (p .0) (start .args .n) (p .2))))
 
 pub rebuild-unit-spec : {M : Type 1} → statement M
 rebuild-unit-spec =

@@ -1,14 +1,14 @@
--- `reading::write_records` meets its contract. Assumes nothing.
+-- `reading::write_records` meets its contract. What is known at a place is said once, and the needs behind it use it. Assumes nothing.
 use mathlib.Core.Path.{_≡_, ap, _∙_}
-use Prim.Native.Nat.{ℕ, _*_, _-_}
+use Prim.Native.Nat.{ℕ, _+_, _*_, _-_, _≤_}
 use native.Mathlib.Omega.{arith}
-use lib.ListN.{length}
+use lib.ListN.{length, getD}
 use borrow.Author.Needs.{needs}
 use Rattle.buffer.specs.Bytes.{splice}
 use Rattle.buffer.specs.Table.{tab}
 use Rattle.buffer.specs.LoopWrites.{Appending, appending-start, appending-turn, appending-end}
 use Rattle.model.specs.Layout.{view}
-use Rattle.model.specs.Reads.{wholeSlot}
+use Rattle.model.specs.Reads.{listedFill, wholeSlot}
 use Rattle.lookup.specs.Keys.{listed-fill-small}
 use Rattle.lookup.specs.Groups.{whole-unit}
 use Rattle.buffer.specs.SpliceLaws.{length-lent, put-lent}
@@ -22,55 +22,56 @@ Inv-loop s out₀ table fills firstChecks at₀ u₀ out at u = Appending (recor
 abbrev μ-loop : tie.MeasureT-loop
 μ-loop s out₀ table fills firstChecks at₀ u₀ out at u = 16 - u
 
--- the next unit's records fit behind those that are written
+-- ---- the next unit: how many records it has, and that they fit behind those that are written
+abbrev start : tie.After-wide Inv-loop μ-loop → tie.Start Inv-loop μ-loop
+start c = c .before .before .before .before .before
+
+fill : (c : tie.After-wide Inv-loop μ-loop)
+    → getD (start c .args .t2) (c .wide .result) 0 ≡ listedFill (view (start c .args .s .now)) (c .before .before .loop .u)
+fill c = fill-at (start c .pre .1) (c .before .loop-test .taken) (c .wide .ensures .0)
+
+fits : (c : tie.After-wide Inv-loop μ-loop)
+    → length (tab (c .before .before .loop .u) (records (start c .args .s .now))) + 20 * getD (start c .args .t2) (c .wide .result) 0
+    ≤ length (start c .args .out .now)
+fits c = records-fit (start c .pre .0) (c .before .before .loop .u) _ _ (c .before .loop-test .taken) (fill c) (start c .pre .2)
+
+-- ---- the needs
 add-end : tie.Need-add-end Inv-loop μ-loop
-add-end c =
-    let read = c .before in
-    let l = read .before .before in
-    let start = l .before .before .before in
-    let fill = fill-at (start .pre .1) (read .before .loop-test .taken) (read .wide .ensures .0) in
-    omega (arith, l .loop .inv .place, c .wide2 .ensures .0, records-fit (start .pre .0) (l .loop .u) _ (length (start .args .out .now)) (read .before .loop-test .taken) fill (start .pre .2))
+add-end c = omega (arith, c .before .before .before .loop .inv .place, c .wide2 .ensures .0, fits (c .before))
 
 part-copy-unit-end : tie.Need-part-copy-unit-end Inv-loop μ-loop
 part-copy-unit-end c =
-    let wide = c .before in
-    let read = wide .before in
-    let l = read .before .before in
-    let start = l .before .before .before in
-    let fill = fill-at (start .pre .1) (read .before .loop-test .taken) (read .wide .ensures .0) in
-    omega (arith, l .loop .inv .place, l .loop .inv .long, wide .wide2 .ensures .0, records-fit (start .pre .0) (l .loop .u) _ (length (start .args .out .now)) (read .before .loop-test .taken) fill (start .pre .2))
+    let read = c .before .before in
+    let inv = read .before .before .loop .inv in
+    omega (arith, inv .place, inv .long, c .before .wide2 .ensures .0, fits read)
 
 copy-unit-requires : tie.Need-copy-unit-requires Inv-loop μ-loop
 copy-unit-requires c κs =
     let kept = c .before in
     let wide = kept .before in
     let read = wide .before in
-    let l = read .before .before in
-    let start = l .before .before .before in
-    let p = start .pre in
-    let u = l .loop .u in
-    let fill = fill-at (p .1) (read .before .loop-test .taken) (read .wide .ensures .0) in
-    let fits = records-fit (p .0) u _ (length (start .args .out .now)) (read .before .loop-test .taken) fill (p .2) in
-    let long = length-lent (l .loop .out) (l .loop .at) (20 * wide .wide2 .result) (omega (arith, l .loop .inv .place, l .loop .inv .long, wide .wide2 .ensures .0)) in
-    (whole-unit (p .0) u (read .before .loop-test .taken), rw fill (listed-fill-small (start .args .s .now) u), long ∙ ap (λ (n : ℕ). 20 * n) (wide .wide2 .ensures .0), p .3, first-check-at (p .1) (read .before .loop-test .taken) (kept .wide3 .ensures .0))
+    let l = read .before .before .loop in
+    let u = read .before .loop-test .taken in
+    let p = start read .pre in
+    let long =
+    length-lent (l .out) (l .at) (20 * wide .wide2 .result) (omega (arith, l .inv .place, l .inv .long, wide .wide2 .ensures .0, fits read))
+    ∙ ap (λ (n : ℕ). 20 * n) (wide .wide2 .ensures .0) in
+    (whole-unit (p .0) _ u, rw (fill read) (listed-fill-small _ (l .u)), long, p .3, first-check-at (p .1) u (kept .wide3 .ensures .0))
 
 loop-again : tie.Need-loop-again Inv-loop μ-loop
 loop-again c =
     let copied = c .before .before in
     let wide = copied .before .before .before in
     let read = wide .before in
-    let l = read .before .before in
-    let start = l .before .before .before in
-    let p = start .pre in
-    let s = start .args .s .now in
-    let u = l .loop .u in
-    let o = l .loop .out in
-    let at = l .loop .at in
+    let l = read .before .before .loop in
+    let u = read .before .loop-test .taken in
+    let s = start read .args .s .now in
     let w : ℕ = 20 * wide .wide2 .result in
-    let fill = fill-at (p .1) (read .before .loop-test .taken) (read .wide .ensures .0) in
-    let fits = records-fit (p .0) u _ (length (start .args .out .now)) (read .before .loop-test .taken) fill (p .2) in
-    let here : copied .copy-unit .last .1 .1 .1 .1 .0 ≡ records s u = copied .copy-unit .ensures ∙ ap (λ (n : ℕ). tab n (wholeSlot (view s) u)) fill in
-    appending-turn w (l .loop .inv) (read .before .loop-test .taken) (omega (arith, wide .wide2 .ensures .0, fill, records-long (p .0) u (read .before .loop-test .taken))) (omega (arith, l .loop .inv .place, l .loop .inv .long, wide .wide2 .ensures .0)) (put-lent o _ at w ∙ ap (λ x. splice at w x o) here)
+    let here : copied .copy-unit .last .1 .1 .1 .1 .0 ≡ records s (l .u) =
+    copied .copy-unit .ensures ∙ ap (λ (n : ℕ). tab n (wholeSlot (view s) (l .u))) (fill read) in
+    appending-turn w (l .inv) u (omega (arith, wide .wide2 .ensures .0, fill read, records-long (start read .pre .0) (l .u) u))
+    (omega (arith, l .inv .place, l .inv .long, wide .wide2 .ensures .0, fits read))
+    (put-lent (l .out) _ (l .at) w ∙ ap (λ x. splice (l .at) w x (l .out)) here)
 
 returns : tie.Need-returns Inv-loop μ-loop
 returns c =

@@ -28,7 +28,8 @@ returns c =
     let k = w .before .before .before in
     let at = k .before .before .before .before in
     let e = at .before .before .before in
-    erased-bytes _ _ _ _ _ _ _ (e .pre .0) (e .pre .1) (search needs) (k .copy .ensures ∙ simp add-sub-cancel-left (slot-lent _ _ _ _ _ refl (at .slot-at .ensures .0)))
+    erased-bytes _ _ _ _ _ _ _ (e .pre .0) (e .pre .1) (search needs)
+    (k .copy .ensures ∙ simp add-sub-cancel-left (slot-lent _ _ _ _ _ refl (at .slot-at .ensures .0)))
     (w .write-slot .ensures) (w2 .write-slot2 .ensures)
 
 pub erase-at-spec : {M : Type 1} → statement M

@@ -28,7 +28,8 @@ part-follow-end c =
     let l = c .before .before .before .before .before in
     let e = l .before .before .before in
     let a = e .args in
-    omega (arith, check-within (getD (a .s .now) 5 0) (3 * (a .u / 4) + l .loop .j) (a .r) (length (a .s .now)) (omega arith) (e .pre .0 .rank) (e .pre .0 .long))
+    let s = a .s .now in
+    omega (arith, check-within (getD s 5 0) (3 * (a .u / 4) + l .loop .j) (a .r) (length s) (omega arith) (e .pre .0 .rank) (e .pre .0 .long))
 
 follow-requires : tie.Need-follow-requires Inv-loop μ-loop
 follow-requires c κs = (search needs, search needs, search needs, search needs)
@@ -44,7 +45,8 @@ loop-again c =
     (λ w.
     following-on _ _ _ _ _ (e .pre .0) (search (needs, key)) (search (needs, change)) _ _ (l .loop .inv) (search needs) _ _ _
     (rw (c .before .before .wide .ensures .0) at (w .0 .taken)) refl (w .1 .ensures .0) (w .6 ∙ rw (w .3 .ensures) (simp add-sub-cancel-left)))
-    (λ w. rw (w .1) (following-off _ _ _ _ _ (e .pre .0) (search (needs, key)) (search (needs, change)) _ _ (l .loop .inv) (search needs) (rw (c .before .before .wide .ensures .0) at (w .0 .left))))
+    (λ w. rw (w .1) (following-off _ _ _ _ _ (e .pre .0) (search (needs, key)) (search (needs, change)) _ _ (l .loop .inv) (search needs)
+    (rw (c .before .before .wide .ensures .0) at (w .0 .left))))
     (c .if1 .came)
 
 returns : tie.Need-returns Inv-loop μ-loop

@@ -48,7 +48,9 @@ belongs c =
       low = omega (arith, c .unit-of .ensures .1, tested (store c) .units);
     }
 
-outs : (c : tie.After-wide) → outsIn (view (start (store (c .before .before)) .args .s .now)) (c .before .before .unit-of .result / 4) ≡ getD (survey (store (c .before .before)) .survey-of .result .outs) (c .wide .result) 0
+outs : (c : tie.After-wide)
+    → outsIn (view (start (store (c .before .before)) .args .s .now)) (c .before .before .unit-of .result / 4) ≡ getD
+    (survey (store (c .before .before)) .survey-of .result .outs) (c .wide .result) 0
 outs c =
     let unit = c .before .before in
     sym (outs-read (survey (store unit) .survey-of .ensures) (good (store unit)) _ (c .wide .ensures .0) (omega (arith, belongs unit .low)))

@@ -15,7 +15,8 @@ returns c =
     let p = c .before .before .before .before .before .before in
     let a = p .before .before .before .before .args in
     rw (c .before .before .copy .ensures, p .put32 .ensures)
-    (splice-next 0 4 16 (bytes32 (a .key)) (a .body .now) (a .slot .now) (omega arith) (length-bytes32 (a .key)) ∙ splice-whole 20 _ (a .slot .now) (omega arith))
+    (splice-next 0 4 16 (bytes32 (a .key)) (a .body .now) (a .slot .now) (omega arith) (length-bytes32 (a .key))
+    ∙ splice-whole 20 _ (a .slot .now) (omega arith))
 
 pub put-record-spec : {M : Type 1} → statement M
 put-record-spec =

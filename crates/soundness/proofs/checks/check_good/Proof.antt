@@ -20,7 +20,8 @@ returns c =
     let start = at .before .before .before .before in
     let s = start .args .s .now in
     let state = ap (λ i. byte s (24 + i)) (read .wide2 .ensures .0) in
-    rw (is-ne state refl (test .if1 .taken)) (check-unit-zero s (start .args .c) (at .before .wide .ensures .0) (at .checks-at .ensures .0) (c .zero-between .ensures))
+    rw (is-ne state refl (test .if1 .taken))
+    (check-unit-zero s (start .args .c) (at .before .wide .ensures .0) (at .checks-at .ensures .0) (c .zero-between .ensures))
 
 returns-2 : tie.Need-returns-2
 unfolding checkGood sameAsFirst pick
@@ -48,7 +49,12 @@ returns-3 c =
     let s = start .args .s .now in
     let state = ap (λ i. byte s (24 + i)) (read .wide2 .ensures .0) in
     let firstCheck = start .pre .1 .found in
-    rw (is-eq state refl (other .before .if1 .left), is-ne firstCheck refl (other .if2 .left)) (check-unit-same s (start .args .c) (at .before .wide .ensures .0) (at .checks-at .ensures .0) firstCheck (c .before .checks-at2 .ensures .0) (c .same-lists .ensures))
+    rw (is-eq state refl (other .before .if1 .left), is-ne firstCheck refl (other .if2 .left))
+    (check-unit-same s (start .args .c) (at .before .wide .ensures .0) (at .checks-at .ensures .0) firstCheck
+    (c .before .checks-at2 .ensures .0) (c .same-lists .ensures))
 
 pub check-good-spec : {M : Type 1} → statement M
-check-good-spec = tie.close (tie.spec (λ c. search needs) (λ c κs. search needs) (λ c κs. search needs) (λ c κs. search needs) (λ c. search needs) (λ c. search needs) (λ c. search needs) (λ c. search needs) (λ c κs. search needs) returns returns-2 checks-at-requires-2 (λ c κs. search needs) returns-3)
+check-good-spec =
+    tie.close
+    (tie.spec (λ c. search needs) (λ c κs. search needs) (λ c κs. search needs) (λ c κs. search needs) (λ c. search needs) (λ c. search needs)
+    (λ c. search needs) (λ c. search needs) (λ c κs. search needs) returns returns-2 checks-at-requires-2 (λ c κs. search needs) returns-3)

@@ -37,8 +37,11 @@ returns-2 c =
     let a = c .before .before .before .args in
     let low = c .before .before .power-below .result in
     let split =
-    ⊎-elim (λ w. and-false-second (ltb (a .u) low) (lt-leb _ _ (w .1 .left))) (λ w. and-false-first (le-ltb _ _ (w .left)) (leb (a .m - low) (a .u))) (c .before .if1 .came) in
+    ⊎-elim (λ w. and-false-second (ltb (a .u) low) (lt-leb _ _ (w .1 .left)))
+    (λ w. and-false-first (le-ltb _ _ (w .left)) (leb (a .m - low) (a .u))) (c .before .if1 .came) in
     c .wide322 .ensures .0 ∙ rw (← c .before .before .power-below .ensures .0) (sym (pick-false split _ _))
 
 pub mask-of-spec : {M : Type 1} → statement M
-mask-of-spec = tie.close (tie.spec (λ c κs. search needs) sub-if2 (λ c. search needs) (λ c κs. search needs) returns mul-wide32 sub-wide32-2 (λ c κs. search needs) returns-2)
+mask-of-spec =
+    tie.close
+    (tie.spec (λ c κs. search needs) sub-if2 (λ c. search needs) (λ c κs. search needs) returns mul-wide32 sub-wide32-2 (λ c κs. search needs) returns-2)

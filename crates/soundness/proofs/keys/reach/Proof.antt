@@ -76,7 +76,8 @@ returns-3 c =
     let passed = c .before .before .before .before .before .before in
     let read = passed .before in
     let inv = read .before .before .loop .inv in
-    let twice = not-new (start read .args .m) (start read .args .u) (keys read) (rank read) (is-no (c .before .is-new .ensures ∙ new-test read) (c .if4 .taken)) in
+    let twice =
+    not-new (start read .args .m) (start read .args .u) (keys read) (rank read) (is-no (c .before .is-new .ensures ∙ new-test read) (c .if4 .taken)) in
     (reaching-fail inv (read .before .loop-test .taken) (some passed) twice, inv .sized)
 
 loop-again : tie.Need-loop-again Inv-loop μ-loop

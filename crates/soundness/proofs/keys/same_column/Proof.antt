@@ -40,4 +40,5 @@ unfolding sameKeys
 returns-2 c = passing-end (c .before .loop .inv) (c .loop-test .left)
 
 pub same-column-spec : {M : Type 1} → statement M
-same-column-spec = tie.close (tie.spec Inv-loop μ-loop loop-holds key-requires key-requires-2 returns (λ c. search needs) (λ c. search needs) loop-again returns-2)
+same-column-spec =
+    tie.close (tie.spec Inv-loop μ-loop loop-holds key-requires key-requires-2 returns (λ c. search needs) (λ c. search needs) loop-again returns-2)

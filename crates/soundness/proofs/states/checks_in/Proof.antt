@@ -38,4 +38,7 @@ unfolding checksIn view
 returns-2 c = (missing-end (c .before .loop .inv) (c .loop-test .left), search needs)
 
 pub checks-in-spec : {M : Type 1} → statement M
-checks-in-spec = tie.close (tie.spec Inv-loop μ-loop loop-holds (λ c. search needs) (λ c. search needs) (λ c κs. search needs) (λ c. search needs) (λ c. search needs) returns (λ c. search needs) (λ c. search needs) loop-again returns-2)
+checks-in-spec =
+    tie.close
+    (tie.spec Inv-loop μ-loop loop-holds (λ c. search needs) (λ c. search needs) (λ c κs. search needs) (λ c. search needs) (λ c. search needs) returns
+    (λ c. search needs) (λ c. search needs) loop-again returns-2)

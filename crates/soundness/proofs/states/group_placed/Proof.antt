@@ -60,4 +60,7 @@ returns-5 c =
     rw (le-ltb _ _ (outside .if1 .left), is-eq (count found) refl (c .before .if4 .left)) (c .checks-placed2 .ensures ∙ ap (states found) (count found))
 
 pub group-placed-spec : {M : Type 1} → statement M
-group-placed-spec = tie.close (tie.spec (λ c κs. search needs) (λ c. search needs) (λ c. search needs) returns (λ c. search needs) returns-2 (λ c κs. search needs) returns-3 returns-4 (λ c κs. search needs) returns-5)
+group-placed-spec =
+    tie.close
+    (tie.spec (λ c κs. search needs) (λ c. search needs) (λ c. search needs) returns (λ c. search needs) returns-2
+    (λ c κs. search needs) returns-3 returns-4 (λ c κs. search needs) returns-5)

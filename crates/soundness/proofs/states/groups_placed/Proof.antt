@@ -20,7 +20,8 @@ returns : tie.Need-returns Inv-loop μ-loop
 returns c = passing-fail (c .before .before .before .loop .inv) (c .before .before .loop-test .taken) (is-no (c .before .group-placed .ensures) (c .if1 .taken))
 
 loop-again : tie.Need-loop-again Inv-loop μ-loop
-loop-again c = passing-turn (c .before .before .before .loop .inv) (c .before .before .loop-test .taken) (is-yes (c .before .group-placed .ensures) (c .if1 .left))
+loop-again c =
+    passing-turn (c .before .before .before .loop .inv) (c .before .before .loop-test .taken) (is-yes (c .before .group-placed .ensures) (c .if1 .left))
 
 returns-2 : tie.Need-returns-2 Inv-loop μ-loop
 returns-2 c = passing-end (c .before .loop .inv) (c .loop-test .left)

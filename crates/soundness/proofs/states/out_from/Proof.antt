@@ -22,7 +22,8 @@ loop-again c =
     let turn = read .before .before in
     let start = turn .before .before in
     let state = ap (λ k. byte (start .args .s .now) (start .args .at + k)) (read .wide .ensures .0) in
-    ⊎-elim (λ w. rw (w .1) (counting-more (turn .loop .inv) (search needs) (is-eq state refl (w .0 .taken)))) (λ w. rw (w .1) (counting-same (turn .loop .inv) (search needs) (is-ne state refl (w .0 .left)))) (c .if1 .came)
+    ⊎-elim (λ w. rw (w .1) (counting-more (turn .loop .inv) (search needs) (is-eq state refl (w .0 .taken))))
+    (λ w. rw (w .1) (counting-same (turn .loop .inv) (search needs) (is-ne state refl (w .0 .left)))) (c .if1 .came)
 
 returns : tie.Need-returns Inv-loop μ-loop
 returns c = (counting-end (c .before .loop .inv) (search needs), search needs)

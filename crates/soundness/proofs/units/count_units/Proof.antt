@@ -39,7 +39,8 @@ loop-again c =
     let l = count .before .before .before .loop-test .taken in
     let good = good-count (turn .before .before .args .s .now) (turn .loop .u) (count .unit-count .ensures .0) (c .before .if1 .left) in
     let long : length (turn .loop .fills) ≡ 16 = turn .loop .inv .1 .long in
-    (passing-turn (turn .loop .inv .0) l (good .0), rw (c .wide2 .ensures .0) (filling-turn _ (turn .loop .inv .1) (omega arith) (good .1)), count .unit-count .ensures .1)
+    let filled = filling-turn _ (turn .loop .inv .1) (omega arith) (good .1) in
+    (passing-turn (turn .loop .inv .0) l (good .0), rw (c .wide2 .ensures .0) filled, count .unit-count .ensures .1)
 
 returns-2 : tie.Need-returns-2 Inv-loop μ-loop
 returns-2 c =

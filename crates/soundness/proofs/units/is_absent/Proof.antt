@@ -41,4 +41,8 @@ returns-3 c =
     (column-none _ _ (zeros .before .before .wide .ensures .0) column refl (c .no-keys .ensures))
 
 pub is-absent-spec : {M : Type 1} → statement M
-is-absent-spec = tie.close (tie.spec (λ c. search needs) (λ c κs. search needs) (λ c κs. search needs) (λ c. search needs) (λ c. search needs) (λ c κs. search needs) returns (λ c. search needs) (λ c. search needs) returns-2 (λ c κs. search needs) (λ c κs. search needs) (λ c. search needs) (λ c. search needs) no-keys-requires returns-3)
+is-absent-spec =
+    tie.close
+    (tie.spec (λ c. search needs) (λ c κs. search needs) (λ c κs. search needs) (λ c. search needs) (λ c. search needs) (λ c κs. search needs) returns
+    (λ c. search needs) (λ c. search needs) returns-2 (λ c κs. search needs) (λ c κs. search needs)
+    (λ c. search needs) (λ c. search needs) no-keys-requires returns-3)

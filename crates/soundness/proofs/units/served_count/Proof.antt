@@ -44,7 +44,8 @@ zero-between-requires c κs =
     let slots = found .before .before in
     let a = start found .args in
     let l =
-    reached-le (slots .before .wide .result) (byte (a .s .now) 6) (a .u) (strided32 (a .s .now) (slots .slots-at .result) 20) (found .reach .ensures .0) (c .if1 .left) in
+    reached-le (slots .before .wide .result) (byte (a .s .now) 6) (a .u) (strided32 (a .s .now) (slots .slots-at .result) 20)
+    (found .reach .ensures .0) (c .if1 .left) in
     (omega arith, omega arith)
 
 returns-2 : tie.Need-returns-2
