@@ -12,7 +12,8 @@ use lib.Dec.{lit<}
 use lib.ListN.{length, getD, length-map}
 use Rattle.field.specs.ByteLaws.{scale-one, scale-zero}
 use Rattle.code.specs.Matrix.{matrix, entry, encode, within, different}
-use Rattle.code.specs.MatrixLaws.{column, column-within}
+use Rattle.code.specs.Column.{column}
+use Rattle.code.specs.MatrixLaws.{column-within}
 use Rattle.code.specs.Lists.{four, each-four, within-at, within-four, within-map, getD-map}
 use Rattle.code.specs.Fixing.{fixes}
 use Rattle.code.specs.Weights.{weightsOf, mixed, data-of}

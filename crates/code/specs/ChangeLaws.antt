@@ -12,7 +12,8 @@ use Rattle.algebra.specs.Xor.{xor-assoc}
 use Rattle.field.specs.Byte.{scale}
 use Rattle.field.specs.ByteLaws.{scale-add}
 use Rattle.code.specs.Matrix.{entry, within}
-use Rattle.code.specs.MatrixLaws.{column, column-within}
+use Rattle.code.specs.Column.{column}
+use Rattle.code.specs.MatrixLaws.{column-within}
 use Rattle.code.specs.Lists.{each-four, within-head, within-tail}
 use Rattle.code.specs.Weights.{mixed}
 use Rattle.code.specs.Bytes.{encode-bytes}

@@ -12,7 +12,7 @@ use Rattle.buffer.specs.Loops.{entries}
 use Rattle.buffer.specs.RangeLaws.{below-four, entries-of}
 use Rattle.field.specs.Byte.{scale}
 use Rattle.code.specs.Matrix.{entry}
-use Rattle.code.specs.MatrixLaws.{column}
+use Rattle.code.specs.Column.{column}
 use Rattle.code.specs.Lists.{four}
 use Rattle.code.specs.Weights.{mixed}
 use Rattle.code.specs.Bytes.{encode-bytes}

@@ -14,6 +14,7 @@ use Rattle.buffer.specs.ByteLaws.{byte-left, byte-right, be32-part}
 use Rattle.buffer.specs.TableLaws.{Wide, tab-ext, length-tab, part-tab, byte-ones}
 use Rattle.group.specs.Widths.{keyBytes, slotBytes, checkBytes}
 use Rattle.model.specs.Layout.{Store, bytes, view, storeBytes, slotAt, checkAt, keyOf}
+use Rattle.model.specs.Places.{Long}
 
 -- the key of a record stands in its first bytes
 pub key-first : (x : List ℕ) → keyOf (take keyBytes x) ≡ keyOf x
@@ -204,10 +205,6 @@ singles n x o h =
     (λ u l. let d : o + u ≡ o + 1 * u = omega arith in single x (o + u) (omega arith) ∙ ap (λ (k : ℕ). part k 1 x) d)
     ∙ chunks n 1 x o
     ∙ ap (λ (k : ℕ). part o k x) e
-
--- bytes that are long enough for the header's b
-abbrev pub Long : List ℕ → Type 0
-Long x = storeBytes (byte x 5) ≤ length x
 
 module _ (x : List ℕ) (long : Long x) where
   pub bytes-view : bytes (view x) ≡ x

@@ -1,6 +1,8 @@
 pub mod Units
 pub mod UnitLaws
 pub mod Layout
+pub mod Places
+pub mod Parts
 pub mod LayoutLaws
 pub mod StoreLaws
 pub mod RunLaws

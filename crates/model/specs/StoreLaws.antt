@@ -15,25 +15,10 @@ use Rattle.buffer.specs.Table.{tab, upd}
 use Rattle.buffer.specs.TableLaws.{tab-ext, tab-one, tab-zeros, splice-chunk, upd-map}
 use Rattle.group.specs.Widths.{slotBytes, checkBytes}
 use Rattle.model.specs.Layout.{Store, bytes, view, storeBytes, unitsIn, levelIn, slotAt, checkAt, changed}
+use Rattle.model.specs.Places.{SlotIn, CheckIn}
+use Rattle.model.specs.Parts.{withFront, withDstates, withCstates, withSlots, withChecks}
 use Rattle.model.specs.LayoutLaws.{Shaped, bytes-ext, bytes-view, view-shaped, length-bytes, byte-front, view-cstate, slot-read, check-read, len-ds, len-cs, len-slots, len-checks}
 use Rattle.model.specs.RunLaws.{upd2, run, run-one, run-unit, splice-run}
-
--- the same store with other slots, and with other check records
-unfoldable pub withSlots : Store → (ℕ → ℕ → List ℕ) → Store
-withSlots s f = changed s (s .front) (s .dstate) (s .cstate) f (s .check)
-
-unfoldable pub withChecks : Store → (ℕ → ℕ → List ℕ) → Store
-withChecks s f = changed s (s .front) (s .dstate) (s .cstate) (s .slot) f
-
--- ---- a store with one of its parts replaced: its front, the states of its data units, and those of its check units
-unfoldable pub withFront : Store → List ℕ → Store
-withFront s f = record { front = f; dstate = s .dstate; cstate = s .cstate; size = s .size; slot = s .slot; check = s .check; rest = s .rest }
-
-unfoldable pub withDstates : Store → (ℕ → ℕ) → Store
-withDstates s f = record { front = s .front; dstate = f; cstate = s .cstate; size = s .size; slot = s .slot; check = s .check; rest = s .rest }
-
-unfoldable pub withCstates : Store → (ℕ → ℕ) → Store
-withCstates s f = record { front = s .front; dstate = s .dstate; cstate = f; size = s .size; slot = s .slot; check = s .check; rest = s .rest }
 
 -- other slots, or other check records, of the same widths; and two such stores that have the same ones
 module _ (s : Store) (f : ℕ → ℕ → List ℕ) where
@@ -213,17 +198,6 @@ slots-within b u q m n hu hq h = omega (arith, mul-le-mul-right {m = suc u} {n =
 
 pub checks-within : (b c q m n : ℕ) → c < 12 → q + m ≤ b → storeBytes b ≤ n → checkAt b c q + checkBytes * m ≤ n
 checks-within b c q m n hc hq h = omega (arith, mul-le-mul-right {m = suc c} {n = 12} b hc)
-
--- (u, r) is a slot, and (c, r) a check record, of a store that the bytes are long enough for
-pub record SlotIn (x : List ℕ) (u r : ℕ) : Type 0 where
-  pub long : storeBytes (byte x 5) ≤ length x
-  pub unit : u < 16
-  pub rank : r < byte x 5
-
-pub record CheckIn (x : List ℕ) (c r : ℕ) : Type 0 where
-  pub long : storeBytes (byte x 5) ≤ length x
-  pub unit : c < 12
-  pub rank : r < byte x 5
 
 pub slot-end : {x : List ℕ} {u r : ℕ} → SlotIn x u r → slotAt (byte x 5) u r + slotBytes ≤ length x
 slot-end {x} {u} {r} p = slot-within (byte x 5) u r (length x) (p .unit) (p .rank) (p .long)

@@ -22,8 +22,10 @@ use Rattle.group.specs.Members.{serves, beyond, firstFour}
 use Rattle.group.specs.MembersLaws.{serves-data}
 use Rattle.group.specs.Rebuilding.{rebuilt}
 use Rattle.model.specs.Layout.{Store, bytes, view, checkAt, keyOf}
-use Rattle.model.specs.LayoutLaws.{Shaped, Same, Long, bytes-view, view-shaped, view-bytes, len-ds, len-cs}
-use Rattle.model.specs.StoreLaws.{slots-size, slots-slot, slots-shaped, same-long, withSlots}
+use Rattle.model.specs.Places.{Long}
+use Rattle.model.specs.Parts.{withSlots}
+use Rattle.model.specs.LayoutLaws.{Shaped, Same, bytes-view, view-shaped, view-bytes, len-ds, len-cs}
+use Rattle.model.specs.StoreLaws.{slots-size, slots-slot, slots-shaped, same-long}
 use Rattle.model.specs.Reads.{beyondIn, servesIn, holds, firstCheck, listedKey, wholeSlot}
 use Rattle.lookup.specs.Sized.{Sized}
 use Rattle.lookup.specs.Keys.{keysAt}

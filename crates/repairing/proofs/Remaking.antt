@@ -15,8 +15,9 @@ use Rattle.group.specs.Widths.{bodyBytes, checkBytes}
 use Rattle.group.specs.CheckRecord.{checkRecord}
 use Rattle.group.specs.CheckRecordLaws.{checkRecord-ext, length-checkRecord}
 use Rattle.model.specs.Layout.{Store, bytes, view}
+use Rattle.model.specs.Parts.{withChecks}
 use Rattle.model.specs.LayoutLaws.{Shaped, Same, bytes-ext, bytes-view, view-shaped, view-bytes}
-use Rattle.model.specs.StoreLaws.{checks-size, checks-shaped, checks-ext, checks-none, cstate-at, long-at, same-long, withChecks}
+use Rattle.model.specs.StoreLaws.{checks-size, checks-shaped, checks-ext, checks-none, cstate-at, long-at, same-long}
 use Rattle.repairing.specs.Groups.{Group}
 use Rattle.repairing.specs.Steps.{slotsOf, unitMade, unitsMade}
 use Rattle.repairing.proofs.Renewed.{renewed, renewed-none, renewed-more, renewed-off, length-renewed, renewed-by}

@@ -13,8 +13,9 @@ use Rattle.buffer.specs.Bytes.{byte}
 use Rattle.group.specs.Widths.{slotBytes}
 use Rattle.group.specs.Members.{firstFour}
 use Rattle.model.specs.Layout.{Store, bytes, view}
+use Rattle.model.specs.Parts.{withSlots}
 use Rattle.model.specs.LayoutLaws.{Shaped, Same, bytes-ext, bytes-view, view-shaped}
-use Rattle.model.specs.StoreLaws.{slots-shaped, slots-ext, slots-none, size-of, withSlots}
+use Rattle.model.specs.StoreLaws.{slots-shaped, slots-ext, slots-none, size-of}
 use Rattle.model.specs.Reads.{servesIn, firstCheck, wholeSlot}
 use Rattle.lookup.specs.Groups.{Recoverable}
 use Rattle.lookup.specs.Slots.{Recipe, length-whole}

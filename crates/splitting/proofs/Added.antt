@@ -15,8 +15,9 @@ use Rattle.buffer.specs.ByteLaws.{length-zeros}
 use Rattle.group.specs.Widths.{slotBytes}
 use Rattle.model.specs.Units.{splitPointer, touched, broughtUp, moves}
 use Rattle.model.specs.Layout.{Store, bytes, view, levelIn, keyOf}
+use Rattle.model.specs.Parts.{withFront, withDstates, withCstates, withSlots, withChecks}
 use Rattle.model.specs.LayoutLaws.{Shaped, Same, bytes-ext, view-shaped}
-use Rattle.model.specs.StoreLaws.{withFront, withDstates, withCstates, slots-shaped, withSlots, withChecks}
+use Rattle.model.specs.StoreLaws.{slots-shaped}
 use Rattle.model.specs.Reads.{fillIn}
 use Rattle.model.specs.Changes.{filterBy, rows, recordsIn, dealt, grown, grownState}
 use Rattle.splitting.specs.Steps.{Split, marked, levelled, madeRecord, remade, ofFirst, ofBoth}

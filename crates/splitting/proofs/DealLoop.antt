@@ -15,9 +15,11 @@ use Rattle.buffer.specs.Bytes.{byte, zeros, splice}
 use Rattle.group.specs.Widths.{slotBytes}
 use Rattle.model.specs.Units.{unitOf, moves}
 use Rattle.model.specs.Layout.{Store, bytes, view, slotAt, keyOf}
+use Rattle.model.specs.Places.{SlotIn}
+use Rattle.model.specs.Parts.{withSlots}
 use Rattle.model.specs.LayoutLaws.{Shaped, bytes-ext, view-bytes, view-shaped, bytes-view}
 use Rattle.model.specs.RunLaws.{upd2}
-use Rattle.model.specs.StoreLaws.{SlotIn, size-of, size-at, slots-shaped, slots-ext, slots-none, slots-again, slots-slot, slot-put, withSlots}
+use Rattle.model.specs.StoreLaws.{size-of, size-at, slots-shaped, slots-ext, slots-none, slots-again, slots-slot, slot-put}
 use Rattle.model.specs.Reads.{fillIn}
 use Rattle.model.specs.Changes.{filterBy, rows, recordsIn, dealt}
 use Rattle.lookup.specs.Sized.{Sized}

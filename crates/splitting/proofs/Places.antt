@@ -17,9 +17,11 @@ use Rattle.buffer.specs.Table.{upd}
 use Rattle.group.specs.Widths.{slotBytes, checkBytes}
 use Rattle.model.specs.Units.{splitPointer, touched}
 use Rattle.model.specs.Layout.{Store, bytes, view, slotAt, checkAt}
-use Rattle.model.specs.LayoutLaws.{Shaped, Same, Long, bytes-ext, bytes-view, view-shaped}
+use Rattle.model.specs.Places.{Long}
+use Rattle.model.specs.Parts.{withFront, withCstates, withChecks}
+use Rattle.model.specs.LayoutLaws.{Shaped, Same, bytes-ext, bytes-view, view-shaped}
 use Rattle.model.specs.RunLaws.{run}
-use Rattle.model.specs.StoreLaws.{withFront, withCstates, slots-ext, slots-clear, slots-within, checks-none, checks-ext, checks-clear, checks-within, size-of, front-set, dstate-set, cstate-set, withChecks}
+use Rattle.model.specs.StoreLaws.{slots-ext, slots-clear, slots-within, checks-none, checks-ext, checks-clear, checks-within, size-of, front-set, dstate-set, cstate-set}
 use Rattle.splitting.specs.Steps.{cleared, marked, levelled, wiped, madeRecord, remade, isUnit, inGroup, ofFirst, ofBoth}
 use Rattle.splitting.proofs.Holding.{Change, holds-start, holds-step}
 

@@ -16,8 +16,10 @@ use Rattle.buffer.specs.RangeLaws.{first-misses}
 use Rattle.buffer.specs.Bytes.{byte}
 use Rattle.group.specs.Widths.{checkBytes}
 use Rattle.model.specs.Layout.{Store, bytes, view}
-use Rattle.model.specs.LayoutLaws.{Shaped, Same, Long, bytes-ext, bytes-view, view-shaped}
-use Rattle.model.specs.StoreLaws.{size-of, checks-shaped, checks-ext, checks-none, withChecks}
+use Rattle.model.specs.Places.{Long}
+use Rattle.model.specs.Parts.{withChecks}
+use Rattle.model.specs.LayoutLaws.{Shaped, Same, bytes-ext, bytes-view, view-shaped}
+use Rattle.model.specs.StoreLaws.{size-of, checks-shaped, checks-ext, checks-none}
 use Rattle.model.specs.Reads.{firstCheck}
 use Rattle.lookup.specs.States.{inService, first-check-found}
 use Rattle.splitting.specs.Steps.{RankIn, madeRecord, rankMade, remade, inGroup}

@@ -24,9 +24,11 @@ use Rattle.group.specs.CheckRecordLaws.{length-key}
 use Rattle.group.specs.Four.{fourBodies}
 use Rattle.lookup.specs.Slots.{drop-part}
 use Rattle.model.specs.Layout.{Store, bytes, view, slotAt, checkAt}
+use Rattle.model.specs.Places.{CheckIn}
+use Rattle.model.specs.Parts.{withChecks}
 use Rattle.model.specs.LayoutLaws.{Same, bytes-ext, bytes-view, view-shaped}
 use Rattle.model.specs.RunLaws.{upd2}
-use Rattle.model.specs.StoreLaws.{CheckIn, check-end, size-of, checks-ext, checks-none, check-put, slot-lent, slot-within, withChecks}
+use Rattle.model.specs.StoreLaws.{check-end, size-of, checks-ext, checks-none, check-put, slot-lent, slot-within}
 use Rattle.splitting.specs.Steps.{RankIn, madeRecord, putCheck, rankMade, inGroup}
 use Rattle.splitting.proofs.Holding.{Holds, Change, holds-start, holds-step, holds-five, holds-long}
 use Rattle.splitting.proofs.StepLaws.{checks-change, made-long, made-same}

@@ -15,8 +15,9 @@ use Rattle.buffer.specs.ByteLaws.{length-zeros}
 use Rattle.group.specs.Widths.{slotBytes, checkBytes}
 use Rattle.model.specs.Units.{splitPointer, touched, emptied}
 use Rattle.model.specs.Layout.{Store, bytes, view}
+use Rattle.model.specs.Parts.{withFront, withDstates, withCstates, withSlots, withChecks}
 use Rattle.model.specs.LayoutLaws.{Shaped, Same, bytes-ext, view-shaped}
-use Rattle.model.specs.StoreLaws.{withFront, withDstates, withCstates, slots-shaped, size-of, withSlots, withChecks}
+use Rattle.model.specs.StoreLaws.{slots-shaped, size-of}
 use Rattle.model.specs.Reads.{fillIn}
 use Rattle.model.specs.Changes.{rows, recordsIn, merged, shrunk, shrunkState}
 use Rattle.splitting.specs.Steps.{Split, Blank, marked, levelled, wiped, madeRecord, remade, ofFirst, ofBoth}

@@ -19,9 +19,11 @@ use Rattle.group.specs.Body.{addBody}
 use Rattle.group.specs.CheckRecord.{patched}
 use Rattle.group.specs.CheckRecordLaws.{length-key, length-patched}
 use Rattle.model.specs.Layout.{Store, bytes, view, slotAt, checkAt}
+use Rattle.model.specs.Places.{SlotIn}
+use Rattle.model.specs.Parts.{withSlots, withChecks}
 use Rattle.model.specs.LayoutLaws.{Shaped, Same, bytes-ext, bytes-view, view-shaped}
 use Rattle.model.specs.RunLaws.{upd2}
-use Rattle.model.specs.StoreLaws.{SlotIn, checks-size, checks-shaped, checks-ext, checks-none, checks-check, checks-again, size-of, cstate-at, check-at, check-put, slot-put, same-long, withSlots, withChecks}
+use Rattle.model.specs.StoreLaws.{checks-size, checks-shaped, checks-ext, checks-none, checks-check, checks-again, size-of, cstate-at, check-at, check-put, slot-put, same-long}
 use Rattle.model.specs.Changes.{written}
 use Rattle.model.specs.ChangeLaws.{length-change}
 use Rattle.writing.specs.Following.{followed}

@@ -15,9 +15,11 @@ use Rattle.buffer.specs.SpliceLaws.{length-part}
 use Rattle.buffer.specs.Table.{upd}
 use Rattle.group.specs.Widths.{slotBytes, checkBytes}
 use Rattle.model.specs.Layout.{Store, bytes, view, storeBytes, slotAt, checkAt}
-use Rattle.model.specs.LayoutLaws.{Shaped, Same, Long, bytes-ext, bytes-view, view-shaped}
+use Rattle.model.specs.Places.{Long}
+use Rattle.model.specs.Parts.{withDstates, withCstates, withSlots, withChecks}
+use Rattle.model.specs.LayoutLaws.{Shaped, Same, bytes-ext, bytes-view, view-shaped}
 use Rattle.model.specs.RunLaws.{run, run-unit, length-run}
-use Rattle.model.specs.StoreLaws.{withDstates, withCstates, size-of, slots-shaped, checks-shaped, slots-clear, checks-clear, slots-within, checks-within, dstate-set, cstate-set, withSlots, withChecks}
+use Rattle.model.specs.StoreLaws.{size-of, slots-shaped, checks-shaped, slots-clear, checks-clear, slots-within, checks-within, dstate-set, cstate-set}
 use Rattle.model.specs.Changes.{unitLost}
 use Rattle.writing.specs.Places.{unitAt}
 
