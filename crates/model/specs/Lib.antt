@@ -3,10 +3,11 @@ pub mod UnitLaws
 pub mod Layout
 pub mod Places
 pub mod Parts
-pub mod LayoutLaws
-pub mod StoreLaws
 pub mod RunLaws
 pub mod RunTurns
+pub mod UnitTableLaws
+pub mod LayoutLaws
+pub mod StoreLaws
 pub mod Reads
 pub mod Sound
 pub mod SoundLaws
