@@ -21,10 +21,10 @@ use Rattle.model.specs.Perform.{grantedIn, afterIn, perform}
 use Rattle.model.specs.PerformLaws.{none-holds}
 use Rattle.model.specs.MadeAnew.{HoldsCheckRecords, leftBy, MadeAnew}
 use Rattle.model.specs.SoundSays.{ranged, units-some, units-few, Stateful, check-states}
-use Rattle.model.proofs.history.Alike.{Alike, alike-refl, left-shaped}
-use Rattle.model.proofs.history.AlikeNumbers.{split-inside, split-before}
-use Rattle.model.proofs.history.AlikeRepaired.{repaired-alike}
-use Rattle.model.proofs.history.AlikeDealt.{grown-shaped, shrunk-alike}
+use Rattle.model.proofs.history.alike.Alike.{Alike, alike-refl, left-shaped}
+use Rattle.model.proofs.history.alike.Numbers.{split-inside, split-before}
+use Rattle.model.proofs.history.alike.Repaired.{repaired-alike}
+use Rattle.model.proofs.history.alike.Dealt.{grown-shaped, shrunk-alike}
 
 -- what check unit c holds, read back from the bytes
 seen-holds : (t : Store) → Shaped t → (c : ℕ) → c < 12 → HoldsCheckRecords t c → HoldsCheckRecords (view (bytes t)) c

@@ -1,0 +1,84 @@
+-- A unit in service has the same bytes on the picture of a ledger and on that of the same ledger with no unit out. Assumes nothing.
+use Prim.Native.Nat.{ℕ, _+_, _-_, _≤_, _<_}
+use mathlib.Core.Path.{_≡_, refl, sym, ap, _∙_}
+use mathlib.Core.List.{List}
+use native.Mathlib.Omega.{arith}
+use lib.Dec.{ltb}
+use borrow.Author.Tests.{ltb-true, ltb-false}
+use Rattle.buffer.specs.ChoiceLaws.{pick-ext}
+use Rattle.buffer.specs.Table.{tab}
+use Rattle.buffer.specs.TableLaws.{tab-ext}
+use Rattle.model.specs.Layout.{Store, view}
+use Rattle.model.specs.LayoutLaws.{Same}
+use Rattle.model.specs.history.Ledger.{Ledger, recordAt, placed, state}
+use Rattle.model.specs.history.Picture.{pictureSlot, pictureCheck, image, picture}
+use Rattle.model.specs.history.Runs.{unitIn}
+use Rattle.model.proofs.history.ledger.Valid.{Valid}
+use Rattle.model.proofs.history.picture.Picture.{seen}
+use Rattle.model.proofs.history.alone.Lossless.{lossless, lossless-state}
+
+-- ---- the ledger with no unit out
+
+lossless-slot : (l : Ledger) (u r : ℕ) → state l u ≡ 1 → pictureSlot l u r ≡ pictureSlot (lossless l) u r
+unfolding pictureSlot recordAt lossless
+lossless-slot l u r e = rw (e, lossless-state l u e)
+
+lossless-check : (l : Ledger) (c r : ℕ) → state l (16 + c) ≡ 1 → pictureCheck l c r ≡ pictureCheck (lossless l) c r
+unfolding pictureCheck recordAt lossless
+lossless-check l c r e = rw (e, lossless-state l (16 + c) e)
+
+pub lossless-valid : (l : Ledger) → Valid l → Valid (lossless l)
+unfolding lossless recordAt placed
+lossless-valid l h = record {
+  some = h .some;
+  few = h .few;
+  least = h .least;
+  most = h .most;
+  topped = h .topped;
+  fits = h .fits;
+  good = h .good;
+  keyed = h .keyed;
+  own = h .own;
+  differ = h .differ;
+  none = h .none;
+  capped = h .capped;
+  manned = h .manned;
+  unmanned = h .unmanned;
+  calm = λ w e. refl;
+}
+
+module _ (l : Ledger) (rest : List ℕ) (h : Valid l) where
+  abbrev v : Store
+  v = view (picture l rest)
+
+  abbrev w : Store
+  w = view (picture (lossless l) rest)
+
+  s : Same (view (picture l rest)) (image l rest)
+  s = seen l rest (h .good)
+
+  t : Same (view (picture (lossless l) rest)) (image (lossless l) rest)
+  t = seen (lossless l) rest (lossless-valid l h .good)
+
+  slots : (u : ℕ) → u < 16 → state l u ≡ 1 → tab (v .size) (v .slot u) ≡ tab (w .size) (w .slot u)
+  unfolding image lossless
+  slots u a e =
+      ap (λ (n : ℕ). tab n (v .slot u)) (s .size)
+      ∙ tab-ext (l .size) (v .slot u) (w .slot u) (λ r b. s .slot u r a b ∙ lossless-slot l u r e ∙ sym (t .slot u r a b))
+      ∙ ap (λ (n : ℕ). tab n (w .slot u)) (sym (t .size))
+
+  checks : (c : ℕ) → c < 12 → state l (16 + c) ≡ 1 → tab (v .size) (v .check c) ≡ tab (w .size) (w .check c)
+  unfolding image lossless
+  checks c a e =
+      ap (λ (n : ℕ). tab n (v .check c)) (s .size)
+      ∙ tab-ext (l .size) (v .check c) (w .check c) (λ r b. s .check c r a b ∙ lossless-check l c r e ∙ sym (t .check c r a b))
+      ∙ ap (λ (n : ℕ). tab n (w .check c)) (sym (t .size))
+
+  pub same-unit : (i : ℕ) → i < 28 → state l i ≡ 1 → unitIn (view (picture l rest)) i ≡ unitIn (view (picture (lossless l) rest)) i
+  unfolding unitIn
+  same-unit i a e = pick-ext (ltb i 16) (tab (v .size) (v .slot i)) (tab (v .size) (v .check (i - 16))) (tab (w .size) (w .slot i)) (tab (w .size) (w .check (i - 16)))
+      (λ q. slots i (ltb-true i 16 q) e)
+      (λ q.
+      let b : 16 ≤ i = ltb-false i 16 q in
+      let d : 16 + (i - 16) ≡ i = omega arith in
+      checks (i - 16) (omega arith) (ap (state l) d ∙ e))
