@@ -19,6 +19,10 @@ Agree [] (t ∷ ts) = ⊥
 Agree (s ∷ ss) [] = ⊥
 Agree (s ∷ ss) (t ∷ ts) = (s .1 ≡ t .1) × (s .0 ≡ t .0) × (t .0 ≡ false → Agree ss ts)
 
+-- one row of the two lists, and those behind it, P
+pub row : {n : ℕ} {s t : Bool} {P : Type 0} → s ≡ t → (t ≡ false → P) → (n ≡ n) × (s ≡ t) × (t ≡ false → P)
+row e h = (refl, e, h)
+
 -- none holds
 abbrev pub Free : List (Bool × ℕ) → Type 0
 Free [] = Unit {0}

@@ -10,7 +10,7 @@ use Rattle.model.specs.Units.{splitPointer}
 use Rattle.model.specs.Layout.{Store, unitsIn}
 use Rattle.model.specs.Reads.{homeIn, fillIn, rankIn, outsIn, stateIn}
 use Rattle.model.specs.Numbers.{teach, correct, erase, unitOut, repair, grow, shrink, raise, refusalsIn}
-use Rattle.model.specs.RowLaws.{Agree}
+use Rattle.model.specs.RowLaws.{Agree, row}
 use Rattle.model.specs.UnitLaws.{split-below, unit-below}
 use Rattle.model.proofs.history.alike.Alike.{Alike, units-alike, level-alike, home-alike, state-alike, outs-alike, beyond-alike, fill-alike, rank-alike}
 
@@ -49,104 +49,57 @@ module _ (v w : Store) (a : Alike v w) (some : 1 ≤ unitsIn v) (few : unitsIn v
   module _ (o p : Bool) (e : o ≡ p) where
     pub teach-rows : (k : ℕ) (x : List ℕ) → Agree (refusalsIn o v (teach k x)) (refusalsIn p w (teach k x))
     unfolding refusalsIn
-    teach-rows k x = (
-      refl,
-      refl,
-      λ _. (
-        refl,
-        refl,
-        λ _. (
-          refl,
-          ap not e,
-          λ _. (
-            refl,
-            home-row k,
-            λ _. (refl, ap₂ ltb (rank-same k) (fill-same k), λ _. (refl, ap₂ leb (a .size) (fill-same k), λ _. tt)),
-          ),
-        ),
-      ),
-    )
+    teach-rows k x =
+        row refl (λ _. row refl (λ _. row (ap not e) (λ _. row (home-row k) (λ _.
+        row (ap₂ ltb (rank-same k) (fill-same k)) (λ _. row (ap₂ leb (a .size) (fill-same k)) (λ _. tt))))))
 
     pub correct-rows : (k : ℕ) (x : List ℕ) → Agree (refusalsIn o v (correct k x)) (refusalsIn p w (correct k x))
     unfolding refusalsIn
-    correct-rows k x = (refl, refl, λ _. (refl, refl, λ _. (refl, ap not e, λ _. (refl, home-row k, λ _. (refl, ap₂ leb (fill-same k) (rank-same k), λ _. tt)))))
+    correct-rows k x =
+        row refl (λ _. row refl (λ _. row (ap not e) (λ _. row (home-row k) (λ _. row (ap₂ leb (fill-same k) (rank-same k)) (λ _. tt)))))
 
     pub erase-rows : (k : ℕ) → Agree (refusalsIn o v (erase k)) (refusalsIn p w (erase k))
     unfolding refusalsIn
-    erase-rows k = (refl, refl, λ _. (refl, ap not e, λ _. (refl, home-row k, λ _. (refl, ap₂ leb (fill-same k) (rank-same k), λ _. tt))))
+    erase-rows k = row refl (λ _. row (ap not e) (λ _. row (home-row k) (λ _. row (ap₂ leb (fill-same k) (rank-same k)) (λ _. tt))))
 
     pub out-rows : (n : ℕ) → Agree (refusalsIn o v (unitOut n)) (refusalsIn p w (unitOut n))
     unfolding refusalsIn
-    out-rows n = (refl, refl, λ q. (refl, ap not e, λ _. (refl, ap (λ (k : ℕ). eqb k 0) (same q), λ _. (refl, ap (λ (k : ℕ). eqb k 2) (same q), λ _. tt))))
+    out-rows n =
+        row refl (λ q. row (ap not e) (λ _. row (ap (λ (k : ℕ). eqb k 0) (same q)) (λ _. row (ap (λ (k : ℕ). eqb k 2) (same q)) (λ _. tt))))
       where
         same : ltb 27 n ≡ false → stateIn v n ≡ stateIn w n
         same q = state-alike v w a n (omega (arith, ltb-false 27 n q))
 
     pub repair-rows : (g : ℕ) → Agree (refusalsIn o v (repair g)) (refusalsIn p w (repair g))
     unfolding refusalsIn
-    repair-rows g = (
-      refl,
-      refl,
-      λ q. (
-        refl,
-        ap not e,
-        λ _. (
-          refl,
-          ap (λ (m : ℕ). leb m (4 * g)) (units-alike v w a),
-          λ _. (refl, beyond-alike v w a g (omega (arith, ltb-false 3 g q)), λ _. tt),
-        ),
-      ),
-    )
+    repair-rows g =
+        row refl (λ q. row (ap not e) (λ _. row (ap (λ (m : ℕ). leb m (4 * g)) (units-alike v w a)) (λ _.
+        row (beyond-alike v w a g (omega (arith, ltb-false 3 g q))) (λ _. tt))))
 
     pub grow-rows : Agree (refusalsIn o v grow) (refusalsIn p w grow)
     unfolding refusalsIn
     grow-rows =
-        let m : unitsIn v ≡ unitsIn w = units-alike v w a in (
-          refl,
-          ap not e,
-          λ _. (
-            refl,
-            ap (leb 16) m,
-            λ q.
-                let room : unitsIn v < 16 = omega (arith, leb-false 16 (unitsIn w) q) in (
-                  refl,
-                  outs-row (unitsIn v / 4) (unitsIn w / 4) (ap (λ (n : ℕ). n / 4) m) (omega arith),
-                  λ _. (refl, outs-row (splitPointer (unitsIn v) / 4) (splitPointer (unitsIn w) / 4) (ap (λ (n : ℕ). splitPointer n / 4) m) (omega (arith, split-inside)), λ _. tt),
-                ),
-          ),
-        )
+        let m : unitsIn v ≡ unitsIn w = units-alike v w a in
+        row (ap not e) (λ _. row (ap (leb 16) m) (λ q.
+        let room : unitsIn v < 16 = omega (arith, leb-false 16 (unitsIn w) q) in
+        row (outs-row _ _ (ap (λ (n : ℕ). n / 4) m) (omega arith)) (λ _.
+        row (outs-row _ _ (ap (λ (n : ℕ). splitPointer n / 4) m) (omega (arith, split-inside))) (λ _. tt))))
 
     pub shrink-rows : Agree (refusalsIn o v shrink) (refusalsIn p w shrink)
     unfolding refusalsIn
     shrink-rows =
-        let m : unitsIn v ≡ unitsIn w = units-alike v w a in (
-          refl,
-          ap not e,
-          λ _. (
-            refl,
-            ap (λ (n : ℕ). leb n 1) m,
-            λ q.
-                let two : 2 ≤ unitsIn v = omega (arith, leb-false (unitsIn w) 1 q) in
-                let before : splitPointer (pred (unitsIn v)) < 16 = split-before two in (
-                  refl,
-                  outs-row (pred (unitsIn v) / 4) (pred (unitsIn w) / 4) (ap (λ (n : ℕ). pred n / 4) m) (omega arith),
-                  λ _. (
-                    refl,
-                    outs-row (splitPointer (pred (unitsIn v)) / 4) (splitPointer (pred (unitsIn w)) / 4) (ap (λ (n : ℕ). splitPointer (pred n) / 4) m) (omega arith),
-                    λ _. (
-                      refl,
-                      ap₂ ltb (a .size) (ap₂ (λ (i j : ℕ). i + j)
-                          (fill-row (splitPointer (pred (unitsIn v))) (splitPointer (pred (unitsIn w))) (ap (λ (n : ℕ). splitPointer (pred n)) m) before)
-                          (fill-row (pred (unitsIn v)) (pred (unitsIn w)) (ap pred m) (omega arith))),
-                      λ _. tt,
-                    ),
-                  ),
-                ),
-          ),
-        )
+        let m : unitsIn v ≡ unitsIn w = units-alike v w a in
+        row (ap not e) (λ _. row (ap (λ (n : ℕ). leb n 1) m) (λ q.
+        let two : 2 ≤ unitsIn v = omega (arith, leb-false (unitsIn w) 1 q) in
+        let before : splitPointer (pred (unitsIn v)) < 16 = split-before two in
+        row (outs-row _ _ (ap (λ (n : ℕ). pred n / 4) m) (omega arith)) (λ _.
+        row (outs-row _ _ (ap (λ (n : ℕ). splitPointer (pred n) / 4) m) (omega arith)) (λ _.
+        row (ap₂ ltb (a .size) (ap₂ (λ (i j : ℕ). i + j) (fill-row _ _ (ap (λ (n : ℕ). splitPointer (pred n)) m) before) (fill-row _ _ (ap pred m) (omega arith))))
+        (λ _. tt)))))
 
     pub raise-rows : Agree (refusalsIn o v raise) (refusalsIn p w raise)
     unfolding refusalsIn
     raise-rows =
         let m : unitsIn v ≡ unitsIn w = units-alike v w a in
-        (refl, ap not e, λ _. (refl, ap (λ (n : ℕ). ltb 0 (splitPointer n)) m, λ _. (refl, ap (leb 16) m, λ _. (refl, ap (leb 3) (level-alike v w a), λ _. tt))))
+        row (ap not e) (λ _. row (ap (λ (n : ℕ). ltb 0 (splitPointer n)) m) (λ _.
+        row (ap (leb 16) m) (λ _. row (ap (leb 3) (level-alike v w a)) (λ _. tt))))

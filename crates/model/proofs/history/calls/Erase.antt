@@ -23,7 +23,7 @@ use Rattle.model.specs.history.Ledger.{Rec, Ledger, empty, home, recordA
 use Rattle.model.specs.history.Picture.{recordBytes, image, picture}
 use Rattle.model.specs.history.Table.{refusals}
 use Rattle.model.specs.history.Answers.{given}
-use Rattle.model.specs.RowLaws.{Free}
+use Rattle.model.specs.RowLaws.{Free, row}
 use Rattle.model.proofs.history.ledger.Valid.{Good, empty-good, Goods, Valid}
 use Rattle.model.proofs.history.picture.Records.{empty-bytes}
 use Rattle.model.proofs.history.picture.Picture.{seen}
@@ -177,19 +177,9 @@ module _ (l : Ledger) (rest : List ℕ) (h : Valid l) (k : ℕ) where
   pub erase-simulated : Simulated l rest (erase k)
   unfolding reply refusalsIn refusals granted grantedIn given givenIn
   erase-simulated = record {
-    tests = (
-      refl,
-      refl,
-      λ _. (
-        refl,
-        sound-row l rest h,
-        λ _. (
-          refl,
-          out-row l rest h k,
-          λ q. (refl, rw (rank-home l rest h k q, fill-home l rest h k q), λ _. tt),
-        ),
-      ),
-    );
+    tests =
+        row refl (λ _. row (sound-row l rest h) (λ _. row (out-row l rest h k) (λ q.
+        row (rw (rank-home l rest h k q, fill-home l rest h k q)) (λ _. tt))));
     hands = λ f. refl;
     counts = λ f i z. refl;
     bytes = λ f. rw (rank-home l rest h k (quiet f), fill-home l rest h k (quiet f), home-seen l rest h k) (erase-picture f);

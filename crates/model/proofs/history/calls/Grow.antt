@@ -40,6 +40,7 @@ use Rattle.model.proofs.history.picture.Seen.{slot-kept, units-seen, le
 use Rattle.model.proofs.history.picture.RecordsSeen.{records-seen}
 use Rattle.model.proofs.history.calls.Simulation.{Simulated}
 use Rattle.model.proofs.history.calls.OneList.{sound-row}
+use Rattle.model.specs.RowLaws.{row}
 
 -- a check unit that is not out is in service where it is in place
 serves : (k : Ledger) (c : ℕ) → k .out (16 + c) ≡ false → eqb (state k (16 + c)) 1 ≡ ltb (c % 3) (k .checks (c / 3))
@@ -222,21 +223,10 @@ module _ (l : Ledger) (rest : List ℕ) (h : Valid l) (top : l .units ≤ 15)
 pub grow-simulated : (l : Ledger) (rest : List ℕ) → Valid l → Simulated l rest grow
 unfolding reply refusalsIn refusals granted grantedIn given givenIn
 grow-simulated l rest h = record {
-  tests = rw (units-seen l rest h) (
-    refl,
-    sound-row l rest h,
-    λ _. (
-      refl,
-      refl,
-      λ e.
-          let top : l .units < 16 = leb-false 16 (l .units) e in (
-            refl,
-            rw (outs-seen l rest h (l .units / 4) (omega arith)),
-            λ _.
-                (refl, rw (outs-seen l rest h (splitPointer (l .units) / 4) (omega (arith, split-below (l .units) (h .some)))), λ _. tt),
-          ),
-    ),
-  );
+  tests = rw (units-seen l rest h) (row (sound-row l rest h) (λ _. row refl (λ e.
+      let top : l .units < 16 = leb-false 16 (l .units) e in
+      row (rw (outs-seen l rest h (l .units / 4) (omega arith))) (λ _.
+      row (rw (outs-seen l rest h (splitPointer (l .units) / 4) (omega (arith, split-below (l .units) (h .some))))) (λ _. tt)))));
   hands = λ f. refl;
   counts = λ f n y. refl;
   bytes = λ f. rw (units-seen l rest h) (grow-picture l rest h (omega (arith, leb-false 16 (l .units) (f .1 .0))) (f .1 .1 .0) (f .1 .1 .1 .0));

@@ -26,6 +26,7 @@ use Rattle.model.proofs.history.picture.Listed.{fill-known}
 use Rattle.model.proofs.history.picture.Rebuilt.{Readable, known, whole-slot}
 use Rattle.model.proofs.history.calls.Simulation.{Simulated}
 use Rattle.model.proofs.history.calls.OneList.{sound-row}
+use Rattle.model.specs.RowLaws.{row}
 
 module _ (l : Ledger) (rest : List ℕ) (h : Valid l) where
   abbrev v : Store
@@ -58,7 +59,7 @@ module _ (l : Ledger) (rest : List ℕ) (h : Valid l) where
   pub list-simulated : (out : List ℕ) → Simulated l rest (list out)
   unfolding reply refusalsIn refusals granted grantedIn given givenIn
   list-simulated out = record {
-    tests = (refl, sound-row l rest h, λ _. (refl, lost-seen, λ e. (refl, rw (total-seen e), λ _. tt)));
+    tests = row (sound-row l rest h) (λ _. row lost-seen (λ e. row (rw (total-seen e)) (λ _. tt)));
     hands = λ f. listing-seen (f .1 .0);
     counts = λ f n y. ap (λ (m : ℕ). listed n (pick (eqb n 0) m 0) (output n y out)) (total-seen (f .1 .0));
     bytes = λ f. refl;

@@ -20,6 +20,7 @@ use Rattle.model.proofs.history.picture.Picture.{seen}
 use Rattle.model.proofs.history.picture.Seen.{units-seen, level-seen}
 use Rattle.model.proofs.history.calls.Simulation.{Simulated}
 use Rattle.model.proofs.history.calls.OneList.{sound-row}
+use Rattle.model.specs.RowLaws.{row}
 
 module _ (l : Ledger) (rest : List ℕ) (h : Valid l) where
   raise-picture : bytes (raised (view (picture l rest))) ≡ picture (granted l raise) rest
@@ -59,7 +60,9 @@ module _ (l : Ledger) (rest : List ℕ) (h : Valid l) where
   pub raise-simulated : Simulated l rest raise
   unfolding reply refusalsIn refusals granted grantedIn given givenIn
   raise-simulated = record {
-    tests = (refl, sound-row l rest h, λ _. (refl, rw (units-seen l rest h), λ _. (refl, rw (units-seen l rest h), λ _. (refl, rw (level-seen l rest h), λ _. tt))));
+    tests =
+        row (sound-row l rest h) (λ _. row (rw (units-seen l rest h)) (λ _.
+        row (rw (units-seen l rest h)) (λ _. row (rw (level-seen l rest h)) (λ _. tt))));
     hands = λ f. refl;
     counts = λ f n y. refl;
     bytes = λ f. raise-picture;

@@ -23,6 +23,7 @@ use Rattle.model.proofs.history.picture.Listed.{fill-known, rank-known}
 use Rattle.model.proofs.history.picture.Rebuilt.{Readable, known, whole-slot}
 use Rattle.model.proofs.history.calls.Simulation.{Simulated}
 use Rattle.model.proofs.history.calls.OneList.{sound-row}
+use Rattle.model.specs.RowLaws.{row}
 
 -- a granted read finds its key
 pub found : (l : Ledger) (k : ℕ) (out : List ℕ) → eqb (number l (read k out)) 0 ≡ true → rankOf (l .records (home l k)) k < length (l .records (home l k))
@@ -47,32 +48,14 @@ module _ (l : Ledger) (rest : List ℕ) (h : Valid l) where
   pub read-simulated : (k : ℕ) (out : List ℕ) → Simulated l rest (read k out)
   unfolding reply refusalsIn refusals granted grantedIn given givenIn
   read-simulated k out = record {
-    tests = (
-      refl,
-      refl,
-      λ _. (
-        refl,
-        refl,
-        λ _. (
-          refl,
-          sound-row l rest h,
-          λ _. (
-            refl,
-            lost-row k,
-            λ e. (
-              refl,
-              rw (home-seen l rest h k, rank-known l rest h (home l k) (low k) (known l rest h (home l k) (low k) e) k, fill-known l rest h (home l k) (low k) (known l rest h (home l k) (low k) e)),
-              λ _. tt,
-            ),
-          ),
-        ),
-      ),
-    );
+    tests =
+        row refl (λ _. row refl (λ _. row (sound-row l rest h) (λ _. row (lost-row k) (λ e.
+        let u : ℕ = home l k in
+        let low : u < 16 = home-low l rest h k in
+        let keys = known l rest h u low e in
+        row (rw (home-seen l rest h k, rank-known l rest h u low keys k, fill-known l rest h u low keys)) (λ _. tt)))));
     hands = λ f. body-read k (f .1 .1 .1 .0) (leb-false _ _ (f .1 .1 .1 .1 .0));
     counts = λ f n y. refl;
     bytes = λ f. refl;
     valid = λ f. h;
   }
-    where
-      low : (k : ℕ) → home l k < 16
-      low k = home-low l rest h k

@@ -29,6 +29,7 @@ use Rattle.model.proofs.history.picture.Seen.{slot-kept, units-seen, be
 use Rattle.model.proofs.history.picture.Rebuilt.{whole-slot}
 use Rattle.model.proofs.history.calls.Simulation.{Simulated}
 use Rattle.model.proofs.history.calls.OneList.{sound-row}
+use Rattle.model.specs.RowLaws.{row}
 
 -- the group of a data unit, and of a check unit
 group-data : (u : ℕ) → u < 16 → groupOf u ≡ u / 4
@@ -140,7 +141,7 @@ module _ (l : Ledger) (rest : List ℕ) (h : Valid l) where
   pub repair-simulated : (g : ℕ) → Simulated l rest (repair g)
   unfolding reply refusalsIn refusals granted grantedIn given givenIn
   repair-simulated g = record {
-    tests = (refl, refl, λ e. (refl, sound-row l rest h, λ _. (refl, rw (units-seen l rest h), λ _. (refl, beyond-seen l rest h g (low e), λ _. tt))));
+    tests = row refl (λ e. row (sound-row l rest h) (λ _. row (rw (units-seen l rest h)) (λ _. row (beyond-seen l rest h g (low e)) (λ _. tt))));
     hands = λ f. refl;
     counts = λ f n y. refl;
     bytes = λ f. repair-picture l g rest h (low (f .0)) (f .1 .1 .1 .0);

@@ -38,6 +38,7 @@ use Rattle.model.proofs.history.picture.Seen.{slot-kept, size-seen, uni
 use Rattle.model.proofs.history.picture.RecordsSeen.{records-seen}
 use Rattle.model.proofs.history.calls.Simulation.{Simulated}
 use Rattle.model.proofs.history.calls.OneList.{sound-row}
+use Rattle.model.specs.RowLaws.{row}
 
 -- the emptied group is the one whose first unit is removed
 by-emptied : (P : Bool → Type 0) (m g : ℕ) → 1 ≤ m → m ≤ 16 → g < 4 → (4 * g ≡ m → P true) → ((4 * g ≡ m → ⊥) → P false) → P (emptied m g)
@@ -219,24 +220,9 @@ module _ (l : Ledger) (rest : List ℕ) (h : Valid l) (m : ℕ) (is : l .units �
 pub shrink-simulated : (l : Ledger) (rest : List ℕ) → Valid l → Simulated l rest shrink
 unfolding reply refusalsIn refusals granted grantedIn given givenIn
 shrink-simulated l rest h = record {
-  tests = rw (units-seen l rest h) (
-    refl,
-    sound-row l rest h,
-    λ _. (
-      refl,
-      refl,
-      λ e. (
-        refl,
-        out-rows l rest h m (is e) (pos e) .0,
-        λ new. (
-          refl,
-          out-rows l rest h m (is e) (pos e) .1,
-          λ old.
-              (refl, fit-row l rest h m (is e) (pos e) new old, λ _. tt),
-        ),
-      ),
-    ),
-  );
+  tests = rw (units-seen l rest h) (row (sound-row l rest h) (λ _. row refl (λ e.
+      row (out-rows l rest h m (is e) (pos e) .0) (λ new. row (out-rows l rest h m (is e) (pos e) .1) (λ old.
+      row (fit-row l rest h m (is e) (pos e) new old) (λ _. tt))))));
   hands = λ f. refl;
   counts = λ f n y. refl;
   bytes = λ f. rw (units-seen l rest h) (shrink-picture l rest h m (is (f .1 .0)) (pos (f .1 .0)) (f .1 .1 .0) (f .1 .1 .1 .0) (fits (f .1 .1 .1 .1 .0)));

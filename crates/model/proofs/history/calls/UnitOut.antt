@@ -27,6 +27,7 @@ use Rattle.model.proofs.history.picture.Picture.{seen}
 use Rattle.model.proofs.history.picture.Seen.{state-seen}
 use Rattle.model.proofs.history.calls.Simulation.{Simulated}
 use Rattle.model.proofs.history.calls.OneList.{sound-row}
+use Rattle.model.specs.RowLaws.{row}
 
 -- ---- the ledger with unit w out, w being in place
 
@@ -108,7 +109,9 @@ module _ (l : Ledger) (rest : List ℕ) (h : Valid l) where
   pub unitOut-simulated : (w : ℕ) → Simulated l rest (unitOut w)
   unfolding reply refusalsIn refusals granted grantedIn given givenIn
   unitOut-simulated w = record {
-    tests = (refl, refl, λ e. (refl, sound-row l rest h, λ _. (refl, rw (state-seen l rest h w (low e)), λ _. (refl, rw (state-seen l rest h w (low e)), λ _. tt))));
+    tests =
+        row refl (λ e. row (sound-row l rest h) (λ _.
+        row (rw (state-seen l rest h w (low e))) (λ _. row (rw (state-seen l rest h w (low e))) (λ _. tt))));
     hands = λ f. refl;
     counts = λ f n y. refl;
     bytes = λ f. out-picture l w (f .1 .1 .0) rest h;
