@@ -32,7 +32,7 @@ use Rattle.model.specs.history.Typed.{Bytes}
 use Rattle.model.specs.SoundSays.{Ranged, ranged, Stateful, data-states, zero-slot, zero-check, listed-past, lists}
 use Rattle.model.proofs.history.ledger.Valid.{Valid}
 use Rattle.model.proofs.history.picture.Records.{take-record, empty-bytes, length-keys}
-use Rattle.model.proofs.history.picture.Picture.{image-shaped}
+use Rattle.model.proofs.history.picture.Picture.{image-shaped, slot-on, slot-off, check-on, check-off}
 use Rattle.model.proofs.history.picture.Seen.{past}
 use Rattle.model.proofs.history.alike.Alike.{LikeSlot, LikeCheck, Alike, slot-refl, listed-first}
 use Rattle.model.proofs.history.alike.LedgerOf.{keyRecord, listedRecords, readable, ledgerOf, bytes-part, length-listed, listed-record, dstate-shown, cstate-shown, ledger-valid}
@@ -156,8 +156,7 @@ module _ (s : List ℕ) (b : Bytes s) (h : sound s ≡ true) where
     read = and-true (placed-of (ltb u (unitsIn v)) (v .dstate u) (data-states s h u hu) serving) (rw on)
 
     shown : (r : ℕ) → pictureSlot l u r ≡ recordBytes (recordAt l u r)
-    unfolding pictureSlot
-    shown r = pick-true (ap (λ (n : ℕ). eqb n 1) (dstate-shown s b h u hu) ∙ on) (recordBytes (recordAt l u r)) (zeros slotBytes)
+    shown r = slot-on l u r (ap (λ (n : ℕ). eqb n 1) (dstate-shown s b h u hu) ∙ on)
 
     empty-shown : (r : ℕ) → ltb r (fillIn v u) ≡ false → pictureSlot l u r ≡ zeros slotBytes
     empty-shown r e =
@@ -190,12 +189,9 @@ module _ (s : List ℕ) (b : Bytes s) (h : sound s ≡ true) where
   blank-shown u r a e =
       by-test (λ (t : Bool). eqb (v .dstate u) 1 ≡ t → (t && ltb r (fillIn v u)) ≡ false → pictureSlot l u r ≡ zeros slotBytes) (eqb (v .dstate u) 1)
       (λ _ q f. empty-shown u a q r f)
-      (λ _ q f. off q)
+      (λ _ q f. slot-off l u r (ap (λ (n : ℕ). eqb n 1) (dstate-shown s b h u a) ∙ q))
       refl
       e
-    where
-      off : eqb (v .dstate u) 1 ≡ false → pictureSlot l u r ≡ zeros slotBytes
-      off q = unfold pictureSlot in pick-false (ap (λ (n : ℕ). eqb n 1) (dstate-shown s b h u a) ∙ q) (recordBytes (recordAt l u r)) (zeros slotBytes)
 
   slot-like : (u r : ℕ) → u < 16 → r < v .size → LikeSlot (pictureSlot l u r) (v .slot u r)
   unfolding image ledgerOf
@@ -207,10 +203,7 @@ module _ (s : List ℕ) (b : Bytes s) (h : sound s ≡ true) where
   -- ---- every check record
 
   idle-same : (c r : ℕ) → c < 12 → r < v .size → eqb (state l (16 + c)) 1 ≡ false → pictureCheck l c r ≡ v .check c r
-  unfolding pictureCheck
-  idle-same c r a m e =
-      pick-false e (checkOver (c % 3) (λ p. recordAt l (4 * (c / 3) + p) r)) (zeros checkBytes)
-      ∙ sym (zero-check s h c r a m (ap (λ (n : ℕ). eqb n 1) (sym (cstate-shown s b h c a)) ∙ e))
+  idle-same c r a m e = check-off l c r e ∙ sym (zero-check s h c r a m (ap (λ (n : ℕ). eqb n 1) (sym (cstate-shown s b h c a)) ∙ e))
 
   module _ (c : ℕ) (hc : c < 12) (on : eqb (v .cstate c) 1 ≡ true) (r : ℕ) (hr : r < v .size) where
     -- the keys at the four places, by a data unit in place and by one that is not
@@ -248,9 +241,8 @@ module _ (s : List ℕ) (b : Bytes s) (h : sound s ≡ true) where
         (bytes-part (keyBytes * p) keyBytes (v .check c r) (check-bytes c r))
 
     keys-shown : take keysBytes (pictureCheck l c r) ≡ take keysBytes (v .check c r)
-    unfolding pictureCheck
     keys-shown =
-        ap (take keysBytes) (pick-true (ap (λ (n : ℕ). eqb n 1) (cstate-shown s b h c hc) ∙ on) (checkOver (c % 3) (λ p. recordAt l (4 * (c / 3) + p) r)) (zeros checkBytes))
+        ap (take keysBytes) (check-on l c r (ap (λ (n : ℕ). eqb n 1) (cstate-shown s b h c hc) ∙ on))
         ∙ keys-over (c % 3) (λ p. recordAt l (4 * (c / 3) + p) r)
         ∙ tab-ext 4 (λ p. bytes32 (recordAt l (4 * (c / 3) + p) r .key)) (λ p. part (keyBytes * p) keyBytes (v .check c r)) place-bytes
         ∙ keys-apart (v .check c r) (stored .check c r hc hr)

@@ -27,7 +27,7 @@ use Rattle.model.specs.history.Ledger.{Rec, Ledger, empty, recordAt, pla
 use Rattle.model.specs.history.Typed.{Bytes}
 use Rattle.model.specs.SoundSays.{ranged, units-some, units-few, Stateful, data-states, group-number, check-states, listed-own, listed-differ}
 use Rattle.model.proofs.history.ledger.Valid.{Good, Valid}
-use Rattle.model.proofs.history.ledger.States.{placed-unit, placed-check}
+use Rattle.model.proofs.history.ledger.States.{placed-unit, placed-place}
 
 -- a record of a key alone
 abbrev pub keyRecord : ℕ → Rec
@@ -138,9 +138,7 @@ module _ (s : List ℕ) (b : Bytes s) (h : sound s ≡ true) where
   check-placed : (g j : ℕ) → g < 4 → j < 3 → placed l (16 + (3 * g + j)) ≡ ltb j (checksIn v g)
   unfolding ledgerOf
   check-placed g j a m =
-      let q : (3 * g + j) / 3 ≡ g = omega arith in
-      let r : (3 * g + j) % 3 ≡ j = omega arith in
-      placed-check l (3 * g + j) ∙ rw (q, r) (ap (ltb j) (pick-true (lt-ltb g 4 a) (checksIn v g) 0))
+      placed-place l g j m ∙ ap (ltb j) (pick-true (lt-ltb g 4 a) (checksIn v g) 0)
 
   unit-placed : (u : ℕ) → u < 16 → placed l u ≡ ltb u (unitsIn v)
   unfolding ledgerOf

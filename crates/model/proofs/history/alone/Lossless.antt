@@ -18,6 +18,7 @@ use Rattle.model.specs.history.Runs.{lasting}
 use Rattle.model.specs.history.Typed.{AllTyped}
 use Rattle.model.specs.RowLaws.{Free, free-first}
 use Rattle.model.proofs.history.ledger.Granted.{granted-free, granted-after, refused-after}
+use Rattle.model.proofs.history.ledger.States.{by-state}
 
 -- the same ledger with no unit out
 unfoldable pub lossless : Ledger → Ledger
@@ -147,11 +148,7 @@ lossless-opened b = refl
 -- a unit in service is in service with no unit out
 pub lossless-state : (l : Ledger) (w : ℕ) → state l w ≡ 1 → state (lossless l) w ≡ 1
 unfolding lossless state placed pick
-lossless-state l w = go (placed l w) (l .out w)
-  where
-    go : (p o : Bool) → _≡_ {A = ℕ} (pick p (pick o 2 1) 0) 1 → _≡_ {A = ℕ} (pick p 1 0) 1
-    go true o e = refl
-    go false o e = e
+lossless-state l w = by-state l (λ p o n. n ≡ 1 → _≡_ {A = ℕ} (pick p 1 0) 1) w (λ e. refl) (λ e. refl) (λ o e. e)
 
 pub alone-typed : (cs : List Call) (l : Ledger) → AllTyped cs → AllTyped (alone l cs)
 unfolding alone

@@ -10,10 +10,10 @@ use Rattle.buffer.specs.Table.{tab}
 use Rattle.buffer.specs.TableLaws.{tab-ext}
 use Rattle.model.specs.Layout.{Store, view}
 use Rattle.model.specs.LayoutLaws.{Same}
-use Rattle.model.specs.history.Ledger.{Ledger, recordAt, placed, state}
+use Rattle.model.specs.history.Ledger.{Ledger, recordAt, state}
 use Rattle.model.specs.history.Picture.{pictureSlot, pictureCheck, image, picture}
 use Rattle.model.specs.history.Runs.{unitIn}
-use Rattle.model.proofs.history.ledger.Valid.{Valid}
+use Rattle.model.proofs.history.ledger.Valid.{Valid, marked-valid}
 use Rattle.model.proofs.history.picture.Picture.{seen}
 use Rattle.model.proofs.history.alone.Lossless.{lossless, lossless-state}
 
@@ -28,24 +28,8 @@ unfolding pictureCheck recordAt lossless
 lossless-check l c r e = rw (e, lossless-state l (16 + c) e)
 
 pub lossless-valid : (l : Ledger) → Valid l → Valid (lossless l)
-unfolding lossless recordAt placed
-lossless-valid l h = record {
-  some = h .some;
-  few = h .few;
-  least = h .least;
-  most = h .most;
-  topped = h .topped;
-  fits = h .fits;
-  good = h .good;
-  keyed = h .keyed;
-  own = h .own;
-  differ = h .differ;
-  none = h .none;
-  capped = h .capped;
-  manned = h .manned;
-  unmanned = h .unmanned;
-  calm = λ w e. refl;
-}
+unfolding lossless
+lossless-valid l h = marked-valid l _ h (λ w e. refl)
 
 module _ (l : Ledger) (rest : List ℕ) (h : Valid l) where
   abbrev v : Store

@@ -27,6 +27,7 @@ use Rattle.model.specs.history.Ledger.{Rec, empty, Ledger, recordAt, pla
 use Rattle.model.specs.history.Picture.{recordBytes, pictureSlot, checkOver, pictureCheck, image, picture}
 use Rattle.model.specs.history.Table.{refusals}
 use Rattle.model.specs.history.Answers.{given}
+use Rattle.model.specs.RowLaws.{row}
 use Rattle.model.proofs.history.ledger.Valid.{Valid}
 use Rattle.model.proofs.history.ledger.States.{data-state, check-state}
 use Rattle.model.proofs.history.ledger.Dealt.{filter-ext, filter-map}
@@ -40,7 +41,6 @@ use Rattle.model.proofs.history.picture.Seen.{slot-kept, units-seen, le
 use Rattle.model.proofs.history.picture.RecordsSeen.{records-seen}
 use Rattle.model.proofs.history.calls.Simulation.{Simulated}
 use Rattle.model.proofs.history.calls.OneList.{sound-row}
-use Rattle.model.specs.RowLaws.{row}
 
 -- a check unit that is not out is in service where it is in place
 serves : (k : Ledger) (c : ℕ) → k .out (16 + c) ≡ false → eqb (state k (16 + c)) 1 ≡ ltb (c % 3) (k .checks (c / 3))

@@ -20,13 +20,13 @@ use Rattle.model.specs.history.Ledger.{Ledger, recordAt, isOut, beyondOf
 use Rattle.model.specs.history.Picture.{recordBytes, picture}
 use Rattle.model.specs.history.Table.{refusals}
 use Rattle.model.specs.history.Answers.{listing, given}
+use Rattle.model.specs.RowLaws.{row}
 use Rattle.model.proofs.history.ledger.Valid.{Valid}
 use Rattle.model.proofs.history.picture.Seen.{dstate-out, beyond-seen}
 use Rattle.model.proofs.history.picture.Listed.{fill-known}
 use Rattle.model.proofs.history.picture.Rebuilt.{Readable, known, whole-slot}
 use Rattle.model.proofs.history.calls.Simulation.{Simulated}
 use Rattle.model.proofs.history.calls.OneList.{sound-row}
-use Rattle.model.specs.RowLaws.{row}
 
 module _ (l : Ledger) (rest : List ℕ) (h : Valid l) where
   abbrev v : Store

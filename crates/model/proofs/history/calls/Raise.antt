@@ -15,12 +15,12 @@ use Rattle.model.specs.history.Ledger.{Ledger, recordAt, placed, state, 
 use Rattle.model.specs.history.Picture.{pictureSlot, pictureCheck, image, picture}
 use Rattle.model.specs.history.Table.{refusals}
 use Rattle.model.specs.history.Answers.{given}
+use Rattle.model.specs.RowLaws.{row}
 use Rattle.model.proofs.history.ledger.Valid.{Valid}
 use Rattle.model.proofs.history.picture.Picture.{seen}
 use Rattle.model.proofs.history.picture.Seen.{units-seen, level-seen}
 use Rattle.model.proofs.history.calls.Simulation.{Simulated}
 use Rattle.model.proofs.history.calls.OneList.{sound-row}
-use Rattle.model.specs.RowLaws.{row}
 
 module _ (l : Ledger) (rest : List ℕ) (h : Valid l) where
   raise-picture : bytes (raised (view (picture l rest))) ≡ picture (granted l raise) rest

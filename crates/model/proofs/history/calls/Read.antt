@@ -15,6 +15,7 @@ use Rattle.model.specs.history.Ledger.{Ledger, home, recordAt, rankOf, i
 use Rattle.model.specs.history.Picture.{picture}
 use Rattle.model.specs.history.Table.{refusals, number}
 use Rattle.model.specs.history.Answers.{bodyOf, given}
+use Rattle.model.specs.RowLaws.{row}
 use Rattle.model.proofs.history.ledger.Valid.{Valid}
 use Rattle.model.proofs.history.ledger.Granted.{granted-free}
 use Rattle.model.proofs.history.picture.Records.{drop-record}
@@ -23,7 +24,6 @@ use Rattle.model.proofs.history.picture.Listed.{fill-known, rank-known}
 use Rattle.model.proofs.history.picture.Rebuilt.{Readable, known, whole-slot}
 use Rattle.model.proofs.history.calls.Simulation.{Simulated}
 use Rattle.model.proofs.history.calls.OneList.{sound-row}
-use Rattle.model.specs.RowLaws.{row}
 
 -- a granted read finds its key
 pub found : (l : Ledger) (k : ℕ) (out : List ℕ) → eqb (number l (read k out)) 0 ≡ true → rankOf (l .records (home l k)) k < length (l .records (home l k))

@@ -22,14 +22,14 @@ use Rattle.model.specs.history.Ledger.{Ledger, recordAt, placed, isOut, 
 use Rattle.model.specs.history.Picture.{recordBytes, pictureSlot, checkOver, pictureCheck, image, picture}
 use Rattle.model.specs.history.Table.{refusals}
 use Rattle.model.specs.history.Answers.{given}
-use Rattle.model.proofs.history.ledger.Valid.{Valid}
+use Rattle.model.specs.RowLaws.{row}
+use Rattle.model.proofs.history.ledger.Valid.{Valid, marked-valid}
 use Rattle.model.proofs.history.picture.Records.{anew-over}
 use Rattle.model.proofs.history.picture.Picture.{seen}
 use Rattle.model.proofs.history.picture.Seen.{slot-kept, units-seen, beyond-seen}
 use Rattle.model.proofs.history.picture.Rebuilt.{whole-slot}
 use Rattle.model.proofs.history.calls.Simulation.{Simulated}
 use Rattle.model.proofs.history.calls.OneList.{sound-row}
-use Rattle.model.specs.RowLaws.{row}
 
 -- the group of a data unit, and of a check unit
 group-data : (u : ℕ) → u < 16 → groupOf u ≡ u / 4
@@ -46,24 +46,8 @@ group-check c =
 
 module _ (l : Ledger) (g : ℕ) where
   in-valid : Valid l → Valid (granted l (repair g))
-  unfolding granted recordAt placed
-  in-valid h = record {
-    some = h .some;
-    few = h .few;
-    least = h .least;
-    most = h .most;
-    topped = h .topped;
-    fits = h .fits;
-    good = h .good;
-    keyed = h .keyed;
-    own = h .own;
-    differ = h .differ;
-    none = h .none;
-    capped = h .capped;
-    manned = h .manned;
-    unmanned = h .unmanned;
-    calm = λ w e. and-false-second (not (eqb (groupOf w) g)) (h .calm w e);
-  }
+  unfolding granted
+  in-valid h = marked-valid l _ h (λ w e. and-false-second (not (eqb (groupOf w) g)) (h .calm w e))
 
   in-state : (w q : ℕ) → groupOf w ≡ q → pick (eqb q g && eqb (state l w) 2) 1 (state l w) ≡ state (granted l (repair g)) w
   unfolding state placed granted pick

@@ -27,6 +27,7 @@ use Rattle.model.specs.history.Ledger.{Rec, empty, Ledger, recordAt, pla
 use Rattle.model.specs.history.Picture.{recordBytes, pictureSlot, checkOver, pictureCheck, image, picture}
 use Rattle.model.specs.history.Table.{refusals}
 use Rattle.model.specs.history.Answers.{given}
+use Rattle.model.specs.RowLaws.{row}
 use Rattle.model.proofs.history.ledger.Valid.{Valid}
 use Rattle.model.proofs.history.ledger.States.{data-state, check-state}
 use Rattle.model.proofs.history.ledger.Shared.{wording}
@@ -38,7 +39,6 @@ use Rattle.model.proofs.history.picture.Seen.{slot-kept, size-seen, uni
 use Rattle.model.proofs.history.picture.RecordsSeen.{records-seen}
 use Rattle.model.proofs.history.calls.Simulation.{Simulated}
 use Rattle.model.proofs.history.calls.OneList.{sound-row}
-use Rattle.model.specs.RowLaws.{row}
 
 -- the emptied group is the one whose first unit is removed
 by-emptied : (P : Bool → Type 0) (m g : ℕ) → 1 ≤ m → m ≤ 16 → g < 4 → (4 * g ≡ m → P true) → ((4 * g ≡ m → ⊥) → P false) → P (emptied m g)

@@ -1,13 +1,13 @@
 -- Unit out: the unit is marked out and its bytes are zeroed. Assumes nothing.
-use Prim.Native.Nat.{ℕ, _+_, _*_, _/_, _%_, _<_}
+use Prim.Native.Nat.{ℕ, _+_, _<_}
 use mathlib.Core.Path.{_≡_, refl, sym, ap, _∙_}
 use mathlib.Core.List.{List}
-use mathlib.Core.Bool.{Bool, true, false}
+use mathlib.Core.Bool.{true, false}
 use native.Mathlib.Omega.{arith}
 use lib.Dec.{eqb, ltb}
-use borrow.Author.Tests.{eqb-true, eqb-false, ltb-false}
+use borrow.Author.Tests.{eqb-true, eqb-false, ltb-false, not-false}
 use Rattle.buffer.specs.Choice.{pick}
-use Rattle.buffer.specs.ChoiceLaws.{by-test, by-pick, pick-true, pick-false}
+use Rattle.buffer.specs.ChoiceLaws.{by-pick, pick-true}
 use Rattle.buffer.specs.TestLaws.{not-both}
 use Rattle.buffer.specs.Bytes.{zeros}
 use Rattle.buffer.specs.Table.{upd}
@@ -19,23 +19,22 @@ use Rattle.model.specs.Changes.{unitLost}
 use Rattle.model.specs.Numbers.{unitOut, refusalsIn}
 use Rattle.model.specs.Perform.{reply, givenIn, grantedIn}
 use Rattle.model.specs.history.Ledger.{Ledger, recordAt, placed, state, granted}
-use Rattle.model.specs.history.Picture.{recordBytes, pictureSlot, checkOver, pictureCheck, image, picture}
+use Rattle.model.specs.history.Picture.{pictureSlot, pictureCheck, image, picture}
 use Rattle.model.specs.history.Table.{refusals}
 use Rattle.model.specs.history.Answers.{given}
-use Rattle.model.proofs.history.ledger.Valid.{Valid}
-use Rattle.model.proofs.history.picture.Picture.{seen}
+use Rattle.model.specs.RowLaws.{row}
+use Rattle.model.proofs.history.ledger.Valid.{Valid, marked-valid}
+use Rattle.model.proofs.history.ledger.States.{state-none}
+use Rattle.model.proofs.history.picture.Picture.{seen, slot-off, check-off}
 use Rattle.model.proofs.history.picture.Seen.{state-seen}
 use Rattle.model.proofs.history.calls.Simulation.{Simulated}
 use Rattle.model.proofs.history.calls.OneList.{sound-row}
-use Rattle.model.specs.RowLaws.{row}
 
 -- ---- the ledger with unit w out, w being in place
 
 module _ (l : Ledger) (w : ℕ) (there : eqb (state l w) 0 ≡ false) where
   in-place : placed l w ≡ true
-  unfolding state
-  in-place = by-test (λ (t : Bool). eqb (pick t (pick (l .out w) 2 1) 0) 0 ≡ false → t ≡ true) (placed l w)
-      (λ e q. refl) (λ e q. not-both (ap (λ (n : ℕ). eqb n 0) (pick-false refl (pick (l .out w) 2 1) 0)) q) there
+  in-place = not-false (placed l w) (sym (state-none l w) ∙ there)
 
   out-hit : (i : ℕ) → i ≡ w → state (granted l (unitOut w)) i ≡ 2
   unfolding state placed granted
@@ -47,16 +46,14 @@ module _ (l : Ledger) (w : ℕ) (there : eqb (state l w) 0 ≡ false) where
 
   -- its bytes are zero, all others as before
   slot-hit : (u r : ℕ) → u ≡ w → pictureSlot (granted l (unitOut w)) u r ≡ zeros slotBytes
-  unfolding pictureSlot
-  slot-hit u r e = rw (out-hit u e) (pick-false refl (recordBytes (recordAt (granted l (unitOut w)) u r)) (zeros slotBytes))
+  slot-hit u r e = slot-off (granted l (unitOut w)) u r (ap (λ (n : ℕ). eqb n 1) (out-hit u e))
 
   slot-miss : (u r : ℕ) → (u ≡ w → ⊥) → pictureSlot (granted l (unitOut w)) u r ≡ pictureSlot l u r
   unfolding pictureSlot recordAt granted
   slot-miss u r n = rw (out-miss u n)
 
   check-hit : (c r : ℕ) → 16 + c ≡ w → pictureCheck (granted l (unitOut w)) c r ≡ zeros checkBytes
-  unfolding pictureCheck
-  check-hit c r e = rw (out-hit (16 + c) e) (pick-false refl (checkOver (c % 3) (λ p. recordAt (granted l (unitOut w)) (4 * (c / 3) + p) r)) (zeros checkBytes))
+  check-hit c r e = check-off (granted l (unitOut w)) c r (ap (λ (n : ℕ). eqb n 1) (out-hit (16 + c) e))
 
   check-miss : (c r : ℕ) → (16 + c ≡ w → ⊥) → pictureCheck (granted l (unitOut w)) c r ≡ pictureCheck l c r
   unfolding pictureCheck recordAt granted
@@ -86,24 +83,8 @@ module _ (l : Ledger) (w : ℕ) (there : eqb (state l w) 0 ≡ false) where
     })
 
     out-valid : Valid (granted l (unitOut w))
-    unfolding granted recordAt placed
-    out-valid = record {
-      some = h .some;
-      few = h .few;
-      least = h .least;
-      most = h .most;
-      topped = h .topped;
-      fits = h .fits;
-      good = h .good;
-      keyed = h .keyed;
-      own = h .own;
-      differ = h .differ;
-      none = h .none;
-      capped = h .capped;
-      manned = h .manned;
-      unmanned = h .unmanned;
-      calm = λ i e. upd-other (l .out) w true i (λ d. not-both (ap (placed l) d ∙ in-place) e) ∙ h .calm i e;
-    }
+    unfolding granted
+    out-valid = marked-valid l _ h (λ i e. upd-other (l .out) w true i (λ d. not-both (ap (placed l) d ∙ in-place) e) ∙ h .calm i e)
 
 module _ (l : Ledger) (rest : List ℕ) (h : Valid l) where
   pub unitOut-simulated : (w : ℕ) → Simulated l rest (unitOut w)

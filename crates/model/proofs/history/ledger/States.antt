@@ -1,7 +1,7 @@
 -- The state of a unit in a ledger, and what it says: in place, in service, out. Assumes nothing.
 use Prim.Native.Nat.{ℕ, zero, suc, _+_, _*_, _-_, _/_, _%_, _≤_, _<_}
 use mathlib.Core.Path.{_≡_, refl, ap, _∙_}
-use mathlib.Core.Bool.{Bool, true, false, _&&_}
+use mathlib.Core.Bool.{Bool, true, false, _&&_, not}
 use native.Mathlib.Omega.{arith}
 use lib.Dec.{eqb, ltb}
 use borrow.Author.Tests.{ltb-false, lt-ltb, le-ltb}
@@ -10,6 +10,7 @@ use Rattle.buffer.specs.Range.{count}
 use Rattle.buffer.specs.RangeLaws.{count-zero}
 use Rattle.buffer.specs.TestLaws.{not-both}
 use Rattle.model.specs.history.Ledger.{Ledger, placed, isOut, state, outsOf}
+use Rattle.model.specs.SoundSays.{Stateful}
 
 -- two tests of which just one holds where a third does, counted
 count-both : (n : ℕ) (f g h : ℕ → Bool) → ((k : ℕ) → _≡_ {A = ℕ} (pick (f k) 1 0 + pick (g k) 1 0) (pick (h k) 1 0)) → count n f + count n g ≡ count n h
@@ -18,41 +19,37 @@ count-both zero f g h e = refl
 count-both (suc n) f g h e = omega (arith, count-both n f g h e, e n)
 
 module _ (l : Ledger) where
-  pub state-out : (w : ℕ) → eqb (state l w) 2 ≡ isOut l w
-  unfolding state isOut pick
-  state-out w = go (placed l w) (l .out w)
+  -- a unit is out, in service, or not in place: whether it is in place, whether it is marked out, and its state
+  pub by-state {ℓ} : (P : Bool → Bool → ℕ → Type ℓ) (w : ℕ) → P true true 2 → P true false 1 → ((o : Bool) → P false o 0) → P (placed l w) (l .out w) (state l w)
+  unfolding state pick
+  by-state P w lost serves absent = go (placed l w) (l .out w)
     where
-      go : (p o : Bool) → eqb (pick p (pick o 2 1) 0) 2 ≡ (p && o)
-      go true true = refl
-      go true false = refl
-      go false o = refl
+      go : (p o : Bool) → P p o (pick p (pick o 2 1) 0)
+      go true true = lost
+      go true false = serves
+      go false o = absent o
+
+  pub state-out : (w : ℕ) → eqb (state l w) 2 ≡ isOut l w
+  unfolding isOut
+  state-out w = by-state (λ p o n. eqb n 2 ≡ (p && o)) w refl refl (λ o. refl)
 
   pub state-placed : (w : ℕ) → ltb 0 (state l w) ≡ placed l w
-  unfolding state pick
-  state-placed w = go (placed l w) (l .out w)
-    where
-      go : (p o : Bool) → ltb 0 (pick p (pick o 2 1) 0) ≡ p
-      go true true = refl
-      go true false = refl
-      go false o = refl
+  state-placed w = by-state (λ p o n. ltb 0 n ≡ p) w refl refl (λ o. refl)
 
   pub state-le : (w : ℕ) → state l w ≤ 2
-  unfolding state pick
-  state-le w = go (placed l w) (l .out w)
-    where
-      go : (p o : Bool) → pick p (pick o 2 1) 0 ≤ 2
-      go true true = omega arith
-      go true false = omega arith
-      go false o = omega arith
+  state-le w = by-state (λ p o n. n ≤ 2) w (omega arith) (omega arith) (λ o. omega arith)
 
   pub state-in : (w : ℕ) → placed l w ≡ true → isOut l w ≡ false → state l w ≡ 1
-  unfolding state isOut pick
-  state-in w e f = go (placed l w) (l .out w) e f
-    where
-      go : (p o : Bool) → p ≡ true → (p && o) ≡ false → _≡_ {A = ℕ} (pick p (pick o 2 1) 0) 1
-      go true true e f = not-both refl f
-      go true false e f = refl
-      go false o e f = not-both e refl
+  unfolding isOut
+  state-in w = by-state (λ p o n. p ≡ true → (p && o) ≡ false → n ≡ 1) w (λ e f. not-both refl f) (λ e f. refl) (λ o e f. not-both e refl)
+
+  pub state-none : (w : ℕ) → eqb (state l w) 0 ≡ not (placed l w)
+  state-none w = by-state (λ p o n. eqb n 0 ≡ not p) w refl refl (λ o. refl)
+
+  -- it is one that a sound store may have
+  pub state-fits : (w : ℕ) → Stateful (placed l w) (state l w)
+  unfolding pick
+  state-fits w = by-state (λ p o n. Stateful p n) w refl refl (λ o. refl)
 
   -- a data unit, and a check unit
   pub placed-unit : (u : ℕ) → u < 16 → placed l u ≡ ltb u (l .units)
@@ -65,6 +62,12 @@ module _ (l : Ledger) where
       let e : 16 + c - 16 ≡ c = omega arith in
       rw (le-ltb (16 + c) 16 (omega arith), e)
 
+  pub placed-place : (g j : ℕ) → j < 3 → placed l (16 + (3 * g + j)) ≡ ltb j (l .checks g)
+  placed-place g j a =
+      let d : (3 * g + j) / 3 ≡ g = omega arith in
+      let m : (3 * g + j) % 3 ≡ j = omega arith in
+      placed-check (3 * g + j) ∙ rw (d, m)
+
   pub data-state : (u : ℕ) → u < 16 → state l u ≡ pick (ltb u (l .units)) (pick (l .out u) 2 1) 0
   unfolding state
   data-state u a = rw (placed-unit u a)
@@ -75,13 +78,10 @@ module _ (l : Ledger) where
 
   -- of n units, those in service and those out are those in place
   pub serving-count : (n : ℕ) (w : ℕ → ℕ) → count n (λ j. eqb (state l (w j)) 1) + count n (λ j. isOut l (w j)) ≡ count n (λ j. placed l (w j))
-  unfolding state isOut pick
-  serving-count n w = count-both n (λ j. eqb (state l (w j)) 1) (λ j. isOut l (w j)) (λ j. placed l (w j)) (λ j. go (placed l (w j)) (l .out (w j)))
-    where
-      go : (p o : Bool) → _≡_ {A = ℕ} (pick (eqb (pick p (pick o 2 1) 0) 1) 1 0 + pick (p && o) 1 0) (pick p 1 0)
-      go true true = refl
-      go true false = refl
-      go false o = refl
+  unfolding isOut pick
+  serving-count n w =
+      count-both n (λ j. eqb (state l (w j)) 1) (λ j. isOut l (w j)) (λ j. placed l (w j)) (λ j.
+      by-state (λ p o n. _≡_ {A = ℕ} (pick (eqb n 1) 1 0 + pick (p && o) 1 0) (pick p 1 0)) (w j) refl refl (λ o. refl))
 
   -- a group with no unit out: no data unit, and no check unit
   none-data : (g : ℕ) → ltb 0 (outsOf l g) ≡ false → count 4 (λ p. isOut l (4 * g + p)) ≡ 0

@@ -4,13 +4,13 @@ use Prim.Native.Nat.{ℕ, _*_, _≤_, _<_}
 use mathlib.Core.Path.{_≡_}
 use mathlib.Core.Logic.{_≢_}
 use mathlib.Core.List.{[]}
-use mathlib.Core.Bool.{false}
+use mathlib.Core.Bool.{Bool, false}
 use native.Mathlib.Omega.{arith}
 use lib.ListN.{length}
 use Rattle.group.specs.Widths.{bodyBytes}
 use Rattle.group.specs.BodyLaws.{IsBody, zeros-is}
 use Rattle.model.specs.Units.{unitOf}
-use Rattle.model.specs.history.Ledger.{Rec, empty, Ledger, recordAt, placed}
+use Rattle.model.specs.history.Ledger.{Rec, empty, Ledger, ledger, recordAt, placed}
 
 -- a record that bytes can hold
 pub record Good (x : Rec) : Type 0 where
@@ -42,3 +42,25 @@ pub record Valid (l : Ledger) : Type 0 where
   pub manned : (g : ℕ) → 4 * g < l .units → 1 ≤ l .checks g
   pub unmanned : (g : ℕ) → l .units ≤ 4 * g → l .checks g ≡ 0
   pub calm : (w : ℕ) → placed l w ≡ false → l .out w ≡ false
+
+-- other marks, none of them on a unit that is not in place
+pub marked-valid : (l : Ledger) (out : ℕ → Bool) → Valid l → ((w : ℕ) → placed l w ≡ false → out w ≡ false)
+    → Valid (ledger (l .size) (l .units) (l .level) (l .records) (l .checks) out)
+unfolding recordAt placed
+marked-valid l out h calm = record {
+  some = h .some;
+  few = h .few;
+  least = h .least;
+  most = h .most;
+  topped = h .topped;
+  fits = h .fits;
+  good = h .good;
+  keyed = h .keyed;
+  own = h .own;
+  differ = h .differ;
+  none = h .none;
+  capped = h .capped;
+  manned = h .manned;
+  unmanned = h .unmanned;
+  calm = calm;
+}

@@ -1,27 +1,25 @@
 -- The keys of a unit on a picture: its own, or for a unit out those that a check unit in service lists. Assumes nothing.
-use Prim.Native.Nat.{ℕ, _+_, _*_, _/_, _%_, _≤_, _<_}
-use mathlib.Core.Path.{_≡_, refl, sym, ap, _∙_}
+use Prim.Native.Nat.{ℕ, _+_, _*_, _/_, _%_, _<_}
+use mathlib.Core.Path.{_≡_, sym, ap, _∙_}
 use mathlib.Core.List.{List}
 use mathlib.Core.Bool.{Bool, true}
 use native.Mathlib.Omega.{arith}
-use native.Mathlib.Nat.{le-refl}
 use lib.Dec.{eqb}
-use lib.ListN.{length, take, getD}
-use borrow.Author.Tests.{eq-eqb, ne-eqb}
-use Rattle.buffer.specs.ChoiceLaws.{by-pick, pick-true}
+use lib.ListN.{length, take}
+use Rattle.buffer.specs.ChoiceLaws.{by-pick}
 use Rattle.buffer.specs.Range.{first, count}
-use Rattle.buffer.specs.RangeLaws.{first-ext, first-found, first-holds}
-use Rattle.buffer.specs.Bytes.{bytes32, zeros, part}
-use Rattle.group.specs.Widths.{keyBytes, checkBytes}
+use Rattle.buffer.specs.RangeLaws.{first-found, first-holds}
+use Rattle.buffer.specs.Bytes.{bytes32, part}
+use Rattle.group.specs.Widths.{keyBytes}
 use Rattle.model.specs.Layout.{Store, view, keyOf}
 use Rattle.model.specs.LayoutLaws.{Same}
 use Rattle.model.specs.Reads.{firstCheck, listedKey, listedFill, listedRank}
-use Rattle.model.specs.history.Ledger.{Rec, Ledger, empty, recordAt, rankOf, isOut, state}
-use Rattle.model.specs.history.Picture.{checkOver, pictureCheck, image, picture}
+use Rattle.model.specs.history.Ledger.{Ledger, recordAt, rankOf, isOut, state}
+use Rattle.model.specs.history.Picture.{checkOver, image, picture}
 use Rattle.model.proofs.history.ledger.Valid.{Valid}
 use Rattle.model.proofs.history.picture.Records.{key-bytes, take-record, listed-over}
-use Rattle.model.proofs.history.picture.Picture.{seen}
-use Rattle.model.proofs.history.picture.Seen.{past, slot-kept, fill-is, size-seen, cstate-is, dstate-out}
+use Rattle.model.proofs.history.picture.Picture.{seen, check-on}
+use Rattle.model.proofs.history.picture.Seen.{slot-kept, size-seen, cstate-is, dstate-out, fill-of, rank-of}
 
 module _ (l : Ledger) (rest : List ℕ) (h : Valid l) where
   abbrev v : Store
@@ -37,11 +35,11 @@ module _ (l : Ledger) (rest : List ℕ) (h : Valid l) where
   -- the check record of a check unit in service
   pub check-kept : (g : ℕ) → g < 4 → (r : ℕ) → r < l .size → (j : ℕ) → j < 3 → eqb (state l (16 + (3 * g + j))) 1 ≡ true
       → v .check (3 * g + j) r ≡ checkOver j (λ p. recordAt l (4 * g + p) r)
-  unfolding image pictureCheck
+  unfolding image
   check-kept g hg r hr j a e =
       let d : (3 * g + j) / 3 ≡ g = omega arith in
       let m : (3 * g + j) % 3 ≡ j = omega arith in
-      s .check (3 * g + j) r (omega arith) hr ∙ rw (e, d, m) (pick-true refl (checkOver j (λ p. recordAt l (4 * g + p) r)) (zeros checkBytes))
+      s .check (3 * g + j) r (omega arith) hr ∙ check-on l (3 * g + j) r e ∙ rw (d, m)
 
   -- ---- a unit that is in service, or of which a check unit lists the keys
 
@@ -70,21 +68,11 @@ module _ (l : Ledger) (rest : List ℕ) (h : Valid l) where
     pub key-known : (r : ℕ) → r < l .size → keyOf (listedKey v u r) ≡ recordAt l u r .key
     key-known r hr = ap keyOf (key-kept r hr) ∙ key-bytes (recordAt l u r .key) (h .good u r .key)
 
-    pub no-key : (r : ℕ) → length (l .records u) ≤ r → recordAt l u r .key ≡ 0
-    unfolding empty
-    no-key r a = ap (λ (x : Rec). x .key) (past l u r a)
-
     pub fill-known : listedFill v u ≡ length (l .records u)
     unfolding listedFill
     fill-known =
-        ap (λ (n : ℕ). first n (λ r. eqb (keyOf (listedKey v u r)) 0)) (size-seen l rest h)
-        ∙ fill-is (l .size) (length (l .records u)) (λ r. eqb (keyOf (listedKey v u r)) 0) (h .fits u)
-        (λ r a. ne-eqb _ 0 (λ e. h .keyed u r a (sym (key-known r (omega (arith, h .fits u))) ∙ e)))
-        (λ a. eq-eqb _ 0 (key-known (length (l .records u)) a ∙ no-key (length (l .records u)) (le-refl (length (l .records u)))))
+        ap (λ (n : ℕ). first n (λ r. eqb (keyOf (listedKey v u r)) 0)) (size-seen l rest h) ∙ fill-of l h u (λ r. keyOf (listedKey v u r)) key-known
 
     pub rank-known : (k : ℕ) → listedRank v u k ≡ rankOf (l .records u) k
-    unfolding listedRank rankOf recordAt
-    rank-known k =
-        ap (λ (n : ℕ). first n (λ r. eqb (keyOf (listedKey v u r)) k)) fill-known
-        ∙ first-ext (length (l .records u)) (λ r. eqb (keyOf (listedKey v u r)) k) (λ r. eqb (getD (l .records u) r empty .key) k)
-        (λ r a. ap (λ (n : ℕ). eqb n k) (key-known r (omega (arith, h .fits u))))
+    unfolding listedRank
+    rank-known k = ap (λ (n : ℕ). first n (λ r. eqb (keyOf (listedKey v u r)) k)) fill-known ∙ rank-of l h u (λ r. keyOf (listedKey v u r)) key-known k

@@ -5,15 +5,35 @@ use mathlib.Core.List.{List}
 use lib.Dec.{eqb}
 use lib.ListN.{length}
 use Rattle.buffer.specs.Bytes.{bytes32, zeros}
-use Rattle.buffer.specs.ChoiceLaws.{by-pick}
+use Rattle.buffer.specs.ChoiceLaws.{by-pick, pick-true, pick-false}
 use Rattle.buffer.specs.ByteLaws.{length-zeros}
 use Rattle.group.specs.Widths.{slotBytes, checkBytes}
 use Rattle.model.specs.Layout.{view, frontOf}
 use Rattle.model.specs.LayoutLaws.{Shaped, Same, view-bytes}
 use Rattle.model.specs.history.Ledger.{Rec, Ledger, recordAt, state}
 use Rattle.model.specs.history.Picture.{recordBytes, pictureSlot, checkOver, pictureCheck, image, picture}
+use mathlib.Core.Bool.{true, false}
 use Rattle.model.proofs.history.ledger.Valid.{Good, Goods}
 use Rattle.model.proofs.history.picture.Records.{length-record, length-over}
+
+-- a unit in service shows its records, and any other zeros; so too a check unit
+module _ (l : Ledger) (u r : ℕ) where
+  pub slot-on : eqb (state l u) 1 ≡ true → pictureSlot l u r ≡ recordBytes (recordAt l u r)
+  unfolding pictureSlot
+  slot-on e = pick-true e (recordBytes (recordAt l u r)) (zeros slotBytes)
+
+  pub slot-off : eqb (state l u) 1 ≡ false → pictureSlot l u r ≡ zeros slotBytes
+  unfolding pictureSlot
+  slot-off e = pick-false e (recordBytes (recordAt l u r)) (zeros slotBytes)
+
+module _ (l : Ledger) (c r : ℕ) where
+  pub check-on : eqb (state l (16 + c)) 1 ≡ true → pictureCheck l c r ≡ checkOver (c % 3) (λ p. recordAt l (4 * (c / 3) + p) r)
+  unfolding pictureCheck
+  check-on e = pick-true e (checkOver (c % 3) (λ p. recordAt l (4 * (c / 3) + p) r)) (zeros checkBytes)
+
+  pub check-off : eqb (state l (16 + c)) 1 ≡ false → pictureCheck l c r ≡ zeros checkBytes
+  unfolding pictureCheck
+  check-off e = pick-false e (checkOver (c % 3) (λ p. recordAt l (4 * (c / 3) + p) r)) (zeros checkBytes)
 
 length-slot : (l : Ledger) (u r : ℕ) → Good (recordAt l u r) → length (pictureSlot l u r) ≡ slotBytes
 unfolding pictureSlot

@@ -2,18 +2,16 @@
 use Prim.Native.Nat.{ℕ, _+_, _*_, _-_, _/_, _≤_, _<_}
 use mathlib.Core.Path.{_≡_, refl, sym, ap, ap₂, _∙_}
 use mathlib.Core.List.{List}
-use mathlib.Core.Bool.{Bool, true, false}
+use mathlib.Core.Bool.{Bool, true, false, not}
 use native.Mathlib.Omega.{arith}
 use native.Mathlib.Nat.{le-refl}
 use lib.Dec.{eqb, ltb}
-use lib.ListN.{length, getD, List·getD-eq-default}
-use borrow.Author.Tests.{eq-eqb, ne-eqb, ltb-true, ltb-false, lt-ltb}
-use Rattle.buffer.specs.Choice.{pick}
-use Rattle.buffer.specs.ChoiceLaws.{by-test, by-pick, pick-true, pick-same}
+use lib.ListN.{length, List·getD-eq-default}
+use borrow.Author.Tests.{eq-eqb, ne-eqb, ltb-true, ltb-false, lt-ltb, eqb-true}
+use Rattle.buffer.specs.ChoiceLaws.{by-test, by-pick}
 use Rattle.buffer.specs.Range.{first}
 use Rattle.buffer.specs.RangeLaws.{first-ext, first-at, first-none, count-ext}
-use Rattle.buffer.specs.Bytes.{byte, bytes32, zeros}
-use Rattle.group.specs.Widths.{slotBytes}
+use Rattle.buffer.specs.Bytes.{byte, bytes32}
 use Rattle.group.specs.Members.{outs, checks, beyond}
 use Rattle.model.specs.Units.{unitOf}
 use Rattle.model.specs.UnitLaws.{unit-below}
@@ -23,29 +21,32 @@ use Rattle.model.specs.Reads.{homeIn, fillIn, rankIn, stateIn, outsIn, b
 use Rattle.model.specs.history.Ledger.{Rec, Ledger, empty, home, recordAt, rankOf, placed, isOut, state, outsOf, beyondOf}
 use Rattle.model.specs.history.Picture.{recordBytes, pictureSlot, image, picture}
 use Rattle.model.proofs.history.ledger.Valid.{Valid}
-use Rattle.model.proofs.history.ledger.States.{state-out, state-in, state-placed, placed-unit, data-kept}
+use Rattle.model.proofs.history.ledger.States.{state-out, state-in, state-placed, placed-unit, data-kept, state-none}
 use Rattle.model.proofs.history.picture.Records.{key-record, empty-bytes}
-use Rattle.model.proofs.history.picture.Picture.{seen}
+use Rattle.model.proofs.history.picture.Picture.{seen, slot-on, slot-off}
 
 -- a rank behind the records
 pub past : (l : Ledger) (u r : ℕ) → length (l .records u) ≤ r → recordAt l u r ≡ empty
 unfolding recordAt
 past l u r a = List·getD-eq-default (l .records u) empty a
 
+pub no-key : (l : Ledger) (u r : ℕ) → length (l .records u) ≤ r → recordAt l u r .key ≡ 0
+unfolding empty
+no-key l u r a = ap (λ (x : Rec). x .key) (past l u r a)
+
 -- a unit that is not out shows its records, also where it is not in place
 pub slot-kept : (l : Ledger) → Valid l → (u r : ℕ) → u < 16 → isOut l u ≡ false → pictureSlot l u r ≡ recordBytes (recordAt l u r)
-unfolding pictureSlot
 slot-kept l h u r a e =
-    by-test (λ (t : Bool). placed l u ≡ t → pick (eqb (state l u) 1) (recordBytes (recordAt l u r)) (zeros slotBytes) ≡ recordBytes (recordAt l u r)) (placed l u)
-    (λ _ q. pick-true (eq-eqb (state l u) 1 (state-in l u q e)) (recordBytes (recordAt l u r)) (zeros slotBytes))
-    (λ _ q. shows-none q)
+    by-test (λ (t : Bool). placed l u ≡ t → pictureSlot l u r ≡ recordBytes (recordAt l u r)) (placed l u)
+    (λ _ q. slot-on l u r (eq-eqb (state l u) 1 (state-in l u q e)))
+    (λ _ q. slot-off l u r (absent q) ∙ sym (ap recordBytes (blank q) ∙ empty-bytes))
     refl
   where
+    absent : placed l u ≡ false → eqb (state l u) 1 ≡ false
+    absent q = ap (λ (n : ℕ). eqb n 1) (eqb-true (state l u) 0 (state-none l u ∙ ap not q))
+
     blank : placed l u ≡ false → recordAt l u r ≡ empty
     blank q = past l u r (omega (arith, ap length (h .none u (ltb-false u (l .units) (sym (placed-unit l u a) ∙ q)))))
-
-    shows-none : placed l u ≡ false → pick (eqb (state l u) 1) (recordBytes (recordAt l u r)) (zeros slotBytes) ≡ recordBytes (recordAt l u r)
-    shows-none q = rw (blank q, empty-bytes) (pick-same (eqb (state l u) 1) (zeros slotBytes))
 
 -- the first rank without a key
 pub fill-is : (n m : ℕ) (f : ℕ → Bool) → m ≤ n → ((k : ℕ) → k < m → f k ≡ false) → (m < n → f m ≡ true) → first n f ≡ m
@@ -53,6 +54,18 @@ fill-is n m f h a b =
     by-test (λ (t : Bool). first n f ≡ m) (ltb m n)
     (λ e. first-at n f m (ltb-true m n e) a (b (ltb-true m n e)))
     (λ e. let same : m ≡ n = omega (arith, ltb-false m n e) in first-none n f (λ k l. a k (omega arith)) ∙ sym same)
+
+-- where the keys by rank are those of the unit's records: the number of records, and the rank of a key
+module _ (l : Ledger) (h : Valid l) (u : ℕ) (key : ℕ → ℕ) (is : (r : ℕ) → r < l .size → key r ≡ recordAt l u r .key) where
+  pub fill-of : first (l .size) (λ r. eqb (key r) 0) ≡ length (l .records u)
+  fill-of =
+      fill-is (l .size) (length (l .records u)) (λ r. eqb (key r) 0) (h .fits u)
+      (λ r a. ne-eqb (key r) 0 (λ e. h .keyed u r a (sym (is r (omega (arith, h .fits u))) ∙ e)))
+      (λ a. eq-eqb (key (length (l .records u))) 0 (is (length (l .records u)) a ∙ no-key l u (length (l .records u)) (le-refl (length (l .records u)))))
+
+  pub rank-of : (k : ℕ) → first (length (l .records u)) (λ r. eqb (key r) k) ≡ rankOf (l .records u) k
+  unfolding rankOf recordAt
+  rank-of k = first-ext (length (l .records u)) _ _ (λ r a. ap (λ (n : ℕ). eqb n k) (is r (omega (arith, h .fits u))))
 
 module _ (l : Ledger) (rest : List ℕ) (h : Valid l) where
   abbrev v : Store
@@ -134,23 +147,16 @@ module _ (l : Ledger) (rest : List ℕ) (h : Valid l) where
 
   module _ (u : ℕ) (hu : u < 16) (here : state l u ≡ 1) where
     pub slot-seen : (r : ℕ) → r < l .size → v .slot u r ≡ recordBytes (recordAt l u r)
-    unfolding image pictureSlot
-    slot-seen r a = s .slot u r hu a ∙ pick-true (eq-eqb (state l u) 1 here) (recordBytes (recordAt l u r)) (zeros slotBytes)
+    unfolding image
+    slot-seen r a = s .slot u r hu a ∙ slot-on l u r (eq-eqb (state l u) 1 here)
 
     key-seen : (r : ℕ) → r < l .size → keyOf (v .slot u r) ≡ recordAt l u r .key
     key-seen r a = ap keyOf (slot-seen r a) ∙ key-record (recordAt l u r) (h .good u r .key)
 
     pub fill-seen : fillIn v u ≡ length (l .records u)
-    unfolding fillIn empty
-    fill-seen =
-        ap (λ (n : ℕ). first n (λ r. eqb (keyOf (v .slot u r)) 0)) size-seen
-        ∙ fill-is (l .size) (length (l .records u)) (λ r. eqb (keyOf (v .slot u r)) 0) (h .fits u)
-        (λ r a. ne-eqb _ 0 (λ e. h .keyed u r a (sym (key-seen r (omega (arith, h .fits u))) ∙ e)))
-        (λ a. eq-eqb _ 0 (key-seen (length (l .records u)) a ∙ ap (λ (x : Rec). x .key) (past l u (length (l .records u)) (le-refl (length (l .records u))))))
+    unfolding fillIn
+    fill-seen = ap (λ (n : ℕ). first n (λ r. eqb (keyOf (v .slot u r)) 0)) size-seen ∙ fill-of l h u (λ r. keyOf (v .slot u r)) key-seen
 
     pub rank-seen : (k : ℕ) → rankIn v u k ≡ rankOf (l .records u) k
-    unfolding rankIn rankOf recordAt
-    rank-seen k =
-        ap (λ (n : ℕ). first n (λ r. eqb (keyOf (v .slot u r)) k)) fill-seen
-        ∙ first-ext (length (l .records u)) (λ r. eqb (keyOf (v .slot u r)) k) (λ r. eqb (getD (l .records u) r empty .key) k)
-        (λ r a. ap (λ (n : ℕ). eqb n k) (key-seen r (omega (arith, h .fits u))))
+    unfolding rankIn
+    rank-seen k = ap (λ (n : ℕ). first n (λ r. eqb (keyOf (v .slot u r)) k)) fill-seen ∙ rank-of l h u (λ r. keyOf (v .slot u r)) key-seen k

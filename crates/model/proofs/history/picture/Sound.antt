@@ -9,7 +9,7 @@ use lib.Dec.{eqb, ltb}
 use lib.ListN.{length}
 use borrow.Author.Tests.{eq-eqb, ne-eqb, eqb-true, ltb-true, ltb-false, lt-ltb, le-ltb, le-leb}
 use Rattle.buffer.specs.Choice.{pick}
-use Rattle.buffer.specs.ChoiceLaws.{by-pick}
+use Rattle.buffer.specs.ChoiceLaws.{by-pick, by-test}
 use Rattle.buffer.specs.TestLaws.{and-true, or-else, not-both}
 use Rattle.buffer.specs.Range.{all, count}
 use Rattle.buffer.specs.RangeLaws.{all-holds, count-zero, count-pos}
@@ -23,13 +23,13 @@ use Rattle.model.specs.Reads.{fillIn, listedKey, listedFill}
 use Rattle.model.specs.Sound.{ranges, unitsPlaced, checksIn, checksAllowed, groupsPlaced, zeroed, keysKnown, keysPlaced, listsAgree, sound}
 use Rattle.model.specs.SoundLaws.{same-of}
 use Rattle.model.specs.history.Ledger.{Ledger, recordAt, isOut, state}
-use Rattle.model.specs.history.Picture.{recordBytes, pictureSlot, pictureCheck, image, picture}
+use Rattle.model.specs.history.Picture.{recordBytes, pictureSlot, image, picture}
 use Rattle.model.proofs.history.ledger.Valid.{Valid}
-use Rattle.model.proofs.history.ledger.States.{data-state, check-state}
+use Rattle.model.proofs.history.ledger.States.{placed-unit, placed-place, state-none, state-fits}
 use Rattle.model.proofs.history.picture.Records.{empty-bytes, listed-over}
-use Rattle.model.proofs.history.picture.Picture.{seen, image-shaped}
-use Rattle.model.proofs.history.picture.Seen.{past, fill-is, size-seen, units-seen, level-seen, dstate-is, cstate-is, dstate-out, fill-seen}
-use Rattle.model.proofs.history.picture.Listed.{Kept, check-kept, key-kept, key-known, no-key, fill-known}
+use Rattle.model.proofs.history.picture.Picture.{seen, image-shaped, slot-on, slot-off, check-off}
+use Rattle.model.proofs.history.picture.Seen.{past, fill-is, size-seen, units-seen, level-seen, dstate-is, cstate-is, dstate-out, fill-seen, no-key}
+use Rattle.model.proofs.history.picture.Listed.{Kept, check-kept, key-kept, key-known, fill-known}
 
 -- ---- tests
 
@@ -43,22 +43,6 @@ not-all n f e = go (count n f) refl
     go : (m : ℕ) → count n f ≡ m → 0 < m
     go zero q = not-both e (ap not (all-holds n (λ j. not (f j)) (λ k l. ap not (count-zero n f q k l))))
     go (suc m) q = zero-lt-suc m
-
--- a state that is made of two tests: in place, and out
-state-fits : (p o : Bool) → pick p (eqb (pick p (pick o 2 1) 0) 1 || eqb (pick p (pick o 2 1) 0) 2) (eqb (pick p (pick o 2 1) 0) 0) ≡ true
-unfolding pick
-state-fits true true = refl
-state-fits true false = refl
-state-fits false o = refl
-
-state-there : (o : Bool) → eqb (pick true (pick o 2 1) 0) 0 ≡ false
-unfolding pick
-state-there true = refl
-state-there false = refl
-
-state-none : (o : Bool) → eqb (pick false (pick o 2 1) 0) 0 ≡ true
-unfolding pick
-state-none o = refl
 
 module _ (l : Ledger) (rest : List ℕ) (h : Valid l) where
   abbrev v : Store
@@ -124,19 +108,18 @@ module _ (l : Ledger) (rest : List ℕ) (h : Valid l) where
 
   units-true : unitsPlaced v ≡ true
   unfolding unitsPlaced
-  units-true = rw (units-seen l rest h) (all-holds 16 _ (λ u a. rw (dstate-is l rest h u a, data-state l u a) (state-fits (ltb u (l .units)) (l .out u))))
+  units-true = rw (units-seen l rest h) (all-holds 16 _ (λ u a. rw (dstate-is l rest h u a, ← (placed-unit l u a)) (state-fits l u)))
 
-  place-state : (g j : ℕ) → g < 4 → j < 3 → v .cstate (3 * g + j) ≡ pick (ltb j (l .checks g)) (pick (l .out (16 + (3 * g + j))) 2 1) 0
-  place-state g j a b =
-      let d : (3 * g + j) / 3 ≡ g = omega arith in
-      let m : (3 * g + j) % 3 ≡ j = omega arith in
-      cstate-is l rest h (3 * g + j) (omega arith) ∙ check-state l (3 * g + j) ∙ rw (d, m)
+  -- a check unit is in place
+  check-there : (g j : ℕ) → g < 4 → j < 3 → eqb (v .cstate (3 * g + j)) 0 ≡ not (ltb j (l .checks g))
+  check-there g j a b =
+      ap (λ (n : ℕ). eqb n 0) (cstate-is l rest h (3 * g + j) (omega arith)) ∙ state-none l (16 + (3 * g + j)) ∙ ap not (placed-place l g j b)
 
   checks-seen : (g : ℕ) → g < 4 → checksIn v g ≡ l .checks g
   unfolding checksIn
   checks-seen g a = fill-is 3 (l .checks g) (λ j. eqb (v .cstate (3 * g + j)) 0) (omega (arith, h .capped g, h .topped))
-      (λ j b. rw (place-state g j a (omega (arith, h .capped g, h .topped)), lt-ltb j (l .checks g) b) (state-there (l .out (16 + (3 * g + j)))))
-      (λ b. rw (place-state g (l .checks g) a b, le-ltb (l .checks g) (l .checks g) (le-refl (l .checks g))) (state-none (l .out (16 + (3 * g + l .checks g)))))
+      (λ j b. check-there g j a (omega (arith, h .capped g, h .topped)) ∙ ap not (lt-ltb j (l .checks g) b))
+      (λ b. check-there g (l .checks g) a b ∙ ap not (le-ltb (l .checks g) (l .checks g) (le-refl (l .checks g))))
 
   groups-true : groupsPlaced v ≡ true
   unfolding groupsPlaced checksAllowed
@@ -146,24 +129,22 @@ module _ (l : Ledger) (rest : List ℕ) (h : Valid l) where
       (by-pick (λ (t : Bool). t ≡ true) (ltb (4 * g) (l .units)) _ _
       (λ e. and-true (le-leb 1 (l .checks g) (h .manned g (ltb-true (4 * g) (l .units) e))) (le-leb (l .checks g) (l .level) (h .capped g)))
       (λ e. eq-eqb (l .checks g) 0 (h .unmanned g (ltb-false (4 * g) (l .units) e))))
-      (all-holds 3 _ (λ j b. rw (place-state g j a b) (state-fits (ltb j (l .checks g)) (l .out (16 + (3 * g + j)))))))))
+      (all-holds 3 _ (λ j b. rw (cstate-is l rest h (3 * g + j) (omega arith), ← (placed-place l g j b)) (state-fits l (16 + (3 * g + j))))))))
 
   -- ---- zeros
 
   zero-slot : (u r : ℕ) → u < 16 → r < l .size → (eqb (v .dstate u) 1 && ltb r (fillIn v u)) ≡ false → v .slot u r ≡ zeros slotBytes
-  unfolding image pictureSlot
-  zero-slot u r a b e = s .slot u r a b ∙ by-pick (λ (x : List ℕ). x ≡ zeros slotBytes) (eqb (state l u) 1) (recordBytes (recordAt l u r)) (zeros slotBytes)
+  unfolding image
+  zero-slot u r a b e = s .slot u r a b ∙ by-test (λ (t : Bool). pictureSlot l u r ≡ zeros slotBytes) (eqb (state l u) 1)
       (λ q.
       let e2 : ltb r (fillIn v u) ≡ false = sym (ap (λ (t : Bool). t && ltb r (fillIn v u)) (ap (λ (n : ℕ). eqb n 1) (s .dstate u a) ∙ q)) ∙ e in
       let n : fillIn v u ≡ length (l .records u) = fill-seen l rest h u a (eqb-true (state l u) 1 q) in
-      ap recordBytes (past l u r (omega (arith, ltb-false r (fillIn v u) e2))) ∙ empty-bytes)
-      (λ q. refl)
+      slot-on l u r q ∙ ap recordBytes (past l u r (omega (arith, ltb-false r (fillIn v u) e2))) ∙ empty-bytes)
+      (slot-off l u r)
 
   zero-check : (c r : ℕ) → c < 12 → r < l .size → eqb (v .cstate c) 1 ≡ false → v .check c r ≡ zeros checkBytes
-  unfolding image pictureCheck
-  zero-check c r a b e = s .check c r a b ∙ by-pick (λ (x : List ℕ). x ≡ zeros checkBytes) (eqb (state l (16 + c)) 1) _ (zeros checkBytes)
-      (λ q. not-both (ap (λ (n : ℕ). eqb n 1) (s .cstate c a) ∙ q) e)
-      (λ q. refl)
+  unfolding image
+  zero-check c r a b e = s .check c r a b ∙ check-off l c r (ap (λ (n : ℕ). eqb n 1) (sym (s .cstate c a)) ∙ e)
 
   zeroed-true : zeroed v ≡ true
   unfolding zeroed
@@ -184,7 +165,7 @@ module _ (l : Ledger) (rest : List ℕ) (h : Valid l) where
       and-true (eq-eqb (unitOf (l .units) (recordAt l u r .key)) u (h .own u r i))
       (all-holds r _ (λ q c. ap not (ne-eqb (keyOf (listedKey v u q)) (recordAt l u r .key)
       (λ d. h .differ u q r c i (sym (key-known l rest h u a k q (omega arith)) ∙ d))))))
-      (λ e. eq-eqb (recordAt l u r .key) 0 (no-key l rest h u a k r (ltb-false r (length (l .records u)) e))))
+      (λ e. eq-eqb (recordAt l u r .key) 0 (no-key l u r (ltb-false r (length (l .records u)) e))))
 
   known-kept : (u : ℕ) → u < 16 → keysKnown v u ≡ true → isOut l u ≡ true → Kept l rest h (u / 4)
   unfolding keysKnown

@@ -14,7 +14,7 @@ use Rattle.buffer.specs.TestLaws.{by-both}
 use Rattle.buffer.specs.Bytes.{zeros}
 use Rattle.buffer.specs.Table.{upd}
 use Rattle.buffer.specs.TableLaws.{upd-at, upd-other}
-use Rattle.group.specs.Widths.{keyBytes, slotBytes, checkBytes}
+use Rattle.group.specs.Widths.{keyBytes, slotBytes}
 use Rattle.group.specs.Body.{addBody}
 use Rattle.group.specs.CheckRecord.{patched}
 use Rattle.model.specs.Layout.{Store}
@@ -24,15 +24,7 @@ use Rattle.model.specs.history.Ledger.{Rec, Ledger, empty, recordAt, pla
 use Rattle.model.specs.history.Picture.{recordBytes, pictureSlot, checkOver, pictureCheck, image}
 use Rattle.model.proofs.history.ledger.Valid.{Good, Goods}
 use Rattle.model.proofs.history.picture.Records.{over-ext, patched-over}
-
--- the check record of a check unit in service, and of any other
-check-on : (l : Ledger) (c q : ℕ) → eqb (state l (16 + c)) 1 ≡ true → pictureCheck l c q ≡ checkOver (c % 3) (λ p. recordAt l (4 * (c / 3) + p) q)
-unfolding pictureCheck
-check-on l c q e = pick-true e (checkOver (c % 3) (λ p. recordAt l (4 * (c / 3) + p) q)) (zeros checkBytes)
-
-check-off : (l : Ledger) (c q : ℕ) → eqb (state l (16 + c)) 1 ≡ false → pictureCheck l c q ≡ zeros checkBytes
-unfolding pictureCheck
-check-off l c q e = pick-false e (checkOver (c % 3) (λ p. recordAt l (4 * (c / 3) + p) q)) (zeros checkBytes)
+use Rattle.model.proofs.history.picture.Picture.{slot-on, check-on, check-off}
 
 -- ---- the ledger l, and the one in which the records of unit u are rs: those of l, with x at rank r
 
@@ -86,8 +78,8 @@ module _ (l : Ledger) (u r : ℕ) (x : Rec) (rs : List Rec)
 
     module _ (v : Store) (rest : List ℕ) (s : Same v (image l rest)) (hu : u < 16) (hr : r < l .size) (here : state l u ≡ 1) where
       old : v .slot u r ≡ recordBytes (recordAt l u r)
-      unfolding image pictureSlot
-      old = s .slot u r hu hr ∙ pick-true (eq-eqb (state l u) 1 here) (recordBytes (recordAt l u r)) (zeros slotBytes)
+      unfolding image
+      old = s .slot u r hu hr ∙ slot-on l u r (eq-eqb (state l u) 1 here)
 
       slots : (w q : ℕ) → w < 16 → q < l .size → pick (eqb w u && eqb q r) (recordBytes x) (v .slot w q) ≡ pictureSlot m w q
       unfolding pictureSlot image
