@@ -10,6 +10,7 @@ pub mod ReadInPlace
 pub mod List
 pub mod UnitOut
 pub mod Repair
+pub mod Resized
 pub mod Grow
 pub mod Shrink
 pub mod Raise

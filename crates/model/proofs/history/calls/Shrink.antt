@@ -23,22 +23,23 @@ use Rattle.model.specs.Reads.{fillIn, outsIn}
 use Rattle.model.specs.Numbers.{shrink, refusalsIn}
 use Rattle.model.specs.Perform.{reply, givenIn, grantedIn}
 use Rattle.model.specs.Changes.{recordsIn, merged, shrunkState, shrunk}
-use Rattle.model.specs.history.Ledger.{Rec, empty, Ledger, recordAt, placed, isOut, state, outsOf, shrunkLedger, granted}
-use Rattle.model.specs.history.Picture.{recordBytes, pictureSlot, checkOver, pictureCheck, image, picture}
+use Rattle.model.specs.history.Ledger.{Rec, empty, Ledger, recordAt, state, outsOf, shrunkLedger, granted}
+use Rattle.model.specs.history.Picture.{recordBytes, pictureSlot, pictureCheck, image, picture}
 use Rattle.model.specs.history.Table.{refusals}
 use Rattle.model.specs.history.Answers.{given}
 use Rattle.model.specs.RowLaws.{row}
 use Rattle.model.proofs.history.ledger.Valid.{Valid}
 use Rattle.model.proofs.history.ledger.States.{data-state, check-state}
 use Rattle.model.proofs.history.ledger.Shared.{wording}
-use Rattle.model.proofs.history.ledger.Touched.{is-touched, not-touched, quiet-data}
+use Rattle.model.proofs.history.ledger.Touched.{is-touched}
 use Rattle.model.proofs.history.ledger.Shrunk.{bothLists, by-merged, before, checks-gone, checks-kept, valid-shrunk}
-use Rattle.model.proofs.history.picture.Records.{empty-bytes, over-ext, anew-over}
-use Rattle.model.proofs.history.picture.Picture.{seen}
-use Rattle.model.proofs.history.picture.Seen.{slot-kept, size-seen, units-seen, outs-seen, serving, fill-seen}
+use Rattle.model.proofs.history.picture.Records.{empty-bytes}
+use Rattle.model.proofs.history.picture.Picture.{seen, check-off}
+use Rattle.model.proofs.history.picture.Seen.{size-seen, units-seen, outs-seen, serving, fill-seen}
 use Rattle.model.proofs.history.picture.RecordsSeen.{records-seen}
 use Rattle.model.proofs.history.calls.Simulation.{Simulated}
 use Rattle.model.proofs.history.calls.OneList.{sound-row}
+use Rattle.model.proofs.history.calls.Resized.{Resized, shows, slot-same, made, check-same, state-same}
 
 -- the emptied group is the one whose first unit is removed
 by-emptied : (P : Bool → Type 0) (m g : ℕ) → 1 ≤ m → m ≤ 16 → g < 4 → (4 * g ≡ m → P true) → ((4 * g ≡ m → ⊥) → P false) → P (emptied m g)
@@ -56,6 +57,9 @@ module _ (l : Ledger) (rest : List ℕ) (h : Valid l) (m : ℕ) (is : l .units �
   abbrev n : ℕ
   n = splitPointer m
 
+  abbrev next : Ledger
+  next = shrunkLedger l m
+
   abbrev v : Store
   v = view (picture l rest)
 
@@ -67,9 +71,6 @@ module _ (l : Ledger) (rest : List ℕ) (h : Valid l) (m : ℕ) (is : l .units �
 
   low : n < m
   low = before l h m is pos
-
-  valid : Valid (shrunkLedger l m)
-  valid = valid-shrunk l h m is pos new old fit
 
   -- ---- slots
 
@@ -83,102 +84,81 @@ module _ (l : Ledger) (rest : List ℕ) (h : Valid l) (m : ℕ) (is : l .units �
       )
       (List·getD-map recordBytes (bothLists l m) r empty)
 
-  record-merged : (u r : ℕ) → u ≡ n → recordAt (shrunkLedger l m) u r ≡ getD (bothLists l m) r empty
+  record-merged : (u r : ℕ) → u ≡ n → recordAt next u r ≡ getD (bothLists l m) r empty
   unfolding recordAt
   record-merged u r e =
       by-merged l m (λ (xs : List Rec). getD xs r empty ≡ getD (bothLists l m) r empty) u (λ f. absurd (omega (arith, low))) (λ _ _. refl) (λ _ d. absurd (d e))
 
-  record-kept : (u r : ℕ) → (u ≡ m → ⊥) → (u ≡ n → ⊥) → recordAt (shrunkLedger l m) u r ≡ recordAt l u r
+  record-kept : (u r : ℕ) → (u ≡ m → ⊥) → (u ≡ n → ⊥) → recordAt next u r ≡ recordAt l u r
   unfolding recordAt
   record-kept u r a b = by-merged l m (λ (xs : List Rec). getD xs r empty ≡ getD (l .records u) r empty) u (λ e. absurd (a e)) (λ _ e. absurd (b e)) (λ _ _. refl)
 
-  -- a unit of a touched group is not out
-  quiet-unit : (u : ℕ) → touched m (u / 4) ≡ true → isOut (shrunkLedger l m) u ≡ false
-  unfolding isOut shrunkLedger
-  quiet-unit u e = rw (quiet-data l (h .calm) m new old u e) (and-false (placed (shrunkLedger l m) u))
+  resized : Resized l (shrunkLedger l m) m
+  resized = record {
+    before = h;
+    after = valid-shrunk l h m is pos new old fit;
+    new = new;
+    old = old;
+    marks = λ w. unfold shrunkLedger in refl;
+    kept = record-kept;
+  }
 
-  shows : (u r : ℕ) → u < 16 → touched m (u / 4) ≡ true → pictureSlot (shrunkLedger l m) u r ≡ recordBytes (recordAt (shrunkLedger l m) u r)
-  shows u r a e = slot-kept (shrunkLedger l m) valid u r a (quiet-unit u e)
-
-  state-gone : state (shrunkLedger l m) m ≡ 0
+  state-gone : state next m ≡ 0
   unfolding shrunkLedger pick
-  state-gone = data-state (shrunkLedger l m) m (omega (arith, top)) ∙ rw (le-ltb m m (le-refl m))
+  state-gone = data-state next m (omega (arith, top)) ∙ rw (le-ltb m m (le-refl m))
 
-  state-old : (u : ℕ) → u < 16 → (u ≡ m → ⊥) → state (shrunkLedger l m) u ≡ state l u
+  state-old : (u : ℕ) → u < 16 → (u ≡ m → ⊥) → state next u ≡ state l u
   unfolding shrunkLedger
-  state-old u a e = data-state (shrunkLedger l m) u a ∙ rw (ltb-suc u m e, ← is) (sym (data-state l u a))
+  state-old u a e = data-state next u a ∙ rw (ltb-suc u m e, ← is) (sym (data-state l u a))
 
-  slot-same : (u r : ℕ) → u < 16 → (u ≡ m → ⊥) → (u ≡ n → ⊥) → pictureSlot l u r ≡ pictureSlot (shrunkLedger l m) u r
-  unfolding pictureSlot
-  slot-same u r a e f = rw (state-old u a e, record-kept u r e f)
-
-  slot-gone : (u r : ℕ) → u ≡ m → zeros slotBytes ≡ pictureSlot (shrunkLedger l m) u r
+  slot-gone : (u r : ℕ) → u ≡ m → zeros slotBytes ≡ pictureSlot next u r
   unfolding pictureSlot pick
   slot-gone u r e = rw (e, state-gone)
 
-  slot-merged : (u r : ℕ) → u < 16 → u ≡ n → recordBytes (getD (bothLists l m) r empty) ≡ pictureSlot (shrunkLedger l m) u r
-  slot-merged u r a e = ap recordBytes (sym (record-merged u r e)) ∙ sym (shows u r a (is-touched m (u / 4) (inr (ap (λ (k : ℕ). k / 4) e))))
+  slot-merged : (u r : ℕ) → u < 16 → u ≡ n → recordBytes (getD (bothLists l m) r empty) ≡ pictureSlot next u r
+  slot-merged u r a e = ap recordBytes (sym (record-merged u r e)) ∙ sym (shows resized u r a (is-touched m (u / 4) (inr (ap (λ (i : ℕ). i / 4) e))))
 
-  slot-shrunk : (u r : ℕ) → u < 16 → r < l .size → merged v m u r ≡ pictureSlot (shrunkLedger l m) u r
+  slot-shrunk : (u r : ℕ) → u < 16 → r < l .size → merged v m u r ≡ pictureSlot next u r
   unfolding merged image
   slot-shrunk u r a b =
-      by-pick (λ (x : List ℕ). x ≡ pictureSlot (shrunkLedger l m) u r) (eqb u m) _ _
+      by-pick (λ (x : List ℕ). x ≡ pictureSlot next u r) (eqb u m) _ _
       (λ e. slot-gone u r (eqb-true u m e))
-      (λ e. by-pick (λ (x : List ℕ). x ≡ pictureSlot (shrunkLedger l m) u r) (eqb u n) _ _
+      (λ e. by-pick (λ (x : List ℕ). x ≡ pictureSlot next u r) (eqb u n) _ _
       (λ f. merged-list r ∙ slot-merged u r a (eqb-true u n f))
-      (λ f. s .slot u r a b ∙ slot-same u r a (eqb-false u m e) (eqb-false u n f)))
+      (λ f. s .slot u r a b ∙ slot-same resized u r (eqb-false u m e) (eqb-false u n f) (state-old u a (eqb-false u m e))))
 
   -- ---- states
 
-  dstate-shrunk : (u : ℕ) → u < 16 → upd (v .dstate) m 0 u ≡ state (shrunkLedger l m) u
+  dstate-shrunk : (u : ℕ) → u < 16 → upd (v .dstate) m 0 u ≡ state next u
   unfolding upd image
   dstate-shrunk u a =
-      by-pick (λ (k : ℕ). k ≡ state (shrunkLedger l m) u) (eqb u m) 0 (v .dstate u)
-      (λ e. sym (ap (state (shrunkLedger l m)) (eqb-true u m e) ∙ state-gone))
+      by-pick (λ (i : ℕ). i ≡ state next u) (eqb u m) 0 (v .dstate u)
+      (λ e. sym (ap (state next) (eqb-true u m e) ∙ state-gone))
       (λ e. s .dstate u a ∙ sym (state-old u a (eqb-false u m e)))
 
-  out-same : (w : ℕ) → shrunkLedger l m .out w ≡ l .out w
-  unfolding shrunkLedger
-  out-same w = refl
-
-  check-gone : (c : ℕ) → 4 * (c / 3) ≡ m → state (shrunkLedger l m) (16 + c) ≡ 0
+  check-gone : (c : ℕ) → 4 * (c / 3) ≡ m → state next (16 + c) ≡ 0
   unfolding pick
-  check-gone c e = check-state (shrunkLedger l m) c ∙ rw (checks-gone l h m is pos (c / 3) (omega arith), le-ltb (c % 3) 0 (omega arith))
+  check-gone c e = check-state next c ∙ rw (checks-gone l h m is pos (c / 3) (omega arith), le-ltb (c % 3) 0 (omega arith))
 
-  check-kept : (c : ℕ) → (4 * (c / 3) ≡ m → ⊥) → state l (16 + c) ≡ state (shrunkLedger l m) (16 + c)
-  check-kept c e = check-state l c ∙ sym (check-state (shrunkLedger l m) c ∙ rw (checks-kept l h m is pos (c / 3) e, out-same (16 + c)))
-
-  cstate-shrunk : (c : ℕ) → c < 12 → shrunkState v m c ≡ state (shrunkLedger l m) (16 + c)
+  cstate-shrunk : (c : ℕ) → c < 12 → shrunkState v m c ≡ state next (16 + c)
   unfolding shrunkState image pick
   cstate-shrunk c a =
-      by-emptied (λ (t : Bool). pick t 0 (v .cstate c) ≡ state (shrunkLedger l m) (16 + c)) m (c / 3) pos (omega (arith, top)) (omega arith)
+      by-emptied (λ (t : Bool). pick t 0 (v .cstate c) ≡ state next (16 + c)) m (c / 3) pos (omega (arith, top)) (omega arith)
       (λ e. sym (check-gone c e))
-      (λ e. s .cstate c a ∙ check-kept c e)
+      (λ e. s .cstate c a ∙ state-same resized c (checks-kept l h m is pos (c / 3) e))
 
   -- ---- check records
 
   check-shrunk : (c r : ℕ) → c < 12 → r < l .size
-      → pick (touched m (c / 3)) (pick (eqb (state (shrunkLedger l m) (16 + c)) 1) (checkRecord (c % 3) (λ p. merged v m (4 * (c / 3) + p) r)) (zeros checkBytes)) (v .check c r)
-      ≡ pictureCheck (shrunkLedger l m) c r
-  unfolding pictureCheck image pick
-  check-shrunk c r a b = go (touched m (c / 3)) (eqb (state (shrunkLedger l m) (16 + c)) 1) refl refl
-    where
-      go : (t w : Bool) → touched m (c / 3) ≡ t → eqb (state (shrunkLedger l m) (16 + c)) 1 ≡ w
-          → pick t (pick w (checkRecord (c % 3) (λ p. merged v m (4 * (c / 3) + p) r)) (zeros checkBytes)) (v .check c r)
-          ≡ pick w (checkOver (c % 3) (λ p. recordAt (shrunkLedger l m) (4 * (c / 3) + p) r)) (zeros checkBytes)
-      go true true e f =
-          anew-over (c % 3) (λ p. merged v m (4 * (c / 3) + p) r) (λ p. recordAt (shrunkLedger l m) (4 * (c / 3) + p) r)
-          (λ p i.
-          let d : (4 * (c / 3) + p) / 4 ≡ c / 3 = omega arith in
-          slot-shrunk (4 * (c / 3) + p) r (omega arith) b ∙ shows (4 * (c / 3) + p) r (omega arith) (ap (touched m) d ∙ e))
-      go true false e f = refl
-      go false w e f =
-          s .check c r a b
-          ∙ rw (
-            ap (λ (k : ℕ). eqb k 1) (check-kept c (λ d. not-both (is-touched m (c / 3) (inl (omega arith))) e)) ∙ f,
-            over-ext (c % 3) (λ p. recordAt l (4 * (c / 3) + p) r) (λ p. recordAt (shrunkLedger l m) (4 * (c / 3) + p) r)
-                (λ p i. let d = not-touched m (c / 3) p i e in sym (record-kept (4 * (c / 3) + p) r (d .0) (d .1))),
-          )
+      → pick (touched m (c / 3)) (pick (eqb (state next (16 + c)) 1) (checkRecord (c % 3) (λ p. merged v m (4 * (c / 3) + p) r)) (zeros checkBytes)) (v .check c r)
+      ≡ pictureCheck next c r
+  unfolding image
+  check-shrunk c r a b =
+      by-pick (λ (x : List ℕ). x ≡ pictureCheck next c r) (touched m (c / 3)) _ (v .check c r)
+      (λ e. by-pick (λ (x : List ℕ). x ≡ pictureCheck next c r) (eqb (state next (16 + c)) 1) _ (zeros checkBytes)
+      (λ f. made resized c r (λ u. merged v m u r) a (λ u i. slot-shrunk u r i b) e f)
+      (λ f. sym (check-off next c r f)))
+      (λ e. s .check c r a b ∙ check-same resized c r e (checks-kept l h m is pos (c / 3) (λ d. not-both (is-touched m (c / 3) (inl (omega arith))) e)))
 
   pub shrink-picture : bytes (shrunk v m) ≡ picture (shrunkLedger l m) rest
   unfolding shrunk image shrunkLedger frontOf bytes32
