@@ -194,7 +194,7 @@ pub followed-written : (s₀ s s′ x key change : List ℕ) (u r b at : ℕ) �
 followed-written s₀ s s′ x key change u r b at slot hx eb ea ek ec e es =
     let hr : r < view s₀ .size = rw (← size-of s₀) (slot .rank) in
     let lk : length key ≡ keyBytes = ap length ek ∙ length-key bodyBytes x hx in
-    let lc : length change ≡ bodyBytes = ap length ec ∙ length-change (view s₀) u r x (view-shaped s₀ (slot .long)) (slot .unit) hr hx in
+    let lc : length change ≡ bodyBytes = ap length ec ∙ length-change (view s₀ .slot u r) x (view-shaped s₀ (slot .long) .slot u r (slot .unit) hr) hx in
     chunk-put data-units (after s₀ u r key change 3) (after-shaped s₀ u r key change slot lk lc 3) s e b (eb ∙ size-of s₀ ∙ sym (after-size s₀ u r key change slot lk lc 3)) s′ x at u r ea (slot .unit) (rw eb (slot .rank)) es
     ∙ ap₂ (λ k d. bytes (withSlots (after s₀ u r k d 3) (upd2 (after s₀ u r k d 3 .slot) u r x))) ek ec
     ∙ bytes-ext _ (written (view s₀) u r x) (all-there (view s₀) u r x)

@@ -46,7 +46,7 @@ module _ (v w : Store) (a : Alike v w) (some : 1 ≤ unitsIn v) (few : unitsIn v
   fill-row : (u i : ℕ) → u ≡ i → u < 16 → fillIn v u ≡ fillIn w i
   fill-row u i e l = fill-alike v w a u l ∙ ap (fillIn w) e
 
-  module _ (o p : Bool) (e : o ≡ p) where
+  module _ {o p : Bool} (e : o ≡ p) where
     pub teach-rows : (k : ℕ) (x : List ℕ) → Agree (refusalsIn o v (teach k x)) (refusalsIn p w (teach k x))
     unfolding refusalsIn
     teach-rows k x =

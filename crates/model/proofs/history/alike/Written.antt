@@ -16,12 +16,12 @@ use Rattle.buffer.specs.SpliceLaws.{length-splice}
 use Rattle.buffer.specs.Table.{upd}
 use Rattle.group.specs.Widths.{keyBytes, bodyBytes, keysBytes, slotBytes, checkBytes}
 use Rattle.group.specs.Body.{addBody}
-use Rattle.group.specs.BodyLaws.{length-add}
 use Rattle.group.specs.Parity.{adjusted}
 use Rattle.group.specs.CheckRecord.{patched}
-use Rattle.group.specs.CheckRecordLaws.{length-key, length-body, length-patched}
+use Rattle.group.specs.CheckRecordLaws.{length-key}
 use Rattle.model.specs.Layout.{Store, levelIn}
 use Rattle.model.specs.Changes.{written, erased, unitLost, raised}
+use Rattle.model.specs.ChangeLaws.{length-follow}
 use Rattle.model.proofs.history.alike.Alike.{LikeSlot, LikeCheck, Alike, pick-both, no-slot, no-check}
 
 -- ---- a check record that follows a slot
@@ -46,10 +46,8 @@ module _ (j p : ℕ) (p4 : p < 4) where
             patched-keys j p (take keyBytes x) (addBody (drop keyBytes s) (drop keyBytes x)) old p4 kx (k .left)
             ∙ ap₂ (splice (keyBytes * p) keyBytes) (h .key) (k .keys)
             ∙ sym (patched-keys j p (take keyBytes y) (addBody (drop keyBytes t) (drop keyBytes y)) new p4 ky (k .right));
-        left = length-patched bodyBytes j p (take keyBytes x) (addBody (drop keyBytes s) (drop keyBytes x)) old p4 kx
-            (length-add bodyBytes (drop keyBytes s) (drop keyBytes x) (length-body bodyBytes s (i .left)) (length-body bodyBytes x (h .left))) (k .left);
-        right = length-patched bodyBytes j p (take keyBytes y) (addBody (drop keyBytes t) (drop keyBytes y)) new p4 ky
-            (length-add bodyBytes (drop keyBytes t) (drop keyBytes y) (length-body bodyBytes t (i .right)) (length-body bodyBytes y (h .right))) (k .right);
+        left = length-follow j p s x old p4 (i .left) (h .left) (k .left);
+        right = length-follow j p t y new p4 (i .right) (h .right) (k .right);
       }
 
 -- ---- a slot written

@@ -1,6 +1,6 @@
 -- The ledger with no unit out: it is what the lasting calls alone leave, and run alone they are all granted. Assumes nothing.
 use Prim.Native.Nat.{ℕ, pred, _+_, _*_, _/_}
-use mathlib.Core.Path.{_≡_, refl, sym, ap, _∙_}
+use mathlib.Core.Path.{_≡_, refl, sym, ap, _∙_, subst}
 use mathlib.Core.List.{List, [], _∷_}
 use mathlib.Core.Bool.{Bool, true, false, _&&_, and-false}
 use lib.Dec.{eqb, ltb}
@@ -8,7 +8,7 @@ use borrow.Author.Tests.{eq-eqb}
 use Rattle.buffer.specs.Choice.{pick}
 use Rattle.buffer.specs.ChoiceLaws.{by-pick}
 use Rattle.buffer.specs.RangeLaws.{count-fails}
-use Rattle.buffer.specs.TestLaws.{not-both, and-false-first}
+use Rattle.buffer.specs.TestLaws.{not-both, and-false-first, and-true}
 use Rattle.model.specs.Units.{splitPointer}
 use Rattle.model.specs.Numbers.{Call, teach, correct, erase, read, readInPlace, list, unitOut, repair, grow, shrink, raise, firstOf}
 use Rattle.model.specs.history.Ledger.{Ledger, opened, home, placed, isOut, state, outsOf, beyondOf, lost, total, withRecords, grownLedger, shrunkLedger, granted}
@@ -110,34 +110,32 @@ module _ (l : Ledger) where
   after-refused : (c : Call) → eqb (number l c) 0 ≡ false → lossless (after l c) ≡ lossless l
   after-refused c e = ap lossless (refused-after l c e)
 
--- THE LASTING CALLS ALONE leave the same ledger, with no unit out
-pub final-lossless : (cs : List Call) (l : Ledger) → final (lossless l) (alone l cs) ≡ lossless (final l cs)
-unfolding final alone pick
-final-lossless [] l = refl
-final-lossless (c ∷ cs) l = go (eqb (number l c) 0) (lasting c) refl refl (final-lossless cs (after l c))
+-- what holds, with no unit out, of the lasting calls behind a call holds of them from that call on, if a call that is granted there keeps it
+by-lasting : (P : Ledger → List Call → Type 0) (c : Call) (cs : List Call) (l : Ledger)
+    → ((ds : List Call) → eqb (number (lossless l) c) 0 ≡ true → P (after (lossless l) c) ds → P (lossless l) (c ∷ ds))
+    → P (lossless (after l c)) (alone (after l c) cs) → P (lossless l) (alone l (c ∷ cs))
+unfolding alone pick
+by-lasting P c cs l more h = go (eqb (number l c) 0) (lasting c) refl refl
   where
     rest : List Call
     rest = alone (after l c) cs
 
-    go : (t w : Bool) → eqb (number l c) 0 ≡ t → lasting c ≡ w → final (lossless (after l c)) rest ≡ lossless (final (after l c) cs)
-        → final (lossless l) (pick (t && w) (c ∷ rest) rest) ≡ lossless (final (after l c) cs)
-    go true true e f ih = ap (λ (m : Ledger). final m rest) (after-lasting l c f e) ∙ ih
-    go true false e f ih = ap (λ (m : Ledger). final m rest) (sym (after-passing l c f e)) ∙ ih
-    go false w e f ih = ap (λ (m : Ledger). final m rest) (sym (after-refused l c e)) ∙ ih
+    go : (t w : Bool) → eqb (number l c) 0 ≡ t → lasting c ≡ w → P (lossless l) (pick (t && w) (c ∷ rest) rest)
+    go true true e f = more rest (number-lossless l c f e) (subst (λ (m : Ledger). P m rest) (sym (after-lasting l c f e)) h)
+    go true false e f = subst (λ (m : Ledger). P m rest) (after-passing l c f e) h
+    go false w e f = subst (λ (m : Ledger). P m rest) (after-refused l c e) h
+
+-- THE LASTING CALLS ALONE leave the same ledger, with no unit out
+pub final-lossless : (cs : List Call) (l : Ledger) → final (lossless l) (alone l cs) ≡ lossless (final l cs)
+unfolding final alone
+final-lossless [] l = refl
+final-lossless (c ∷ cs) l = by-lasting (λ m ds. final m ds ≡ lossless (final (after l c) cs)) c cs l (λ ds e h. h) (final-lossless cs (after l c))
 
 -- and each of them is granted there
 pub alone-again : (cs : List Call) (l : Ledger) → allGrantedBy (lossless l) (alone l cs) ≡ true
-unfolding allGrantedBy alone pick
+unfolding allGrantedBy alone
 alone-again [] l = refl
-alone-again (c ∷ cs) l = go (eqb (number l c) 0) (lasting c) refl refl (alone-again cs (after l c))
-  where
-    rest : List Call
-    rest = alone (after l c) cs
-
-    go : (t w : Bool) → eqb (number l c) 0 ≡ t → lasting c ≡ w → allGrantedBy (lossless (after l c)) rest ≡ true → allGrantedBy (lossless l) (pick (t && w) (c ∷ rest) rest) ≡ true
-    go true true e f ih = rw (number-lossless l c f e, after-lasting l c f e) ih
-    go true false e f ih = rw (sym (after-passing l c f e)) ih
-    go false w e f ih = rw (sym (after-refused l c e)) ih
+alone-again (c ∷ cs) l = by-lasting (λ m ds. allGrantedBy m ds ≡ true) c cs l (λ ds e h. and-true e h) (alone-again cs (after l c))
 
 -- ---- from a layout
 

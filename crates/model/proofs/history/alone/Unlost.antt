@@ -44,25 +44,20 @@ module _ (l : Ledger) (rest : List ℕ) (h : Valid l) where
   t : Same (view (picture (lossless l) rest)) (image (lossless l) rest)
   t = seen (lossless l) rest (lossless-valid l h .good)
 
-  slots : (u : ℕ) → u < 16 → state l u ≡ 1 → tab (v .size) (v .slot u) ≡ tab (w .size) (w .slot u)
+  same-ranks : (f g : ℕ → List ℕ) → ((r : ℕ) → r < l .size → f r ≡ g r) → tab (v .size) f ≡ tab (w .size) g
   unfolding image lossless
-  slots u a e =
-      ap (λ (n : ℕ). tab n (v .slot u)) (s .size)
-      ∙ tab-ext (l .size) (v .slot u) (w .slot u) (λ r b. s .slot u r a b ∙ lossless-slot l u r e ∙ sym (t .slot u r a b))
-      ∙ ap (λ (n : ℕ). tab n (w .slot u)) (sym (t .size))
-
-  checks : (c : ℕ) → c < 12 → state l (16 + c) ≡ 1 → tab (v .size) (v .check c) ≡ tab (w .size) (w .check c)
-  unfolding image lossless
-  checks c a e =
-      ap (λ (n : ℕ). tab n (v .check c)) (s .size)
-      ∙ tab-ext (l .size) (v .check c) (w .check c) (λ r b. s .check c r a b ∙ lossless-check l c r e ∙ sym (t .check c r a b))
-      ∙ ap (λ (n : ℕ). tab n (w .check c)) (sym (t .size))
+  same-ranks f g e = ap (λ (n : ℕ). tab n f) (s .size) ∙ tab-ext (l .size) f g e ∙ ap (λ (n : ℕ). tab n g) (sym (t .size))
 
   pub same-unit : (i : ℕ) → i < 28 → state l i ≡ 1 → unitIn (view (picture l rest)) i ≡ unitIn (view (picture (lossless l) rest)) i
-  unfolding unitIn
-  same-unit i a e = pick-ext (ltb i 16) (tab (v .size) (v .slot i)) (tab (v .size) (v .check (i - 16))) (tab (w .size) (w .slot i)) (tab (w .size) (w .check (i - 16)))
-      (λ q. slots i (ltb-true i 16 q) e)
+  unfolding unitIn image lossless
+  same-unit i a e =
+      pick-ext (ltb i 16) (tab (v .size) (v .slot i)) (tab (v .size) (v .check (i - 16))) (tab (w .size) (w .slot i)) (tab (w .size) (w .check (i - 16)))
+      (λ q.
+      let b : i < 16 = ltb-true i 16 q in
+      same-ranks (v .slot i) (w .slot i) (λ r m. s .slot i r b m ∙ lossless-slot l i r e ∙ sym (t .slot i r b m)))
       (λ q.
       let b : 16 ≤ i = ltb-false i 16 q in
+      let c : i - 16 < 12 = omega arith in
       let d : 16 + (i - 16) ≡ i = omega arith in
-      checks (i - 16) (omega arith) (ap (state l) d ∙ e))
+      same-ranks (v .check (i - 16)) (w .check (i - 16)) (λ r m.
+      s .check (i - 16) r c m ∙ lossless-check l (i - 16) r (ap (state l) d ∙ e) ∙ sym (t .check (i - 16) r c m)))

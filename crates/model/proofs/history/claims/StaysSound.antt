@@ -5,7 +5,7 @@ use mathlib.Core.Path.{_≡_, sym, ap, _∙_}
 use mathlib.Core.List.{List}
 use mathlib.Core.Bool.{Bool, true, false, not}
 use native.Mathlib.Omega.{arith}
-use lib.Dec.{eqb, ltb}
+use lib.Dec.{eqb, ltb, leb}
 use lib.ListN.{length, length-append}
 use borrow.Author.Tests.{eqb-true, eq-eqb, ltb-true, ltb-false, leb-false, lt-ltb, not-false}
 use Rattle.buffer.specs.Choice.{pick}
@@ -14,7 +14,7 @@ use Rattle.buffer.specs.TestLaws.{not-both}
 use Rattle.buffer.specs.Bytes.{bytes32}
 use Rattle.buffer.specs.ByteLaws.{length-bytes32}
 use Rattle.group.specs.Widths.{bodyBytes, slotBytes}
-use Rattle.model.specs.Layout.{Store, view, slotOf, unitsIn, levelIn}
+use Rattle.model.specs.Layout.{Store, view, slotOf, unitsIn, levelIn, bytes}
 use Rattle.model.specs.LayoutLaws.{bytes-view}
 use Rattle.model.specs.Reads.{homeIn, fillIn, rankIn}
 use Rattle.model.specs.Sound.{sound}
@@ -84,46 +84,45 @@ module _ (l : Ledger) (rest : List ℕ) (h : Valid l) (s : List ℕ) (ok : sound
 
   -- ---- teach, correct, erase
 
+  -- a slot of the call's arguments written at a rank of the key's unit
+  written-sound : (k : ℕ) (x : List ℕ) (r : ℕ) → r < v .size → not (eqb (length x) bodyBytes) ≡ false
+      → sound (bytes (written v (homeIn v k) r (slotOf k x))) ≡ true → sound (bytes (written w (homeIn v k) r (slotOf k x))) ≡ true
+  written-sound k x r room fits =
+      sound-alike (written v (homeIn v k) r (slotOf k x)) (written w (homeIn v k) r (slotOf k x))
+      (written-alike v w a (homeIn v k) r (home-inside v w a some few k) room (slotOf k x) (slotOf k x) (slot-refl (slotOf k x) (length-args k x fits)))
+
   teach-sound : (k : ℕ) (x : List ℕ) → Typed (teach k x) → numberIn s (teach k x) ≡ 0 → sound (grantedIn s (teach k x)) ≡ true
   unfolding grantedIn refusals
   teach-sound k x t e =
-      let rows = teach-rows v w a some few (sound (picture l rest)) (sound s) both-sound k x in
+      let rows = teach-rows v w a some few both-sound k x in
       let f = free (teach k x) t rows e in
-      let u : ℕ = homeIn v k in
-      let r : ℕ = fillIn v (homeIn v k) in
-      let room : r < v .size = omega (arith, size-seen l rest h, fill-home l rest h k (f .1 .1 .1 .0), leb-false (l .size) (length (l .records (home l k))) (f .1 .1 .1 .1 .1 .0)) in
+      let below : length (l .records (home l k)) < l .size = leb-false (l .size) (length (l .records (home l k))) (f .1 .1 .1 .1 .1 .0) in
+      let room : fillIn v (homeIn v k) < v .size = omega (arith, size-seen l rest h, fill-home l rest h k (f .1 .1 .1 .0)) in
       rw (← (fill-same v w a some few k), ← (home-alike v w a k))
-      (sound-alike (written v u r (slotOf k x)) (written w u r (slotOf k x))
-      (written-alike v w a u r (home-inside v w a some few k) room (slotOf k x) (slotOf k x) (slot-refl (slotOf k x) (length-args k x (f .1 .0))))
-      (left-sound (teach k x) t rows e))
+      (written-sound k x (fillIn v (homeIn v k)) room (f .1 .0) (left-sound (teach k x) t rows e))
 
   -- the rank of a key that is present
-  inside : (k : ℕ) → ltb 0 (outsOf l (home l k / 4)) ≡ false → rankOf (l .records (home l k)) k < length (l .records (home l k)) → rankIn v (homeIn v k) k < v .size
-  inside k q i = omega (arith, size-seen l rest h, rank-home l rest h k q, h .fits (home l k))
+  inside : (k : ℕ) → ltb 0 (outsOf l (home l k / 4)) ≡ false → leb (length (l .records (home l k))) (rankOf (l .records (home l k)) k) ≡ false
+      → rankIn v (homeIn v k) k < v .size
+  inside k q i = omega (arith, size-seen l rest h, rank-home l rest h k q, h .fits (home l k), leb-false (length (l .records (home l k))) (rankOf (l .records (home l k)) k) i)
 
   correct-sound : (k : ℕ) (x : List ℕ) → Typed (correct k x) → numberIn s (correct k x) ≡ 0 → sound (grantedIn s (correct k x)) ≡ true
   unfolding grantedIn refusals
   correct-sound k x t e =
-      let rows = correct-rows v w a some few (sound (picture l rest)) (sound s) both-sound k x in
+      let rows = correct-rows v w a some few both-sound k x in
       let f = free (correct k x) t rows e in
-      let u : ℕ = homeIn v k in
-      let r : ℕ = rankIn v (homeIn v k) k in
-      let room : r < v .size = inside k (f .1 .1 .1 .0) (leb-false (length (l .records (home l k))) (rankOf (l .records (home l k)) k) (f .1 .1 .1 .1 .0)) in
       rw (← (rank-same v w a some few k), ← (home-alike v w a k))
-      (sound-alike (written v u r (slotOf k x)) (written w u r (slotOf k x))
-      (written-alike v w a u r (home-inside v w a some few k) room (slotOf k x) (slotOf k x) (slot-refl (slotOf k x) (length-args k x (f .1 .0))))
-      (left-sound (correct k x) t rows e))
+      (written-sound k x (rankIn v (homeIn v k) k) (inside k (f .1 .1 .1 .0) (f .1 .1 .1 .1 .0)) (f .1 .0) (left-sound (correct k x) t rows e))
 
   erase-sound : (k : ℕ) → Typed (erase k) → numberIn s (erase k) ≡ 0 → sound (grantedIn s (erase k)) ≡ true
   unfolding grantedIn refusals
   erase-sound k t e =
-      let rows = erase-rows v w a some few (sound (picture l rest)) (sound s) both-sound k in
+      let rows = erase-rows v w a some few both-sound k in
       let f = free (erase k) t rows e in
       let u : ℕ = homeIn v k in
       let r : ℕ = rankIn v (homeIn v k) k in
       let last : ℕ = pred (fillIn v (homeIn v k)) in
-      let present : rankOf (l .records (home l k)) k < length (l .records (home l k)) = leb-false (length (l .records (home l k))) (rankOf (l .records (home l k)) k) (f .1 .1 .1 .0) in
-      let room : r < v .size = inside k (f .1 .1 .0) present in
+      let room : r < v .size = inside k (f .1 .1 .0) (f .1 .1 .1 .0) in
       let end : last < v .size = omega (arith, size-seen l rest h, fill-home l rest h k (f .1 .1 .0), h .fits (home l k)) in
       rw (← (rank-same v w a some few k), ← (fill-same v w a some few k), ← (home-alike v w a k))
       (sound-alike (erased v u r last) (erased w u r last) (erased-alike v w a u r last (home-inside v w a some few k) room end) (left-sound (erase k) t rows e))
@@ -134,12 +133,12 @@ module _ (l : Ledger) (rest : List ℕ) (h : Valid l) (s : List ℕ) (ok : sound
   unfolding grantedIn
   out-sound n t e =
       sound-alike (unitLost v n) (unitLost w n) (lost-alike v w a n)
-      (left-sound (unitOut n) t (out-rows v w a some few (sound (picture l rest)) (sound s) both-sound n) e)
+      (left-sound (unitOut n) t (out-rows v w a some few both-sound n) e)
 
   repair-sound : (g : ℕ) → Typed (repair g) → numberIn s (repair g) ≡ 0 → sound (grantedIn s (repair g)) ≡ true
   unfolding grantedIn refusals
   repair-sound g t e =
-      let rows = repair-rows v w a some few (sound (picture l rest)) (sound s) both-sound g in
+      let rows = repair-rows v w a some few both-sound g in
       let f = free (repair g) t rows e in
       let low : g < 4 = omega (arith, ltb-false 3 g (f .0)) in
       sound-alike (repaired v g) (repaired w g)
@@ -158,7 +157,7 @@ module _ (l : Ledger) (rest : List ℕ) (h : Valid l) (s : List ℕ) (ok : sound
   grow-sound : Typed grow → numberIn s grow ≡ 0 → sound (grantedIn s grow) ≡ true
   unfolding grantedIn refusals
   grow-sound t e =
-      let rows = grow-rows v w a some few (sound (picture l rest)) (sound s) both-sound in
+      let rows = grow-rows v w a some few both-sound in
       let f = free grow t rows e in
       let m : ℕ = unitsIn v in
       let room : m < 16 = omega (arith, units-seen l rest h, leb-false 16 (l .units) (f .1 .0)) in
@@ -168,7 +167,7 @@ module _ (l : Ledger) (rest : List ℕ) (h : Valid l) (s : List ℕ) (ok : sound
   shrink-sound : Typed shrink → numberIn s shrink ≡ 0 → sound (grantedIn s shrink) ≡ true
   unfolding grantedIn refusals
   shrink-sound t e =
-      let rows = shrink-rows v w a some few (sound (picture l rest)) (sound s) both-sound in
+      let rows = shrink-rows v w a some few both-sound in
       let f = free shrink t rows e in
       let m : ℕ = pred (unitsIn v) in
       let two : 2 ≤ unitsIn v = omega (arith, units-seen l rest h, leb-false (l .units) 1 (f .1 .0)) in
@@ -178,7 +177,7 @@ module _ (l : Ledger) (rest : List ℕ) (h : Valid l) (s : List ℕ) (ok : sound
   raise-sound : Typed raise → numberIn s raise ≡ 0 → sound (grantedIn s raise) ≡ true
   unfolding grantedIn
   raise-sound t e =
-      sound-alike (raised v) (raised w) (raised-alike v w a) (left-sound raise t (raise-rows v w a some few (sound (picture l rest)) (sound s) both-sound) e)
+      sound-alike (raised v) (raised w) (raised-alike v w a) (left-sound raise t (raise-rows v w a some few both-sound) e)
 
   -- ---- every call that is granted
 
