@@ -1,15 +1,14 @@
 -- Correct: another body for a record of the key's unit. Assumes nothing.
 use Prim.Native.Nat.{ℕ, _/_, _<_}
-use mathlib.Core.Path.{_≡_, refl, sym, ap, _∙_}
+use mathlib.Core.Path.{_≡_, refl}
 use mathlib.Core.Logic.{_≢_}
 use mathlib.Core.List.{List}
 use mathlib.Core.Bool.{false}
 use native.Mathlib.Omega.{arith}
-use lib.Dec.{eqb, ltb}
+use lib.Dec.{ltb}
 use lib.ListN.{length, getD, set, length-set}
 use lib.Seq.{getD-set-same, getD-set-other}
-use borrow.Author.Tests.{eqb-true, eqb-false, leb-false}
-use Rattle.buffer.specs.RangeLaws.{first-holds}
+use borrow.Author.Tests.{eqb-false, leb-false}
 use Rattle.model.specs.Units.{unitOf}
 use Rattle.model.specs.Numbers.{correct, refusalsIn}
 use Rattle.model.specs.Perform.{reply, givenIn, grantedIn}
@@ -19,6 +18,8 @@ use Rattle.model.specs.history.Answers.{given}
 use Rattle.model.specs.history.Typed.{Typed}
 use Rattle.model.specs.RowLaws.{Free, row}
 use Rattle.model.proofs.history.ledger.Valid.{Good, Valid}
+use Rattle.model.proofs.history.ledger.Seek.{rank-key}
+use Rattle.model.proofs.history.ledger.Changed.{same-key, set-differ}
 use Rattle.model.proofs.history.picture.Seen.{home-seen, home-lt}
 use Rattle.model.proofs.history.calls.Simulation.{Simulated}
 use Rattle.model.proofs.history.calls.OneList.{by-rank, good-args, valid-with, sound-row, out-row, fill-home, rank-home, write-home}
@@ -34,7 +35,8 @@ module _ (l : Ledger) (rest : List ℕ) (h : Valid l) where
     counts = λ f m z. refl;
     bytes = λ f. rw (rank-home l rest h k (quiet f), home-seen l rest h k)
         (write-home l rest h k (quiet f) n y (set rs n y) (omega (arith, inside f, h .fits u)) (good f) (same f) other);
-    valid = λ f. valid-with l u (set rs n y) h (home-lt l rest h k) (omega (arith, length-set rs n y, h .fits u)) (goods f) (keys f) (owns f) (differs f);
+    valid = λ f. valid-with l u (set rs n y) h (home-lt l rest h k) (omega (arith, length-set rs n y, h .fits u)) (goods f) (keys f) (owns f)
+        (set-differ rs (h .differ u) n y (inside f) (rank-key rs k (inside f)));
   }
     where
       u : ℕ
@@ -70,15 +72,9 @@ module _ (l : Ledger) (rest : List ℕ) (h : Valid l) where
       keys : Free (refusals l (correct k x)) → (r : ℕ) → r < length (set rs n y) → getD (set rs n y) r empty .key ≢ 0
       keys f r a = by-rank (λ (z : Rec). z .key ≢ 0) (same f r) (other r) (λ e. eqb-false k 0 (f .0)) (λ e. h .keyed u r (omega (arith, length-set rs n y)))
 
-      hit : Free (refusals l (correct k x)) → getD rs n empty .key ≡ k
-      hit f = eqb-true (getD rs n empty .key) k (first-holds (length rs) (λ r. eqb (getD rs r empty .key) k) (inside f))
-
       -- every rank keeps its key
       kept : Free (refusals l (correct k x)) → (r : ℕ) → getD (set rs n y) r empty .key ≡ getD rs r empty .key
-      kept f r = by-rank (λ (z : Rec). z .key ≡ getD rs r empty .key) (same f r) (other r) (λ e. sym (ap (λ (q : ℕ). getD rs q empty .key) e ∙ hit f)) (λ e. refl)
+      kept f = same-key rs (h .differ u) n y (inside f) (rank-key rs k (inside f))
 
       owns : Free (refusals l (correct k x)) → (r : ℕ) → r < length (set rs n y) → unitOf (l .units) (getD (set rs n y) r empty .key) ≡ u
       owns f r a = rw (kept f r) (h .own u r (omega (arith, length-set rs n y)))
-
-      differs : Free (refusals l (correct k x)) → (r q : ℕ) → r < q → q < length (set rs n y) → getD (set rs n y) r empty .key ≢ getD (set rs n y) q empty .key
-      differs f r q a b = rw (kept f r, kept f q) (h .differ u r q a (omega (arith, length-set rs n y)))

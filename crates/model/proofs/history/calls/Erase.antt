@@ -25,6 +25,8 @@ use Rattle.model.specs.history.Table.{refusals}
 use Rattle.model.specs.history.Answers.{given}
 use Rattle.model.specs.RowLaws.{Free, row}
 use Rattle.model.proofs.history.ledger.Valid.{Good, empty-good, Goods, Valid}
+use Rattle.model.proofs.history.ledger.Seek.{Different}
+use Rattle.model.proofs.history.ledger.Changed.{cut-from, cut-differ}
 use Rattle.model.proofs.history.picture.Records.{empty-bytes}
 use Rattle.model.proofs.history.picture.Picture.{seen}
 use Rattle.model.proofs.history.picture.Seen.{home-seen, home-lt, home-low, slot-seen}
@@ -94,6 +96,10 @@ module _ (l : Ledger) (rest : List ℕ) (h : Valid l) (k : ℕ) where
   abbrev m : Ledger
   m = withRecords l u twice
 
+  different : (w : ℕ) → Different (l .records w)
+  unfolding recordAt
+  different w = h .differ w
+
   module _ (f : Free (refusals l (erase k))) where
     quiet : ltb 0 (outsOf l (home l k / 4)) ≡ false
     unfolding refusals
@@ -118,24 +124,6 @@ module _ (l : Ledger) (rest : List ℕ) (h : Valid l) (k : ℕ) where
     goods : (r : ℕ) → Good (getD twice r empty)
     unfolding recordAt
     goods r = by-rank Good (same r) (other r) (λ p. h .good u e) (λ p. h .good u r)
-
-    keys : (r : ℕ) → r < length twice → getD twice r empty .key ≢ 0
-    unfolding recordAt
-    keys r a = by-rank (λ (z : Rec). z .key ≢ 0) (same r) (other r)
-        (λ p. h .keyed u e (end .0)) (λ p. h .keyed u r (omega (arith, length-set rs n y)))
-
-    owns : (r : ℕ) → r < length twice → unitOf (l .units) (getD twice r empty .key) ≡ u
-    unfolding recordAt
-    owns r a = by-rank (λ (z : Rec). unitOf (l .units) (z .key) ≡ u) (same r) (other r)
-        (λ p. h .own u e (end .0)) (λ p. h .own u r (omega (arith, length-set rs n y)))
-
-    -- before the last place the keys are different
-    differs : (r q : ℕ) → r < q → q < e → getD twice r empty .key ≢ getD twice q empty .key
-    unfolding recordAt
-    differs r q a b = by-rank (λ (z : Rec). z .key ≢ getD twice q empty .key) (same r) (other r)
-        (λ p. rw (other q (omega arith)) (λ d. h .differ u q e b (end .0) (sym d)))
-        (λ p. by-rank (λ (z : Rec). getD rs r empty .key ≢ z .key) (same q) (other q)
-        (λ d. h .differ u r e (omega arith) (end .0)) (λ d. h .differ u r q a (omega (arith, end))))
 
     goods-twice : Goods m
     unfolding recordAt withRecords upd
@@ -164,15 +152,19 @@ module _ (l : Ledger) (rest : List ℕ) (h : Valid l) (k : ℕ) where
     erase-picture = rw (last-slot, ← empty-bytes)
         (bytes-ext _ _ second-write ∙ ap (λ (z : Ledger). picture z rest) (with-twice l u twice (take e twice)))
 
-    cut : (r : ℕ) → r < length (take e twice) → getD (take e twice) r empty ≡ getD twice r empty
-    cut r a = getD-take e twice r empty (omega (arith, length-take e twice))
+    -- what holds of the records of the list holds of those that are left
+    left : (P : Rec → Type 0) → ((r : ℕ) → r < length rs → P (getD rs r empty)) → (r : ℕ) → r < length (take e twice) → P (getD (take e twice) r empty)
+    left P f r a =
+        let b : r < e = omega (arith, length-take e twice) in
+        cut-from rs (different u) n e inside (end .1) P r b (λ _ _. f e (end .0)) (λ _. f r (omega (arith, end)))
 
     erase-valid : Valid (withRecords l u (take e twice))
+    unfolding recordAt
     erase-valid = valid-with l u (take e twice) h (home-lt l rest h k) (omega (arith, length-take e twice, length-set rs n y, h .fits u))
         (λ r. by-rank Good (cut-at twice e r) (cut-other twice e r last) (λ p. empty-good) (λ p. goods r))
-        (λ r a. rw (cut r a) (keys r (omega (arith, length-take e twice))))
-        (λ r a. rw (cut r a) (owns r (omega (arith, length-take e twice))))
-        (λ r q a b. rw (cut r (omega arith), cut q b) (differs r q a (omega (arith, length-take e twice))))
+        (left (λ (z : Rec). z .key ≢ 0) (h .keyed u))
+        (left (λ (z : Rec). unitOf (l .units) (z .key) ≡ u) (h .own u))
+        (cut-differ rs (different u) n e inside (end .1))
 
   pub erase-simulated : Simulated l rest (erase k)
   unfolding reply refusalsIn refusals granted grantedIn given givenIn

@@ -5,12 +5,11 @@ use mathlib.Core.Logic.{_≢_}
 use mathlib.Core.List.{List, [], _∷_, _++_}
 use mathlib.Core.Bool.{Bool, false}
 use native.Mathlib.Omega.{arith}
-use lib.Dec.{eqb, ltb}
+use lib.Dec.{ltb}
 use lib.ListN.{length, getD, length-append, List·getD-eq-default, List·getD-append}
 use lib.Seq.{getD-at}
 use borrow.Author.Tests.{eqb-false, ltb-true, ltb-false, leb-false}
 use Rattle.buffer.specs.ChoiceLaws.{by-test}
-use Rattle.buffer.specs.RangeLaws.{first-misses}
 use Rattle.model.specs.Units.{unitOf}
 use Rattle.model.specs.Numbers.{teach, refusalsIn}
 use Rattle.model.specs.Perform.{reply, givenIn, grantedIn}
@@ -20,6 +19,7 @@ use Rattle.model.specs.history.Answers.{given}
 use Rattle.model.specs.history.Typed.{Typed}
 use Rattle.model.specs.RowLaws.{Free, row}
 use Rattle.model.proofs.history.ledger.Valid.{Good, Valid}
+use Rattle.model.proofs.history.ledger.Seek.{Without, rank-without}
 use Rattle.model.proofs.history.picture.Seen.{size-seen, home-seen, home-lt}
 use Rattle.model.proofs.history.calls.Simulation.{Simulated}
 use Rattle.model.proofs.history.calls.OneList.{by-rank, good-args, valid-with, sound-row, out-row, fill-home, rank-home, write-home}
@@ -68,10 +68,8 @@ module _ (l : Ledger) (rest : List ℕ) (h : Valid l) where
       room f = leb-false (l .size) (length rs) (f .1 .1 .1 .1 .1 .0)
 
       -- no record of the list has the key
-      new : Free (refusals l (teach k x)) → (r : ℕ) → r < length rs → getD rs r empty .key ≢ k
-      new f r a =
-          eqb-false (getD rs r empty .key) k
-          (first-misses (length rs) (λ r. eqb (getD rs r empty .key) k) r (omega (arith, ltb-false (rankOf rs k) (length rs) (f .1 .1 .1 .1 .0))))
+      new : Free (refusals l (teach k x)) → Without rs k
+      new f = rank-without rs k (ltb-false (rankOf rs k) (length rs) (f .1 .1 .1 .1 .0))
 
       goods : Free (refusals l (teach k x)) → (r : ℕ) → Good (getD (rs ++ (y ∷ [])) r empty)
       goods f r = by-rank Good (snoc-at rs y r) (snoc-other rs y r) (λ e. good f) (λ n. h .good u r)

@@ -24,9 +24,9 @@ use Rattle.model.specs.history.Answers.{after}
 use Rattle.model.specs.history.Runs.{taughtBy}
 use Rattle.model.specs.RowLaws.{Free}
 use Rattle.model.proofs.history.ledger.Granted.{granted-free, granted-after, refused-after}
+use Rattle.model.proofs.history.ledger.Seek.{seek, Different, Without, orElse, or-none, none-or, seek-append, seek-filter, seek-miss, seek-hit, rank-key, rank-without}
+use Rattle.model.proofs.history.ledger.Changed.{set-seek, set-other, cut, cut-seek, cut-other}
 use Rattle.model.proofs.history.ledger.Split.{other-key, split-key, new-key, old-key}
-use Rattle.model.proofs.history.taught.Seek.{seek, Different, Without, orElse, or-none, none-or, seek-append, seek-filter, seek-miss, seek-hit, rank-key, rank-without}
-use Rattle.model.proofs.history.taught.Changed.{set-seek, set-other, cut, cut-seek, cut-other}
 
 -- a ledger whose lists are in order: keys stand in their own unit, each once
 pub record Ordered (l : Ledger) : Type 0 where

@@ -18,7 +18,7 @@ use Rattle.model.specs.history.Ledger.{Rec, empty, Ledger, opened, home,
 use Rattle.model.specs.history.Table.{refusals, number}
 use Rattle.model.specs.history.Answers.{bodyOf, given, answer, after, final}
 use Rattle.model.specs.history.Runs.{taughtBy, asTaught}
-use Rattle.model.proofs.history.taught.Seek.{seek, seek-rank}
+use Rattle.model.proofs.history.ledger.Seek.{seek, seek-rank}
 use Rattle.model.proofs.history.taught.Recorded.{Ordered, recorded, different, recorded-after}
 
 -- what a list of calls says of a key, by the ledger

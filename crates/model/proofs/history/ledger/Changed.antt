@@ -12,7 +12,7 @@ use lib.Seq.{getD-set-same, getD-set-other, getD-take}
 use borrow.Author.Tests.{eqb-true, eqb-false, ltb-true, ltb-false}
 use Rattle.buffer.specs.ChoiceLaws.{by-test}
 use Rattle.model.specs.history.Ledger.{Rec, empty}
-use Rattle.model.proofs.history.taught.Seek.{seek, Different, Without, seek-miss, seek-hit, by-seek}
+use Rattle.model.proofs.history.ledger.Seek.{seek, Different, Without, seek-miss, seek-hit, by-seek}
 
 -- a key that two lists both have with one body, or both have not
 same-seek : (xs ys : List Rec) (k : ℕ) → Different xs → Different ys
@@ -31,7 +31,7 @@ module _ (rs : List Rec) (d : Different rs) (n : ℕ) (y : Rec) (inside : n < le
   here : getD (set rs n y) n empty ≡ y
   here = getD-set-same rs n y empty inside
 
-  same-key : (r : ℕ) → getD (set rs n y) r empty .key ≡ getD rs r empty .key
+  pub same-key : (r : ℕ) → getD (set rs n y) r empty .key ≡ getD rs r empty .key
   same-key r =
       by-test
       (λ t. getD (set rs n y) r empty .key ≡ getD rs r empty .key)
@@ -43,7 +43,7 @@ module _ (rs : List Rec) (d : Different rs) (n : ℕ) (y : Rec) (inside : n < le
       ∙ ap (λ (i : ℕ). getD rs i empty .key) (sym (eqb-true r n e)))
       (λ e. ap (λ (z : Rec). z .key) (getD-set-other rs n r y empty (eqb-false r n e)))
 
-  set-differ : Different (set rs n y)
+  pub set-differ : Different (set rs n y)
   set-differ r q a b = rw (same-key r, same-key q) (d r q a (omega (arith, length-set rs n y)))
 
   pub set-seek : seek (set rs n y) (y .key) ≡ some (y .body)
@@ -62,7 +62,7 @@ abbrev pub cut : List Rec → ℕ → ℕ → List Rec
 cut rs n e = take e (set rs n (getD rs e empty))
 
 module _ (rs : List Rec) (d : Different rs) (n e : ℕ) (inside : n < length rs) (end : length rs ≡ suc e) where
-  cut-length : length (cut rs n e) ≡ e
+  pub cut-length : length (cut rs n e) ≡ e
   cut-length = omega (arith, length-take e (set rs n (getD rs e empty)), length-set rs n (getD rs e empty))
 
   cut-here : n < e → getD (cut rs n e) n empty ≡ getD rs e empty
@@ -72,7 +72,7 @@ module _ (rs : List Rec) (d : Different rs) (n e : ℕ) (inside : n < length rs)
   cut-there r a b = getD-take e (set rs n (getD rs e empty)) r empty a ∙ getD-set-other rs n r (getD rs e empty) empty b
 
   -- where a record of the new list stood
-  cut-from : (P : Rec → Type 0) (r : ℕ) → r < e → (r ≡ n → n < e → P (getD rs e empty)) → ((r ≡ n → ⊥) → P (getD rs r empty))
+  pub cut-from : (P : Rec → Type 0) (r : ℕ) → r < e → (r ≡ n → n < e → P (getD rs e empty)) → ((r ≡ n → ⊥) → P (getD rs r empty))
       → P (getD (cut rs n e) r empty)
   cut-from P r a p q =
       by-test
@@ -84,7 +84,7 @@ module _ (rs : List Rec) (d : Different rs) (n e : ℕ) (inside : n < length rs)
       subst P (sym (ap (λ (i : ℕ). getD (cut rs n e) i empty) m ∙ cut-here b)) (p m b))
       (λ f. subst P (sym (cut-there r a (eqb-false r n f))) (q (eqb-false r n f)))
 
-  cut-differ : Different (cut rs n e)
+  pub cut-differ : Different (cut rs n e)
   cut-differ r q a b =
       let qe : q < e = omega (arith, cut-length) in
       cut-from (λ (x : Rec). x .key ≢ getD (cut rs n e) q empty .key) r (omega arith)
