@@ -9,6 +9,7 @@ pub mod UnitTableLaws
 pub mod LayoutLaws
 pub mod StoreLaws
 pub mod Reads
+pub mod ReadLaws
 pub mod Sound
 pub mod SoundLaws
 pub mod SoundSays

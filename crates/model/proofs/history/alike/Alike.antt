@@ -1,7 +1,7 @@
 -- Two stores are alike where they differ in the bodies of records and in parity bytes alone: header, states, keys and key lists are the same, and so
 -- are slots without a record and check units that are not in service. Then what the calls read of states and keys is the same, and the parts that
 -- their bytes show are alike again. Assumes nothing.
-use Prim.Native.Nat.{ℕ, _+_, _*_, _-_, _/_, _%_, _≤_, _<_}
+use Prim.Native.Nat.{ℕ, _+_, _*_, _-_, _/_, _%_, _<_}
 use mathlib.Core.Path.{_≡_, refl, sym, ap, ap₂, _∙_}
 use mathlib.Core.List.{List}
 use mathlib.Core.Bool.{Bool, true, false}
@@ -13,7 +13,7 @@ use borrow.Author.Tests.{ltb-true, ltb-false}
 use Rattle.buffer.specs.Choice.{pick}
 use Rattle.buffer.specs.ChoiceLaws.{pick-ext}
 use Rattle.buffer.specs.Range.{first}
-use Rattle.buffer.specs.RangeLaws.{first-le, first-ext, count-ext}
+use Rattle.buffer.specs.RangeLaws.{first-ext, count-ext}
 use Rattle.buffer.specs.Bytes.{byte, zeros, part}
 use Rattle.buffer.specs.ByteLaws.{length-zeros}
 use Rattle.buffer.specs.SpliceLaws.{part-part}
@@ -24,6 +24,7 @@ use Rattle.model.specs.Layout.{Store, bytes, view, unitsIn, levelIn, key
 use Rattle.model.specs.LayoutLaws.{Shaped, Same, view-bytes, key-first}
 use Rattle.model.specs.Reads.{homeIn, fillIn, rankIn, stateIn, outsIn, beyondIn, firstCheck, listedKey, listedFill}
 use Rattle.model.specs.Sound.{checksIn}
+use Rattle.model.specs.ReadLaws.{fill-le}
 
 -- two slots with one key; an empty slot is the same
 pub record LikeSlot (x y : List ℕ) : Type 0 where
@@ -178,15 +179,11 @@ module _ (v w : Store) (a : Alike v w) where
       first-ext (v .size) (λ r. eqb (keyOf (v .slot u r)) 0) (λ r. eqb (keyOf (w .slot u r)) 0) (λ r m. ap (λ (n : ℕ). eqb n 0) (key-like (a .slot u r l m)))
       ∙ ap (λ (n : ℕ). first n (λ r. eqb (keyOf (w .slot u r)) 0)) (a .size)
 
-  pub fill-le : (u : ℕ) → fillIn v u ≤ v .size
-  unfolding fillIn
-  fill-le u = first-le (v .size) (λ r. eqb (keyOf (v .slot u r)) 0)
-
   pub rank-alike : (u : ℕ) → u < 16 → (k : ℕ) → rankIn v u k ≡ rankIn w u k
   unfolding rankIn
   rank-alike u l k =
       first-ext (fillIn v u) (λ r. eqb (keyOf (v .slot u r)) k) (λ r. eqb (keyOf (w .slot u r)) k)
-      (λ r m. ap (λ (n : ℕ). eqb n k) (key-like (a .slot u r l (omega (arith, fill-le u)))))
+      (λ r m. ap (λ (n : ℕ). eqb n k) (key-like (a .slot u r l (omega (arith, fill-le v u)))))
       ∙ ap (λ (n : ℕ). first n (λ r. eqb (keyOf (w .slot u r)) k)) (fill-alike u l)
 
   -- the first check unit in service of a group that has one

@@ -19,7 +19,8 @@ use Rattle.model.specs.Layout.{Store, levelIn, keyOf}
 use Rattle.model.specs.LayoutLaws.{Shaped}
 use Rattle.model.specs.Reads.{fillIn}
 use Rattle.model.specs.Changes.{filterBy, rows, recordsIn, dealt, grownState, grown, merged, shrunkState, shrunk}
-use Rattle.model.proofs.history.alike.Alike.{LikeSlot, LikeCheck, Alike, pick-both, no-slot, no-check, key-like, level-alike, fill-alike, fill-le}
+use Rattle.model.specs.ReadLaws.{fill-le}
+use Rattle.model.proofs.history.alike.Alike.{LikeSlot, LikeCheck, Alike, pick-both, no-slot, no-check, key-like, level-alike, fill-alike}
 use Rattle.model.proofs.history.alike.Repaired.{anew-like}
 
 -- ---- lists of alike slots
@@ -61,7 +62,7 @@ module _ (p : ℕ → Bool) where
 module _ (v w : Store) (a : Alike v w) (m : ℕ) (hm : m < 16) (hn : splitPointer m < 16) where
   records-alike : (u : ℕ) → u < 16 → Pairs (recordsIn v u) (recordsIn w u)
   unfolding recordsIn
-  records-alike u l = rw (← (fill-alike v w a u l)) (pairs-rows (fillIn v u) (v .slot u) (w .slot u) (λ r q. a .slot u r l (omega (arith, fill-le v w a u))))
+  records-alike u l = rw (← (fill-alike v w a u l)) (pairs-rows (fillIn v u) (v .slot u) (w .slot u) (λ r q. a .slot u r l (omega (arith, fill-le v u))))
 
   -- another number of units in the header
   units-front : (k : ℕ) → set (v .front) 6 k ≡ set (w .front) 6 k

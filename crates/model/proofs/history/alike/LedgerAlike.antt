@@ -8,12 +8,12 @@ use native.Mathlib.Omega.{arith}
 use lib.Dec.{eqb, ltb}
 use lib.ListN.{length, take, drop, getD}
 use lib.Seq.{take-at, take-add, drop-cons, drop-drop, length-take-le, getD-take}
-use borrow.Author.Tests.{eqb-true, eqb-false, ltb-true, ltb-false}
+use borrow.Author.Tests.{eqb-true, ltb-true, ltb-false}
 use Rattle.buffer.specs.Choice.{pick}
 use Rattle.buffer.specs.ChoiceLaws.{by-test, pick-true, pick-false}
 use Rattle.buffer.specs.TestLaws.{not-both, and-true, and-first, and-second, and-false-first}
 use Rattle.buffer.specs.Range.{first}
-use Rattle.buffer.specs.RangeLaws.{all-fails, first-ext, first-misses}
+use Rattle.buffer.specs.RangeLaws.{all-fails}
 use Rattle.buffer.specs.Bytes.{byte, bytes32, zeros, part}
 use Rattle.buffer.specs.ByteLaws.{bytes32-be32, be32-zeros}
 use Rattle.buffer.specs.SpliceLaws.{length-part, part-whole}
@@ -24,18 +24,20 @@ use Rattle.group.specs.Parity.{parity}
 use Rattle.group.specs.CheckRecordLaws.{length-key}
 use Rattle.model.specs.Layout.{Store, view, storeBytes, slotAt, checkAt, unitsIn, levelIn, keyOf, frontOf}
 use Rattle.model.specs.LayoutLaws.{Shaped, view-shaped, key-first}
-use Rattle.model.specs.Reads.{fillIn, firstCheck, listedKey, listedFill}
+use Rattle.model.specs.Reads.{fillIn, listedKey, listedFill}
 use Rattle.model.specs.Sound.{keysKnown, sound}
 use Rattle.model.specs.history.Ledger.{Rec, Ledger, empty, recordAt, state}
 use Rattle.model.specs.history.Picture.{recordBytes, pictureSlot, checkOver, pictureCheck, image}
 use Rattle.model.specs.history.Typed.{Bytes}
 use Rattle.model.specs.SoundSays.{Ranged, ranged, Stateful, data-states, zero-slot, zero-check, listed-past, lists}
+use Rattle.model.specs.ReadLaws.{fill-key, own-bytes, own-key, own-fill}
 use Rattle.model.proofs.history.ledger.Valid.{Valid}
 use Rattle.model.proofs.history.picture.Records.{take-record, empty-bytes, length-keys}
 use Rattle.model.proofs.history.picture.Picture.{image-shaped, slot-on, slot-off, check-on, check-off}
 use Rattle.model.proofs.history.picture.Seen.{past}
 use Rattle.model.proofs.history.alike.Alike.{LikeSlot, LikeCheck, Alike, slot-refl, listed-first}
-use Rattle.model.proofs.history.alike.LedgerOf.{keyRecord, listedRecords, readable, ledgerOf, bytes-part, length-listed, listed-record, dstate-shown, cstate-shown, ledger-valid}
+use Rattle.model.proofs.history.alike.LedgerOf.{keyRecord, listedRecords, readable, ledgerOf, bytes-part, length-listed, listed-record, dstate-shown}
+use Rattle.model.proofs.history.alike.LedgerOf.{cstate-shown, ledger-valid}
 
 -- ---- the header
 
@@ -131,17 +133,6 @@ module _ (s : List ℕ) (b : Bytes s) (h : sound s ≡ true) where
       (λ q. ap (λ (x : Rec). x .key) (record-listed u r e (ltb-true r (listedFill v u) q)))
       (λ q. ap (λ (x : Rec). x .key) (past l u r (omega (arith, records-long u e, ltb-false r (listedFill v u) q))) ∙ sym (listed-past s h u a (and-second (ltb u (unitsIn v)) (keysKnown v u) e) r m q))
 
-  -- the keys of a unit that is not out are its own
-  own-key : (u r : ℕ) → eqb (v .dstate u) 2 ≡ false → listedKey v u r ≡ take keyBytes (v .slot u r)
-  unfolding listedKey
-  own-key u r e = pick-false e (part (keyBytes * (u % 4)) keyBytes (v .check (firstCheck v (u / 4)) r)) (take keyBytes (v .slot u r))
-
-  own-fill : (u : ℕ) → eqb (v .dstate u) 2 ≡ false → listedFill v u ≡ fillIn v u
-  unfolding listedFill fillIn
-  own-fill u e =
-      first-ext (v .size) (λ r. eqb (keyOf (listedKey v u r)) 0) (λ r. eqb (keyOf (v .slot u r)) 0)
-      (λ r m. ap (λ (n : ℕ). eqb n 0) (ap keyOf (own-key u r e) ∙ key-first (v .slot u r)))
-
   -- ---- a unit in service
 
   module _ (u : ℕ) (hu : u < 16) (on : eqb (v .dstate u) 1 ≡ true) where
@@ -160,19 +151,15 @@ module _ (s : List ℕ) (b : Bytes s) (h : sound s ≡ true) where
 
     empty-shown : (r : ℕ) → ltb r (fillIn v u) ≡ false → pictureSlot l u r ≡ zeros slotBytes
     empty-shown r e =
-        shown r ∙ ap recordBytes (past l u r (omega (arith, records-long u read, own-fill u not-out, ltb-false r (fillIn v u) e))) ∙ empty-bytes
+        shown r ∙ ap recordBytes (past l u r (omega (arith, records-long u read, own-fill v u not-out, ltb-false r (fillIn v u) e))) ∙ empty-bytes
 
     -- the key of a record
     taken : (r : ℕ) → r < v .size → ltb r (fillIn v u) ≡ true → take keyBytes (pictureSlot l u r) ≡ take keyBytes (v .slot u r)
     taken r m e =
         ap (take keyBytes) (shown r)
         ∙ take-record (recordAt l u r)
-        ∙ ap bytes32 (ap (λ (x : Rec). x .key) (record-listed u r read (omega (arith, own-fill u not-out, ltb-true r (fillIn v u) e))) ∙ ap keyOf (own-key u r not-out))
+        ∙ ap bytes32 (ap (λ (x : Rec). x .key) (record-listed u r read (omega (arith, own-fill v u not-out, ltb-true r (fillIn v u) e))) ∙ ap keyOf (own-bytes v u not-out r))
         ∙ spelled-key (take keyBytes (v .slot u r)) (length-key bodyBytes (v .slot u r) (stored .slot u r hu m)) (unfold part in bytes-part 0 keyBytes (v .slot u r) (slot-bytes u r))
-
-    some-key : (r : ℕ) → ltb r (fillIn v u) ≡ true → keyOf (v .slot u r) ≡ 0 → ⊥
-    unfolding fillIn
-    some-key r e = eqb-false (keyOf (v .slot u r)) 0 (first-misses (v .size) (λ r. eqb (keyOf (v .slot u r)) 0) r (ltb-true r (fillIn v u) e))
 
     record-like : (r : ℕ) → r < v .size → ltb r (fillIn v u) ≡ true → LikeSlot (pictureSlot l u r) (v .slot u r)
     unfolding image ledgerOf
@@ -180,7 +167,7 @@ module _ (s : List ℕ) (b : Bytes s) (h : sound s ≡ true) where
       key = taken r m e;
       left = pictured .slot u r hu m;
       right = stored .slot u r hu m;
-      keyless = λ z. absurd (some-key r e (sym (key-first (v .slot u r)) ∙ ap keyOf (sym (taken r m e)) ∙ key-first (pictureSlot l u r) ∙ z));
+      keyless = λ z. absurd (fill-key v u r (ltb-true r (fillIn v u) e) (sym (key-first (v .slot u r)) ∙ ap keyOf (sym (taken r m e)) ∙ key-first (pictureSlot l u r) ∙ z));
     }
 
   -- ---- every slot
@@ -223,7 +210,7 @@ module _ (s : List ℕ) (b : Bytes s) (h : sound s ≡ true) where
         let d : v .dstate u ≡ 0 = eqb-true (v .dstate u) 0 (sym (pick-false e (eqb (v .dstate u) 1 || eqb (v .dstate u) 2) (eqb (v .dstate u) 0)) ∙ data-states s h u (omega arith)) in
         let z : v .slot u r ≡ zeros slotBytes = zero-slot s h u r (omega arith) hr (and-false-first (ap (λ (n : ℕ). eqb n 1) d) (ltb r (fillIn v u))) in
         ap (λ (x : Rec). x .key) (past l u r (omega (arith, ap length (valid .none u (beyond u e)))))
-        ∙ sym (ap keyOf (own-key u r (ap (λ (n : ℕ). eqb n 2) d)) ∙ key-first (v .slot u r) ∙ ap keyOf z ∙ be32-zeros slotBytes 0)
+        ∙ sym (own-key v u (ap (λ (n : ℕ). eqb n 2) d) r ∙ ap keyOf z ∙ be32-zeros slotBytes 0)
       where
         beyond : (u : ℕ) → ltb u (unitsIn v) ≡ false → l .units ≤ u
         beyond u e = unfold ledgerOf in ltb-false u (unitsIn v) e

@@ -14,7 +14,7 @@ use Rattle.buffer.specs.Choice.{pick}
 use Rattle.buffer.specs.ChoiceLaws.{by-test, by-pick, pick-true, pick-false}
 use Rattle.buffer.specs.TestLaws.{not-both, and-first, and-second, and-false-first}
 use Rattle.buffer.specs.Loops.{entries}
-use Rattle.buffer.specs.RangeLaws.{length-entries, getD-entries, first-le, first-misses}
+use Rattle.buffer.specs.RangeLaws.{length-entries, getD-entries}
 use Rattle.buffer.specs.Bytes.{byte, zeros, part}
 use Rattle.buffer.specs.ByteLaws.{byte-past, byte-part, be32-lt}
 use Rattle.group.specs.Widths.{keyBytes, bodyBytes, slotBytes, checkBytes}
@@ -26,6 +26,7 @@ use Rattle.model.specs.Sound.{checksIn, checksAllowed, keysKnown, sound}
 use Rattle.model.specs.history.Ledger.{Rec, Ledger, empty, recordAt, placed, state}
 use Rattle.model.specs.history.Typed.{Bytes}
 use Rattle.model.specs.SoundSays.{ranged, units-some, units-few, Stateful, data-states, group-number, check-states, listed-own, listed-differ}
+use Rattle.model.specs.ReadLaws.{listed-le, listed-some}
 use Rattle.model.proofs.history.ledger.Valid.{Good, Valid}
 use Rattle.model.proofs.history.ledger.States.{placed-unit, placed-place}
 
@@ -98,14 +99,6 @@ module _ (v : Store) (u : ℕ) where
   -- the record at a rank that is listed
   pub listed-record : (r : ℕ) → r < listedFill v u → getD (listedRecords v u) r empty ≡ keyRecord (keyOf (listedKey v u r))
   listed-record r l = listed-at r ∙ ap keyRecord (getD-entries (listedFill v u) (λ q. keyOf (listedKey v u q)) r 0 l)
-
-  fill-most : listedFill v u ≤ v .size
-  unfolding listedFill
-  fill-most = first-le (v .size) (λ r. eqb (keyOf (listedKey v u r)) 0)
-
-  listed-some : (r : ℕ) → r < listedFill v u → keyOf (listedKey v u r) ≢ 0
-  unfolding listedFill
-  listed-some r l = eqb-false (keyOf (listedKey v u r)) 0 (first-misses (v .size) (λ r. eqb (keyOf (listedKey v u r)) 0) r l)
 
 -- ---- the ledger of a sound store
 
@@ -242,17 +235,17 @@ module _ (s : List ℕ) (b : Bytes s) (h : sound s ≡ true) where
     least = unfold view in ranged s h .least;
     most = unfold view in ranged s h .most;
     topped = level-most;
-    fits = λ u. by-records (λ (xs : List Rec). length xs ≤ v .size) u (λ _. omega (arith, length-listed v u, fill-most v u)) (omega arith);
+    fits = λ u. by-records (λ (xs : List Rec). length xs ≤ v .size) u (λ _. omega (arith, length-listed v u, listed-le v u)) (omega arith);
     good = λ u r. by-records (λ (xs : List Rec). Good (getD xs r empty)) u (λ _. good-listed u r) (good-none r);
     keyed = λ u r. by-records (λ (xs : List Rec). r < length xs → getD xs r empty .key ≢ 0) u
         (λ _ a. rw (key-at u r a) (listed-some v u r (at-listed u r a))) (λ a. absurd (not-suc-le-zero a));
     own = λ u r. by-records (λ (xs : List Rec). r < length xs → unitOf (unitsIn v) (getD xs r empty .key) ≡ u) u
-        (λ e a. rw (key-at u r a) (listed-own s h u (unit-low u e) (known u e) r (omega (arith, at-listed u r a, fill-most v u)) (lt-ltb r (listedFill v u) (at-listed u r a))))
+        (λ e a. rw (key-at u r a) (listed-own s h u (unit-low u e) (known u e) r (omega (arith, at-listed u r a, listed-le v u)) (lt-ltb r (listedFill v u) (at-listed u r a))))
         (λ a. absurd (not-suc-le-zero a));
     differ = λ u r q i. by-records (λ (xs : List Rec). q < length xs → getD xs r empty .key ≢ getD xs q empty .key) u
         (λ e a. rw (key-at u r (omega arith), key-at u q a)
         (eqb-false (keyOf (listedKey v u r)) (keyOf (listedKey v u q)) (not-true (eqb (keyOf (listedKey v u r)) (keyOf (listedKey v u q)))
-        (listed-differ s h u (unit-low u e) (known u e) r q i (omega (arith, at-listed u q a, fill-most v u)) (lt-ltb q (listedFill v u) (at-listed u q a))))))
+        (listed-differ s h u (unit-low u e) (known u e) r q i (omega (arith, at-listed u q a, listed-le v u)) (lt-ltb q (listedFill v u) (at-listed u q a))))))
         (λ a. absurd (not-suc-le-zero a));
     none = λ u a. pick-false (and-false-first (le-ltb u (unitsIn v) a) (keysKnown v u)) (listedRecords v u) [];
     capped = λ g. by-pick (λ (n : ℕ). n ≤ levelIn v) (ltb g 4) (checksIn v g) 0 (λ e. checks-capped g (ltb-true g 4 e)) (λ e. omega arith);

@@ -28,7 +28,8 @@ use Rattle.model.specs.Layout.{Store, keyOf}
 use Rattle.model.specs.LayoutLaws.{Shaped}
 use Rattle.model.specs.Reads.{beyondIn, servesIn, holds, firstCheck, listedKey, wholeSlot}
 use Rattle.model.specs.Changes.{repaired}
-use Rattle.model.proofs.history.alike.Alike.{LikeSlot, LikeCheck, Alike, pick-both, no-slot, left-shaped, right-shaped, beyond-alike, Served, first-check-low, listed-alike}
+use Rattle.model.proofs.history.alike.Alike.{LikeSlot, LikeCheck, Alike, pick-both, no-slot, left-shaped, right-shaped, beyond-alike, Served}
+use Rattle.model.proofs.history.alike.Alike.{first-check-low, listed-alike}
 
 -- check records made anew from alike slots
 pub anew-like : (j : ℕ) (f g : ℕ → List ℕ) → ((p : ℕ) → p < 4 → LikeSlot (f p) (g p)) → LikeCheck (checkRecord j f) (checkRecord j g)

@@ -22,7 +22,8 @@ use Rattle.model.specs.Reads.{fillIn, listedKey, listedFill}
 use Rattle.model.specs.Sound.{same, ranges, unitsPlaced, checksIn, groupsPlaced, zeroed, keysKnown, keysPlaced, listsAgree, sound}
 use Rattle.model.specs.SoundLaws.{same-true}
 use Rattle.model.specs.SoundSays.{slot-test, check-test, Zeroed, zeroed-says, clauses}
-use Rattle.model.proofs.history.alike.Alike.{Alike, left-shaped, right-shaped, seen-alike, units-alike, level-alike, check-states, checks-alike, fill-alike, Served, listed-like, listed-alike, listed-fill-alike}
+use Rattle.model.proofs.history.alike.Alike.{Alike, left-shaped, right-shaped, seen-alike, units-alike, level-alike, check-states, checks-alike}
+use Rattle.model.proofs.history.alike.Alike.{fill-alike, Served, listed-like, listed-alike, listed-fill-alike}
 
 -- ---- tests
 

@@ -1,7 +1,7 @@
 -- Read in place: the part of the store that holds the body, empty exactly where read, given a buffer that fits, is refused or the unit is out.
 -- Assumes nothing.
 use Prim.Native.Nat.{ℕ, _+_, _<_}
-use mathlib.Core.Path.{_≡_, refl, sym, ap, _∙_}
+use mathlib.Core.Path.{_≡_, refl, ap, _∙_}
 use mathlib.Core.List.{List, []}
 use mathlib.Core.Bool.{Bool, true, false, not, _&&_}
 use native.Mathlib.Omega.{arith}
@@ -10,30 +10,25 @@ use lib.ListN.{length}
 use lib.Seq.{take-all}
 use borrow.Author.Tests.{not-true}
 use Rattle.buffer.specs.Choice.{pick}
-use Rattle.buffer.specs.ChoiceLaws.{by-test, pick-true, pick-false}
+use Rattle.buffer.specs.ChoiceLaws.{by-pick}
 use Rattle.buffer.specs.TestLaws.{and-first, and-second}
 use Rattle.buffer.specs.Bytes.{zeros, part}
 use Rattle.group.specs.Widths.{keyBytes, bodyBytes}
 use Rattle.model.specs.Layout.{Store, view, slotAt}
 use Rattle.model.specs.Reads.{homeIn, rankIn}
 use Rattle.model.specs.Numbers.{read, readInPlace, refusalsIn, numberIn}
-use Rattle.model.specs.Perform.{Place, reply, placeIn, givenIn, grantedIn}
+use Rattle.model.specs.Perform.{reply, givenIn, grantedIn}
 use Rattle.model.specs.history.Ledger.{Ledger, home, recordAt, rankOf, isOut, state, granted}
 use Rattle.model.specs.history.Picture.{picture}
 use Rattle.model.specs.history.Table.{refusals, number}
 use Rattle.model.specs.history.Answers.{bodyOf, given}
-use Rattle.model.proofs.Refusals.{part-none}
-use Rattle.model.proofs.InPlace.{slot-body}
+use Rattle.model.proofs.InPlace.{slot-body, place-given, place-none}
 use Rattle.model.proofs.history.ledger.Valid.{Valid}
 use Rattle.model.proofs.history.ledger.States.{state-in}
 use Rattle.model.proofs.history.picture.Records.{drop-record}
 use Rattle.model.proofs.history.picture.Seen.{there, home-seen, home-lt, home-low, dstate-out, rank-seen, slot-seen}
 use Rattle.model.proofs.history.calls.Simulation.{Simulated, number-agrees}
 use Rattle.model.proofs.history.calls.Read.{found, read-simulated}
-
--- the part at a place that is picked
-abbrev partAt : List ℕ → Place → List ℕ
-partAt x p = part (p .at) (p .size) x
 
 module _ (l : Ledger) (rest : List ℕ) (h : Valid l) (k : ℕ) where
   abbrev s : List ℕ
@@ -68,15 +63,11 @@ module _ (l : Ledger) (rest : List ℕ) (h : Valid l) (k : ℕ) where
       ∙ ap (λ (x : List ℕ). part 0 bodyBytes x) (drop-record (recordAt l u r))
       ∙ take-all bodyBytes (recordAt l u r .body) (omega (arith, h .good u r .body .size)))
 
-  part-seen : partAt s (placeIn s k) ≡ pick given-in (bodyOf l k) []
-  unfolding placeIn
-  part-seen = rw test-seen
-      (by-test (λ (t : Bool). given-in ≡ t
-      → partAt s (pick t (record { at = slotAt (v .size) (homeIn v k) (rankIn v (homeIn v k) k) + keyBytes; size = bodyBytes }) (record { at = 0; size = 0 })) ≡ pick t (bodyOf l k) [])
-      given-in
-      (λ _ e. ap (partAt s) (pick-true refl _ _) ∙ body-there e ∙ sym (pick-true refl (bodyOf l k) []))
-      (λ _ e. ap (partAt s) (pick-false refl _ _) ∙ part-none s ∙ sym (pick-false refl (bodyOf l k) []))
-      refl)
+  part-seen : givenIn s (readInPlace k) ≡ pick given-in (bodyOf l k) []
+  part-seen =
+      by-pick (λ (x : List ℕ). givenIn s (readInPlace k) ≡ x) given-in (bodyOf l k) []
+      (λ e. place-given s k (test-seen ∙ e) ∙ body-there e)
+      (λ e. place-none s k (test-seen ∙ e))
 
   pub readInPlace-simulated : Simulated l rest (readInPlace k)
   unfolding reply refusalsIn refusals granted grantedIn given givenIn

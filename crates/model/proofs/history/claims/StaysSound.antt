@@ -37,7 +37,8 @@ use Rattle.model.proofs.history.calls.Simulation.{Simulated, number-agr
 use Rattle.model.proofs.history.calls.OneList.{fill-home, rank-home}
 use Rattle.model.proofs.history.alike.Alike.{Alike, slot-refl, seen-alike, units-alike, home-alike}
 use Rattle.model.proofs.history.alike.Sound.{sound-alike}
-use Rattle.model.proofs.history.alike.Numbers.{home-inside, fill-same, rank-same, split-inside, split-before, teach-rows, correct-rows, erase-rows, out-rows, repair-rows, grow-rows, shrink-rows, raise-rows}
+use Rattle.model.proofs.history.alike.Numbers.{home-inside, fill-same, rank-same, split-inside, split-before, teach-rows, correct-rows, erase-rows}
+use Rattle.model.proofs.history.alike.Numbers.{out-rows, repair-rows, grow-rows, shrink-rows, raise-rows}
 use Rattle.model.proofs.history.alike.Written.{written-alike, erased-alike, lost-alike, raised-alike}
 use Rattle.model.proofs.history.alike.Repaired.{repaired-alike}
 use Rattle.model.proofs.history.alike.Dealt.{grown-alike, shrunk-alike}

@@ -24,7 +24,8 @@ use Rattle.model.specs.history.Answers.{after}
 use Rattle.model.specs.history.Runs.{taughtBy}
 use Rattle.model.specs.RowLaws.{Free}
 use Rattle.model.proofs.history.ledger.Granted.{granted-free, granted-after, refused-after}
-use Rattle.model.proofs.history.ledger.Seek.{seek, Different, Without, orElse, or-none, none-or, seek-append, seek-filter, seek-miss, seek-hit, rank-key, rank-without}
+use Rattle.model.proofs.history.ledger.Seek.{seek, Different, Without, orElse, or-none, none-or, seek-append, seek-filter, seek-miss, seek-hit, rank-key}
+use Rattle.model.proofs.history.ledger.Seek.{rank-without}
 use Rattle.model.proofs.history.ledger.Changed.{set-seek, set-other, cut, cut-seek, cut-other}
 use Rattle.model.proofs.history.ledger.Split.{other-key, split-key, new-key, old-key}
 
