@@ -22,13 +22,13 @@ use Rattle.model.specs.UnitLaws.{unit-below}
 use Rattle.model.specs.Layout.{Store, view, slotAt, unitsIn}
 use Rattle.model.specs.LayoutLaws.{view-shaped}
 use Rattle.model.specs.Reads.{homeIn, rankIn, listedFill, listedRank, wholeSlot, bodyIn}
+use Rattle.model.specs.ReadLaws.{fill-le, own-fill, own-rank}
 use Rattle.model.specs.Sound.{sound}
 use Rattle.model.specs.SoundSays.{ranged}
 use Rattle.model.specs.Numbers.{read, readInPlace, refusalsIn, numberIn}
 use Rattle.model.specs.RowLaws.{Free, first-free}
 use Rattle.model.specs.Perform.{Place, placeIn, givenIn}
 use Rattle.model.specs.Demand1.{InPlace}
-use Rattle.model.specs.ReadLaws.{fill-le, own-fill, own-rank}
 use Rattle.model.proofs.Refusals.{in-place-store, part-none}
 
 -- read's number depends on the length of its buffer alone

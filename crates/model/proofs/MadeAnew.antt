@@ -14,13 +14,13 @@ use Rattle.model.specs.Units.{touched}
 use Rattle.model.specs.Layout.{Store, bytes, view, unitsIn}
 use Rattle.model.specs.LayoutLaws.{Shaped, Same, view-bytes, view-shaped}
 use Rattle.model.specs.Sound.{sound}
-use Rattle.model.specs.Changes.{repaired, grown, shrunk}
+use Rattle.model.specs.SoundSays.{ranged, units-some, units-few, Stateful, check-states}
 use Rattle.model.specs.Numbers.{Call, repair, grow, shrink, refusalsIn, numberIn}
 use Rattle.model.specs.RowLaws.{Free}
+use Rattle.model.specs.Changes.{repaired, grown, shrunk}
 use Rattle.model.specs.Perform.{grantedIn, afterIn, perform}
 use Rattle.model.specs.PerformLaws.{none-holds}
 use Rattle.model.specs.MadeAnew.{HoldsCheckRecords, leftBy, MadeAnew}
-use Rattle.model.specs.SoundSays.{ranged, units-some, units-few, Stateful, check-states}
 use Rattle.model.proofs.history.alike.Alike.{Alike, alike-refl, left-shaped}
 use Rattle.model.proofs.history.alike.Numbers.{split-inside, split-before}
 use Rattle.model.proofs.history.alike.Repaired.{repaired-alike}
@@ -31,7 +31,7 @@ seen-holds : (t : Store) → Shaped t → (c : ℕ) → c < 12 → HoldsCheckRec
 seen-holds t h c l f r m =
     let s : Same (view (bytes t)) t = view-bytes t h in
     let n : r < t .size = omega (arith, s .size) in
-    s .check c r l n ∙ f r n ∙ sym (checkRecord-ext (c % 3) (λ p. view (bytes t) .slot (4 * (c / 3) + p) r) (λ p. t .slot (4 * (c / 3) + p) r) (λ p q. s .slot (4 * (c / 3) + p) r (omega arith) n))
+    s .check c r l n ∙ f r n ∙ sym (checkRecord-ext (c % 3) _ _ (λ p q. s .slot (4 * (c / 3) + p) r (omega arith) n))
 
 -- a state that a unit may have
 state-most : (p : Bool) (n : ℕ) → Stateful p n → n ≤ 2
@@ -99,7 +99,8 @@ made-anew s = record {
       let ok : sound s ≡ true = not-false (sound s) (f .0) in
       let v : Store = view s in
       let m : ℕ = unitsIn (view s) in
-      let h : Shaped (grown v m) = grown-shaped v v (itself s ok) m (leb-false 16 m (f .1 .0)) (split-inside v v (itself s ok) (units-some s ok) (units-few s ok)) in
+      let a : Alike v v = itself s ok in
+      let h : Shaped (grown v m) = grown-shaped v v a m (leb-false 16 m (f .1 .0)) (split-inside v v a (units-some s ok) (units-few s ok)) in
       left-holds s grow z (grown v m) refl h c l (grown-holds v m c q (sym (left-cstate s grow z (grown v m) refl h c l) ∙ e));
   by-shrink = λ z c l q e.
       let f = free s shrink z in
@@ -107,7 +108,9 @@ made-anew s = record {
       let v : Store = view s in
       let m : ℕ = pred (unitsIn (view s)) in
       let two : 1 < unitsIn (view s) = leb-false (unitsIn v) 1 (f .1 .0) in
-      let h : Shaped (shrunk v m) = left-shaped (shrunk v m) (shrunk v m) (shrunk-alike v v (itself s ok) m (omega (arith, units-few s ok)) (split-before v v (itself s ok) (units-some s ok) (units-few s ok) two)) in
+      let a : Alike v v = itself s ok in
+      let b = shrunk-alike v v a m (omega (arith, units-few s ok)) (split-before v v a (units-some s ok) (units-few s ok) two) in
+      let h : Shaped (shrunk v m) = left-shaped (shrunk v m) (shrunk v m) b in
       left-holds s shrink z (shrunk v m) refl h c l (shrunk-holds v m c q (sym (left-cstate s shrink z (shrunk v m) refl h c l) ∙ e));
   by-repair = λ g z c l d e.
       let f = free s (repair g) z in

@@ -17,7 +17,8 @@ use Rattle.model.specs.LayoutLaws.{Shaped, Same, bytes-ext, view-bytes}
 use Rattle.model.specs.Changes.{written}
 
 -- ---- a change of the bytes of t is that change of t, if the change doesn't tell stores apart whose parts are the same
-pub on-bytes : (f : Store → Store) (t : Store) (s : List ℕ) → Shaped t → s ≡ bytes t → (Same (view (bytes t)) t → Same (f (view (bytes t))) (f t)) → bytes (f (view s)) ≡ bytes (f t)
+pub on-bytes : (f : Store → Store) (t : Store) (s : List ℕ) → Shaped t → s ≡ bytes t → (Same (view (bytes t)) t → Same (f (view (bytes t))) (f t))
+    → bytes (f (view s)) ≡ bytes (f t)
 on-bytes f t s h e k = ap (λ x. bytes (f (view x))) e ∙ bytes-ext (f (view (bytes t))) (f t) (k (view-bytes t h))
 
 -- ---- a slot x written over a slot s: the change of its body, and a check record c that follows it

@@ -46,4 +46,5 @@ module _ (v : Store) (u : ℕ) where
 
     pub own-rank : (k : ℕ) → listedRank v u k ≡ rankIn v u k
     unfolding listedRank rankIn
-    own-rank k = ap (λ (n : ℕ). first n (λ r. eqb (keyOf (listedKey v u r)) k)) own-fill ∙ first-ext (fillIn v u) _ _ (λ r a. ap (λ (n : ℕ). eqb n k) (own-key r))
+    own-rank k =
+        ap (λ (n : ℕ). first n (λ r. eqb (keyOf (listedKey v u r)) k)) own-fill ∙ first-ext (fillIn v u) _ _ (λ r a. ap (λ (n : ℕ). eqb n k) (own-key r))

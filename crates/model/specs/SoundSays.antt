@@ -164,7 +164,8 @@ module _ (s : List ℕ) (h : sound s ≡ true) where
 
   pub zero-check : (c r : ℕ) → c < 12 → r < v .size → eqb (v .cstate c) 1 ≡ false → v .check c r ≡ zeros checkBytes
   zero-check c r l m e =
-      same-true (v .check c r) (zeros checkBytes) (or-other (eqb (v .cstate c) 1) (same (v .check c r) (zeros checkBytes)) e (zeroed-says v (clauses .zeros) .checks c r l m))
+      same-true (v .check c r) (zeros checkBytes)
+      (or-other (eqb (v .cstate c) 1) (same (v .check c r) (zeros checkBytes)) e (zeroed-says v (clauses .zeros) .checks c r l m))
 
   -- ---- keys of a unit that are known
 
@@ -184,7 +185,9 @@ module _ (s : List ℕ) (h : sound s ≡ true) where
     listed-own r m e = eqb-true (unitOf (unitsIn v) (keyOf (listedKey v u r))) u (and-first _ _ (listed-test r m e))
 
     pub listed-differ : (r q : ℕ) → r < q → q < v .size → ltb q (listedFill v u) ≡ true → not (eqb (keyOf (listedKey v u r)) (keyOf (listedKey v u q))) ≡ true
-    listed-differ r q l m e = all-true q (λ i. not (eqb (keyOf (listedKey v u i)) (keyOf (listedKey v u q)))) (and-second (eqb (unitOf (unitsIn v) (keyOf (listedKey v u q))) u) _ (listed-test q m e)) r l
+    listed-differ r q l m e =
+        all-true q (λ i. not (eqb (keyOf (listedKey v u i)) (keyOf (listedKey v u q))))
+        (and-second (eqb (unitOf (unitsIn v) (keyOf (listedKey v u q))) u) _ (listed-test q m e)) r l
 
     pub listed-past : (r : ℕ) → r < v .size → ltb r (listedFill v u) ≡ false → keyOf (listedKey v u r) ≡ 0
     listed-past r m e = eqb-true (keyOf (listedKey v u r)) 0 (sym (pick-false e _ (eqb (keyOf (listedKey v u r)) 0)) ∙ key-test r m)
@@ -193,4 +196,5 @@ module _ (s : List ℕ) (h : sound s ≡ true) where
   pub lists : (c : ℕ) → c < 12 → eqb (v .cstate c) 1 ≡ true → (r : ℕ) → r < v .size → (p : ℕ) → p < 4
       → keyOf (part (keyBytes * p) keyBytes (v .check c r)) ≡ keyOf (listedKey v (4 * (c / 3) + p) r)
   unfolding listsAgree
-  lists c l e r m p n = eqb-true _ _ (all-true 4 _ (all-true (v .size) _ (unless-second (eqb (v .cstate c) 1) _ (all-true 12 _ (clauses .lists) c l) e) r m) p n)
+  lists c l e r m p n =
+      eqb-true _ _ (all-true 4 _ (all-true (v .size) _ (unless-second (eqb (v .cstate c) 1) _ (all-true 12 _ (clauses .lists) c l) e) r m) p n)

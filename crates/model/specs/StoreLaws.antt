@@ -17,10 +17,10 @@ use Rattle.group.specs.Widths.{slotBytes}
 use Rattle.model.specs.Layout.{Store, bytes, view, unitsIn, levelIn, slotAt}
 use Rattle.model.specs.Places.{Region, data-units, check-units, units, width, start, chunkAt, Long, SlotIn}
 use Rattle.model.specs.Parts.{withFront, withDstates, withCstates, withSlots, withChecks, chunksIn, withChunks}
-use Rattle.model.specs.LayoutLaws as layout
-use Rattle.model.specs.LayoutLaws.{Shaped, chunked, stateBytes, bytes-view, view-shaped, length-states, length-bytes, byte-front}
 use Rattle.model.specs.RunLaws.{upd2, run, run-one, run-unit}
 use Rattle.model.specs.UnitTableLaws.{unitTable, Chunked, table-ext, splice-run}
+use Rattle.model.specs.LayoutLaws as layout
+use Rattle.model.specs.LayoutLaws.{Shaped, chunked, stateBytes, bytes-view, view-shaped, length-states, length-bytes, byte-front}
 
 -- ---- other chunks in a region
 pub chunks-none : (k : Region) (s : Store) → withChunks k s (chunksIn k s) ≡ s

@@ -40,7 +40,8 @@ commissioned = record {
 unfoldable pub position : List ℕ
 position = 0x45 ∷ 0x6E ∷ 0x20 ∷ 0x41 ∷ zeros 12
 
--- "L 02", then T, P (here with a buffer for two records), O 00, R, O 10, R: taught, listed, read after the loss of data unit 0, and beyond recovery after that of check unit 0
+-- "L 02", then T, P (here with a buffer for two records), O 00, R, O 10, R: taught, listed, read after the loss of data unit 0, and beyond recovery after that
+-- of check unit 0
 pub example : answers (opened 2) (teach 5 position ∷ list (zeros 40) ∷ unitOut 0 ∷ read 5 (zeros 16) ∷ unitOut 16 ∷ read 5 (zeros 16) ∷ [])
     ≡ plain 0 ∷ listed 0 1 ((0 ∷ 0 ∷ 0 ∷ 5 ∷ position) ++ zeros 20) ∷ plain 0 ∷ copied 0 position ∷ plain 0 ∷ copied 8 (zeros 16) ∷ []
 unfolding position answers answer reply output after given bodyOf listing granted number refusals firstOf lost total beyondOf outsOf state isOut

@@ -23,8 +23,8 @@ use Rattle.model.specs.Units.{unitOf}
 use Rattle.model.specs.Layout.{Store, bytes, view, unitsIn, levelIn, keyOf}
 use Rattle.model.specs.LayoutLaws.{Shaped, Same, view-bytes, key-first}
 use Rattle.model.specs.Reads.{homeIn, fillIn, rankIn, stateIn, outsIn, beyondIn, firstCheck, listedKey, listedFill}
-use Rattle.model.specs.Sound.{checksIn}
 use Rattle.model.specs.ReadLaws.{fill-le}
+use Rattle.model.specs.Sound.{checksIn}
 
 -- two slots with one key; an empty slot is the same
 pub record LikeSlot (x y : List ℕ) : Type 0 where
@@ -218,5 +218,5 @@ module _ (v w : Store) (a : Alike v w) where
     pub listed-fill-alike : listedFill v u ≡ listedFill w u
     unfolding listedFill
     listed-fill-alike =
-        first-ext (v .size) (λ r. eqb (keyOf (listedKey v u r)) 0) (λ r. eqb (keyOf (listedKey w u r)) 0) (λ r m. ap (λ (x : List ℕ). eqb (keyOf x) 0) (listed-alike r m))
+        first-ext (v .size) _ _ (λ r m. ap (λ (x : List ℕ). eqb (keyOf x) 0) (listed-alike r m))
         ∙ ap (λ (n : ℕ). first n (λ r. eqb (keyOf (listedKey w u r)) 0)) (a .size)

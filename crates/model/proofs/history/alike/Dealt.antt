@@ -18,8 +18,8 @@ use Rattle.model.specs.Units.{splitPointer, moves, touched, broughtUp, e
 use Rattle.model.specs.Layout.{Store, levelIn, keyOf}
 use Rattle.model.specs.LayoutLaws.{Shaped}
 use Rattle.model.specs.Reads.{fillIn}
-use Rattle.model.specs.Changes.{filterBy, rows, recordsIn, dealt, grownState, grown, merged, shrunkState, shrunk}
 use Rattle.model.specs.ReadLaws.{fill-le}
+use Rattle.model.specs.Changes.{filterBy, rows, recordsIn, dealt, grownState, grown, merged, shrunkState, shrunk}
 use Rattle.model.proofs.history.alike.Alike.{LikeSlot, LikeCheck, Alike, pick-both, no-slot, no-check, key-like, level-alike, fill-alike}
 use Rattle.model.proofs.history.alike.Repaired.{anew-like}
 
@@ -114,7 +114,8 @@ module _ (v w : Store) (a : Alike v w) (m : ℕ) (hm : m < 16) (hn : splitPointe
     grown-idle c l =
         by-test (λ (t : Bool). eqb (pick t (pick (ltb (c % 3) (levelIn v)) 1 0) (v .cstate c)) 1 ≡ false → eqb (v .cstate c) 1 ≡ false) (broughtUp m (c / 3))
         (λ _ e. by-test (λ (t : Bool). t ≡ false) (eqb (v .cstate c) 1)
-        (λ q. not-both (ap (λ (n : ℕ). eqb n 1) (pick-true refl (pick (ltb (c % 3) (levelIn v)) 1 0) (v .cstate c) ∙ pick-true (within c l q) 1 0)) e) (λ _. refl))
+        (λ q. not-both (ap (λ (n : ℕ). eqb n 1) (pick-true refl (pick (ltb (c % 3) (levelIn v)) 1 0) (v .cstate c) ∙ pick-true (within c l q) 1 0)) e)
+        (λ _. refl))
         (λ _ e. ap (λ (n : ℕ). eqb n 1) (sym (pick-false refl (pick (ltb (c % 3) (levelIn v)) 1 0) (v .cstate c))) ∙ e)
 
     pub grown-alike : Alike (grown v m) (grown w m)
@@ -175,7 +176,7 @@ module _ (v w : Store) (a : Alike v w) (m : ℕ) (hm : m < 16) (hn : splitPointe
     check = λ c r l q. rw (← (shrunk-state c l))
         (pick-both LikeCheck (touched m (c / 3)) _ _ (v .check c r) (w .check c r)
         (λ _. pick-both LikeCheck (eqb (shrunkState v m c) 1) (made v c r) (made w c r) (zeros checkBytes) (zeros checkBytes)
-        (λ _. anew-like (c % 3) (λ p. merged v m (4 * (c / 3) + p) r) (λ p. merged w m (4 * (c / 3) + p) r) (λ p i. merged-like (4 * (c / 3) + p) r (omega arith) q))
+        (λ _. anew-like (c % 3) _ _ (λ p i. merged-like (4 * (c / 3) + p) r (omega arith) q))
         (λ _. no-check))
         (λ _. a .check c r l q));
     idle = λ c r l q e. rw (← (shrunk-state c l))

@@ -25,12 +25,12 @@ use Rattle.group.specs.CheckRecordLaws.{length-key}
 use Rattle.model.specs.Layout.{Store, view, storeBytes, slotAt, checkAt, unitsIn, levelIn, keyOf, frontOf}
 use Rattle.model.specs.LayoutLaws.{Shaped, view-shaped, key-first}
 use Rattle.model.specs.Reads.{fillIn, listedKey, listedFill}
+use Rattle.model.specs.ReadLaws.{fill-key, own-bytes, own-key, own-fill}
 use Rattle.model.specs.Sound.{keysKnown, sound}
+use Rattle.model.specs.SoundSays.{Ranged, ranged, Stateful, data-states, zero-slot, zero-check, listed-past, lists}
 use Rattle.model.specs.history.Ledger.{Rec, Ledger, empty, recordAt, state}
 use Rattle.model.specs.history.Picture.{recordBytes, pictureSlot, checkOver, pictureCheck, image}
 use Rattle.model.specs.history.Typed.{Bytes}
-use Rattle.model.specs.SoundSays.{Ranged, ranged, Stateful, data-states, zero-slot, zero-check, listed-past, lists}
-use Rattle.model.specs.ReadLaws.{fill-key, own-bytes, own-key, own-fill}
 use Rattle.model.proofs.history.ledger.Valid.{Valid}
 use Rattle.model.proofs.history.picture.Records.{take-record, empty-bytes, length-keys}
 use Rattle.model.proofs.history.picture.Picture.{image-shaped, slot-on, slot-off, check-on, check-off}
@@ -45,7 +45,8 @@ use Rattle.model.proofs.history.alike.LedgerOf.{cstate-shown, ledger-va
 front-cut : (s : List ℕ) → 8 ≤ length s → take 8 s ≡ byte s 0 ∷ (part 1 4 s ++ (byte s 5 ∷ byte s 6 ∷ byte s 7 ∷ []))
 unfolding part
 front-cut s h =
-    let last : take 3 (drop 5 s) ≡ byte s 5 ∷ byte s 6 ∷ byte s 7 ∷ [] = rw (drop-cons s 5 0 (omega arith), drop-cons s 6 0 (omega arith), drop-cons s 7 0 (omega arith)) in
+    let last : take 3 (drop 5 s) ≡ byte s 5 ∷ byte s 6 ∷ byte s 7 ∷ [] =
+    rw (drop-cons s 5 0 (omega arith), drop-cons s 6 0 (omega arith), drop-cons s 7 0 (omega arith)) in
     ap (take 8) (drop-cons s 0 0 (omega arith))
     ∙ ap (λ (x : List ℕ). byte s 0 ∷ x) (take-add 4 3 (drop 1 s) ∙ ap (λ (x : List ℕ). take 4 (drop 1 s) ++ x) (ap (take 3) (drop-drop 4 1 s) ∙ last))
 
@@ -131,7 +132,8 @@ module _ (s : List ℕ) (b : Bytes s) (h : sound s ≡ true) where
   key-shown u r a m e =
       by-test (λ (t : Bool). recordAt l u r .key ≡ keyOf (listedKey v u r)) (ltb r (listedFill v u))
       (λ q. ap (λ (x : Rec). x .key) (record-listed u r e (ltb-true r (listedFill v u) q)))
-      (λ q. ap (λ (x : Rec). x .key) (past l u r (omega (arith, records-long u e, ltb-false r (listedFill v u) q))) ∙ sym (listed-past s h u a (and-second (ltb u (unitsIn v)) (keysKnown v u) e) r m q))
+      (λ q. ap (λ (x : Rec). x .key) (past l u r (omega (arith, records-long u e, ltb-false r (listedFill v u) q)))
+      ∙ sym (listed-past s h u a (and-second (ltb u (unitsIn v)) (keysKnown v u) e) r m q))
 
   -- ---- a unit in service
 
@@ -158,8 +160,10 @@ module _ (s : List ℕ) (b : Bytes s) (h : sound s ≡ true) where
     taken r m e =
         ap (take keyBytes) (shown r)
         ∙ take-record (recordAt l u r)
-        ∙ ap bytes32 (ap (λ (x : Rec). x .key) (record-listed u r read (omega (arith, own-fill v u not-out, ltb-true r (fillIn v u) e))) ∙ ap keyOf (own-bytes v u not-out r))
-        ∙ spelled-key (take keyBytes (v .slot u r)) (length-key bodyBytes (v .slot u r) (stored .slot u r hu m)) (unfold part in bytes-part 0 keyBytes (v .slot u r) (slot-bytes u r))
+        ∙ ap bytes32 (ap (λ (x : Rec). x .key) (record-listed u r read (omega (arith, own-fill v u not-out, ltb-true r (fillIn v u) e)))
+        ∙ ap keyOf (own-bytes v u not-out r))
+        ∙ spelled-key (take keyBytes (v .slot u r)) (length-key bodyBytes (v .slot u r) (stored .slot u r hu m))
+        (unfold part in bytes-part 0 keyBytes (v .slot u r) (slot-bytes u r))
 
     record-like : (r : ℕ) → r < v .size → ltb r (fillIn v u) ≡ true → LikeSlot (pictureSlot l u r) (v .slot u r)
     unfolding image ledgerOf
@@ -167,7 +171,8 @@ module _ (s : List ℕ) (b : Bytes s) (h : sound s ≡ true) where
       key = taken r m e;
       left = pictured .slot u r hu m;
       right = stored .slot u r hu m;
-      keyless = λ z. absurd (fill-key v u r (ltb-true r (fillIn v u) e) (sym (key-first (v .slot u r)) ∙ ap keyOf (sym (taken r m e)) ∙ key-first (pictureSlot l u r) ∙ z));
+      keyless = λ z. absurd (fill-key v u r (ltb-true r (fillIn v u) e)
+          (sym (key-first (v .slot u r)) ∙ ap keyOf (sym (taken r m e)) ∙ key-first (pictureSlot l u r) ∙ z));
     }
 
   -- ---- every slot
@@ -207,7 +212,8 @@ module _ (s : List ℕ) (b : Bytes s) (h : sound s ≡ true) where
     unfolding keyOf empty
     not-in-place p a e =
         let u : ℕ = 4 * (c / 3) + p in
-        let d : v .dstate u ≡ 0 = eqb-true (v .dstate u) 0 (sym (pick-false e (eqb (v .dstate u) 1 || eqb (v .dstate u) 2) (eqb (v .dstate u) 0)) ∙ data-states s h u (omega arith)) in
+        let d : v .dstate u ≡ 0 =
+        eqb-true (v .dstate u) 0 (sym (pick-false e (eqb (v .dstate u) 1 || eqb (v .dstate u) 2) (eqb (v .dstate u) 0)) ∙ data-states s h u (omega arith)) in
         let z : v .slot u r ≡ zeros slotBytes = zero-slot s h u r (omega arith) hr (and-false-first (ap (λ (n : ℕ). eqb n 1) d) (ltb r (fillIn v u))) in
         ap (λ (x : Rec). x .key) (past l u r (omega (arith, ap length (valid .none u (beyond u e)))))
         ∙ sym (own-key v u (ap (λ (n : ℕ). eqb n 2) d) r ∙ ap keyOf z ∙ be32-zeros slotBytes 0)
@@ -224,7 +230,8 @@ module _ (s : List ℕ) (b : Bytes s) (h : sound s ≡ true) where
     place-bytes : (p : ℕ) → p < 4 → bytes32 (recordAt l (4 * (c / 3) + p) r .key) ≡ part (keyBytes * p) keyBytes (v .check c r)
     place-bytes p a =
         ap bytes32 (place-key p a ∙ sym (lists s h c hc on r hr p a))
-        ∙ spelled-key (part (keyBytes * p) keyBytes (v .check c r)) (length-part (keyBytes * p) keyBytes (v .check c r) (omega (arith, stored .check c r hc hr)))
+        ∙ spelled-key (part (keyBytes * p) keyBytes (v .check c r))
+        (length-part (keyBytes * p) keyBytes (v .check c r) (omega (arith, stored .check c r hc hr)))
         (bytes-part (keyBytes * p) keyBytes (v .check c r) (check-bytes c r))
 
     keys-shown : take keysBytes (pictureCheck l c r) ≡ take keysBytes (v .check c r)

@@ -22,11 +22,11 @@ use Rattle.group.specs.BodyLaws.{zeros-is}
 use Rattle.model.specs.Units.{unitOf}
 use Rattle.model.specs.Layout.{Store, view, slotAt, checkAt, unitsIn, levelIn, keyOf}
 use Rattle.model.specs.Reads.{stateIn, firstCheck, listedKey, listedFill}
+use Rattle.model.specs.ReadLaws.{listed-le, listed-some}
 use Rattle.model.specs.Sound.{checksIn, checksAllowed, keysKnown, sound}
+use Rattle.model.specs.SoundSays.{ranged, units-some, units-few, Stateful, data-states, group-number, check-states, listed-own, listed-differ}
 use Rattle.model.specs.history.Ledger.{Rec, Ledger, empty, recordAt, placed, state}
 use Rattle.model.specs.history.Typed.{Bytes}
-use Rattle.model.specs.SoundSays.{ranged, units-some, units-few, Stateful, data-states, group-number, check-states, listed-own, listed-differ}
-use Rattle.model.specs.ReadLaws.{listed-le, listed-some}
 use Rattle.model.proofs.history.ledger.Valid.{Good, Valid}
 use Rattle.model.proofs.history.ledger.States.{placed-unit, placed-place}
 
@@ -90,7 +90,8 @@ state-absent false n e q = ap (λ (k : ℕ). eqb k 2) (eqb-true n 0 e)
 module _ (v : Store) (u : ℕ) where
   pub length-listed : length (listedRecords v u) ≡ listedFill v u
   unfolding listedRecords
-  length-listed = length-map (entries (listedFill v u) (λ r. keyOf (listedKey v u r))) keyRecord ∙ length-entries (listedFill v u) (λ r. keyOf (listedKey v u r))
+  length-listed =
+      length-map (entries (listedFill v u) (λ r. keyOf (listedKey v u r))) keyRecord ∙ length-entries (listedFill v u) (λ r. keyOf (listedKey v u r))
 
   listed-at : (r : ℕ) → getD (listedRecords v u) r empty ≡ keyRecord (getD (entries (listedFill v u) (λ q. keyOf (listedKey v u q))) r 0)
   unfolding listedRecords empty
@@ -119,7 +120,8 @@ module _ (s : List ℕ) (b : Bytes s) (h : sound s ≡ true) where
   unfolding listedKey view
   listed-bytes u r =
       by-pick Bytes (eqb (v .dstate u) 2) (part (keyBytes * (u % 4)) keyBytes (v .check (firstCheck v (u / 4)) r)) (take keyBytes (v .slot u r))
-      (λ _. bytes-part (keyBytes * (u % 4)) keyBytes (v .check (firstCheck v (u / 4)) r) (bytes-part (checkAt (byte s 5) (firstCheck v (u / 4)) r) checkBytes s b))
+      (λ _. bytes-part (keyBytes * (u % 4)) keyBytes (v .check (firstCheck v (u / 4)) r)
+      (bytes-part (checkAt (byte s 5) (firstCheck v (u / 4)) r) checkBytes s b))
       (λ _. unfold part in bytes-part 0 keyBytes (v .slot u r) (bytes-part (slotAt (byte s 5) u r) slotBytes s b))
 
   listed-low : (u r : ℕ) → keyOf (listedKey v u r) < 4294967296
@@ -169,7 +171,9 @@ module _ (s : List ℕ) (b : Bytes s) (h : sound s ≡ true) where
   unfolding stateIn
   cstate-shown c a =
       let e : 16 + c - 16 ≡ c = omega arith in
-      state-is (16 + c) (omega arith) ∙ pick-false (le-ltb (16 + c) 16 (omega arith)) (v .dstate (16 + c)) (v .cstate (16 + c - 16)) ∙ ap (λ (n : ℕ). v .cstate n) e
+      state-is (16 + c) (omega arith)
+      ∙ pick-false (le-ltb (16 + c) 16 (omega arith)) (v .dstate (16 + c)) (v .cstate (16 + c - 16))
+      ∙ ap (λ (n : ℕ). v .cstate n) e
 
   out-calm : (w : ℕ) → placed l w ≡ false → (ltb w 28 && eqb (stateIn v w) 2) ≡ false
   out-calm w e =
@@ -189,7 +193,8 @@ module _ (s : List ℕ) (b : Bytes s) (h : sound s ≡ true) where
   checks-capped : (g : ℕ) → g < 4 → checksIn v g ≤ levelIn v
   checks-capped g a =
       by-test (λ (t : Bool). checksIn v g ≤ levelIn v) (ltb (4 * g) (unitsIn v))
-      (λ e. leb-true (checksIn v g) (levelIn v) (and-second (leb 1 (checksIn v g)) (leb (checksIn v g) (levelIn v)) (allowed g a (ltb-true (4 * g) (unitsIn v) e))))
+      (λ e. leb-true (checksIn v g) (levelIn v)
+      (and-second (leb 1 (checksIn v g)) (leb (checksIn v g) (levelIn v)) (allowed g a (ltb-true (4 * g) (unitsIn v) e))))
       (λ e. omega (arith, absent g a (ltb-false (4 * g) (unitsIn v) e)))
 
   -- ---- records
@@ -220,7 +225,9 @@ module _ (s : List ℕ) (b : Bytes s) (h : sound s ≡ true) where
       small : getD keys r 0 < 4294967296
       small = by-test (λ (t : Bool). getD keys r 0 < 4294967296) (ltb r (listedFill v u))
           (λ e. rw (getD-entries (listedFill v u) (λ q. keyOf (listedKey v u q)) r 0 (ltb-true r (listedFill v u) e)) (listed-low u r))
-          (λ e. rw (List·getD-eq-default keys 0 {n = r} (omega (arith, length-entries (listedFill v u) (λ q. keyOf (listedKey v u q)), ltb-false r (listedFill v u) e))) (omega arith))
+          (λ e.
+          let past : length keys ≤ r = omega (arith, length-entries (listedFill v u) (λ q. keyOf (listedKey v u q)), ltb-false r (listedFill v u) e) in
+          rw (List·getD-eq-default keys 0 {n = r} past) (omega arith))
 
   good-none : (r : ℕ) → Good (getD [] r empty)
   unfolding empty
@@ -240,7 +247,8 @@ module _ (s : List ℕ) (b : Bytes s) (h : sound s ≡ true) where
     keyed = λ u r. by-records (λ (xs : List Rec). r < length xs → getD xs r empty .key ≢ 0) u
         (λ _ a. rw (key-at u r a) (listed-some v u r (at-listed u r a))) (λ a. absurd (not-suc-le-zero a));
     own = λ u r. by-records (λ (xs : List Rec). r < length xs → unitOf (unitsIn v) (getD xs r empty .key) ≡ u) u
-        (λ e a. rw (key-at u r a) (listed-own s h u (unit-low u e) (known u e) r (omega (arith, at-listed u r a, listed-le v u)) (lt-ltb r (listedFill v u) (at-listed u r a))))
+        (λ e a. rw (key-at u r a) (listed-own s h u (unit-low u e) (known u e) r (omega (arith, at-listed u r a, listed-le v u))
+        (lt-ltb r (listedFill v u) (at-listed u r a))))
         (λ a. absurd (not-suc-le-zero a));
     differ = λ u r q i. by-records (λ (xs : List Rec). q < length xs → getD xs r empty .key ≢ getD xs q empty .key) u
         (λ e a. rw (key-at u r (omega arith), key-at u q a)

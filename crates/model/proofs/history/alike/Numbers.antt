@@ -7,11 +7,11 @@ use native.Mathlib.Omega.{arith}
 use lib.Dec.{eqb, ltb, leb}
 use borrow.Author.Tests.{ltb-false, leb-false}
 use Rattle.model.specs.Units.{splitPointer}
+use Rattle.model.specs.UnitLaws.{split-below, unit-below}
 use Rattle.model.specs.Layout.{Store, unitsIn}
 use Rattle.model.specs.Reads.{homeIn, fillIn, rankIn, outsIn, stateIn}
 use Rattle.model.specs.Numbers.{teach, correct, erase, unitOut, repair, grow, shrink, raise, refusalsIn}
 use Rattle.model.specs.RowLaws.{Agree, row}
-use Rattle.model.specs.UnitLaws.{split-below, unit-below}
 use Rattle.model.proofs.history.alike.Alike.{Alike, units-alike, level-alike, home-alike, state-alike, outs-alike, beyond-alike, fill-alike, rank-alike}
 
 module _ (v w : Store) (a : Alike v w) (some : 1 ≤ unitsIn v) (few : unitsIn v ≤ 16) where
@@ -94,7 +94,8 @@ module _ (v w : Store) (a : Alike v w) (some : 1 ≤ unitsIn v) (few : unitsIn v
         let before : splitPointer (pred (unitsIn v)) < 16 = split-before two in
         row (outs-row _ _ (ap (λ (n : ℕ). pred n / 4) m) (omega arith)) (λ _.
         row (outs-row _ _ (ap (λ (n : ℕ). splitPointer (pred n) / 4) m) (omega arith)) (λ _.
-        row (ap₂ ltb (a .size) (ap₂ (λ (i j : ℕ). i + j) (fill-row _ _ (ap (λ (n : ℕ). splitPointer (pred n)) m) before) (fill-row _ _ (ap pred m) (omega arith))))
+        row (ap₂ ltb (a .size) (ap₂ (λ (i j : ℕ). i + j) (fill-row _ _ (ap (λ (n : ℕ). splitPointer (pred n)) m) before)
+        (fill-row _ _ (ap pred m) (omega arith))))
         (λ _. tt)))))
 
     pub raise-rows : Agree (refusalsIn o v raise) (refusalsIn p w raise)

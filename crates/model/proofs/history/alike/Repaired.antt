@@ -77,7 +77,8 @@ module _ (v : Store) (h : Shaped v) (g : ℕ) (hg : g < 4) (low : (j : ℕ) → 
     unfolding rebuilt
     length-rebuilt p =
         let four : Members (servesIn v g) (firstFour (servesIn v g)) = first-four (servesIn v g) four-serve in
-        length-weighed bodyBytes _ (λ i. holds v g r (getD (firstFour (servesIn v g)) i 0)) (λ i l. length-held (getD (firstFour (servesIn v g)) i 0) (four .low i l))
+        length-weighed bodyBytes _ (λ i. holds v g r (getD (firstFour (servesIn v g)) i 0))
+        (λ i l. length-held (getD (firstFour (servesIn v g)) i 0) (four .low i l))
 
 -- the listed key of a unit out of that group
 length-listed : (v : Store) → Shaped v → (u r : ℕ) → firstCheck v (u / 4) < 12 → r < v .size → eqb (v .dstate u) 2 ≡ true → length (listedKey v u r) ≡ keyBytes
@@ -87,7 +88,8 @@ length-listed v h u r l m e =
     ∙ length-part (keyBytes * (u % 4)) keyBytes (v .check (firstCheck v (u / 4)) r) (omega (arith, h .check (firstCheck v (u / 4)) r l m))
 
 -- slots with one key that is not 0
-joined-like : (k l x y : List ℕ) → k ≡ l → length k ≡ keyBytes → length l ≡ keyBytes → length x ≡ bodyBytes → length y ≡ bodyBytes → eqb (keyOf k) 0 ≡ false → LikeSlot (k ++ x) (l ++ y)
+joined-like : (k l x y : List ℕ) → k ≡ l → length k ≡ keyBytes → length l ≡ keyBytes → length x ≡ bodyBytes → length y ≡ bodyBytes → eqb (keyOf k) 0 ≡ false
+    → LikeSlot (k ++ x) (l ++ y)
 unfolding keyOf
 joined-like k l x y e a b c d n = record {
   key = take-at k x keyBytes a ∙ e ∙ sym (take-at l y keyBytes b);
@@ -118,9 +120,11 @@ module _ (v w : Store) (a : Alike v w) (g : ℕ) (hg : g < 4) (low : (c : ℕ) �
     keys-same = listed-alike v w a u hu (served u d) r hr
 
     rebuilt-like : eqb (v .dstate u) 2 ≡ true → eqb (keyOf (listedKey v u r)) 0 ≡ false
-        → LikeSlot (listedKey v u r ++ rebuilt (servesIn v (u / 4)) (holds v (u / 4) r) (u % 4)) (listedKey w u r ++ rebuilt (servesIn w (u / 4)) (holds w (u / 4) r) (u % 4))
+        → LikeSlot (listedKey v u r ++ rebuilt (servesIn v (u / 4)) (holds v (u / 4) r) (u % 4))
+        (listedKey w u r ++ rebuilt (servesIn w (u / 4)) (holds w (u / 4) r) (u % 4))
     rebuilt-like e n =
-        let lv : length (listedKey v u r) ≡ keyBytes = length-listed v (left-shaped v w a) u r (first-check-low v w a (u / 4) (omega arith) (served u d e)) hr e in
+        let lv : length (listedKey v u r) ≡ keyBytes =
+        length-listed v (left-shaped v w a) u r (first-check-low v w a (u / 4) (omega arith) (served u d e)) hr e in
         rw d (joined-like (listedKey v u r) (listedKey w u r) _ _ keys-same lv (ap length (sym keys-same) ∙ lv)
         (length-rebuilt v (left-shaped v w a) g hg left-low nb r hr (u % 4))
         (length-rebuilt w (right-shaped v w a) g hg right-low right-near r (omega (arith, a .size)) (u % 4)) n)
@@ -129,7 +133,8 @@ module _ (v w : Store) (a : Alike v w) (g : ℕ) (hg : g < 4) (low : (c : ℕ) �
     unfolding wholeSlot
     whole-like = rw (← (a .dstate u hu))
         (pick-both LikeSlot (eqb (v .dstate u) 2) _ _ (v .slot u r) (w .slot u r)
-        (λ e. rw (ap (λ (x : List ℕ). eqb (keyOf x) 0) (sym keys-same)) (pick-both LikeSlot (eqb (keyOf (listedKey v u r)) 0) (zeros slotBytes) (zeros slotBytes) _ _ (λ _. no-slot) (λ n. rebuilt-like e n)))
+        (λ e. rw (ap (λ (x : List ℕ). eqb (keyOf x) 0) (sym keys-same))
+        (pick-both LikeSlot (eqb (keyOf (listedKey v u r)) 0) (zeros slotBytes) (zeros slotBytes) _ _ (λ _. no-slot) (λ n. rebuilt-like e n)))
         (λ e. a .slot u r hu hr))
 
   pub repaired-alike : Alike (repaired v g) (repaired w g)
@@ -145,7 +150,7 @@ module _ (v w : Store) (a : Alike v w) (g : ℕ) (hg : g < 4) (low : (c : ℕ) �
         (λ e. whole-like u r l m (eqb-true (u / 4) g e)) (λ _. a .slot u r l m);
     check = λ c r l m. rw (← (a .cstate c l))
         (pick-both LikeCheck (eqb (c / 3) g && eqb (v .cstate c) 2) (made v c r) (made w c r) (v .check c r) (w .check c r)
-        (λ _. anew-like (c % 3) (λ p. wholeSlot v (4 * g + p) r) (λ p. wholeSlot w (4 * g + p) r) (λ p n. whole-like (4 * g + p) r (omega arith) m (omega arith)))
+        (λ _. anew-like (c % 3) _ _ (λ p n. whole-like (4 * g + p) r (omega arith) m (omega arith)))
         (λ _. a .check c r l m));
     idle = λ c r l m. rw (← (a .cstate c l))
         (by-test (λ (t : Bool). eqb (pick t 1 (v .cstate c)) 1 ≡ false → pick t (made v c r) (v .check c r) ≡ pick t (made w c r) (w .check c r))

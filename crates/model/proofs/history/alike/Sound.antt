@@ -90,7 +90,9 @@ module _ (v w : Store) (a : Alike v w) where
 
   known-same : (u : ℕ) → u < 16 → keysKnown v u ≡ keysKnown w u
   unfolding keysKnown
-  known-same u l = rw (a .dstate u l, all-ext 3 (λ j. not (eqb (v .cstate (3 * (u / 4) + j)) 1)) (λ j. not (eqb (w .cstate (3 * (u / 4) + j)) 1)) (check-states v w a (λ n. not (eqb n 1)) (u / 4) (omega arith)))
+  known-same u l =
+      let off : ℕ → ℕ → Bool = λ i j. not (eqb (v .cstate (3 * i + j)) 1) in
+      rw (a .dstate u l, all-ext 3 (off (u / 4)) _ (check-states v w a (λ n. not (eqb n 1)) (u / 4) (omega arith)))
 
   known-served : (u : ℕ) → keysKnown v u ≡ true → eqb (v .dstate u) 2 ≡ true → Served v w a (u / 4)
   unfolding keysKnown
@@ -107,7 +109,8 @@ module _ (v w : Store) (a : Alike v w) where
         (eqb (unitOf (unitsIn w) (keyOf (listedKey w u r))) u && all r (λ q. not (eqb (keyOf (listedKey w u q)) (keyOf (listedKey w u r)))))
         (eqb (keyOf (listedKey w u r)) 0)
     key-test r m =
-        let others = all-ext r (λ q. not (eqb (keyOf (listedKey v u q)) (keyOf (listedKey v u r)))) (λ q. not (eqb (keyOf (listedKey w u q)) (keyOf (listedKey v u r))))
+        let others =
+        all-ext r (λ q. not (eqb (keyOf (listedKey v u q)) (keyOf (listedKey v u r)))) (λ q. not (eqb (keyOf (listedKey w u q)) (keyOf (listedKey v u r))))
         (λ q n. ap (λ (x : List ℕ). not (eqb (keyOf x) (keyOf (listedKey v u r)))) (listed-alike v w a u hu known q (omega arith))) in
         rw (others, listed-alike v w a u hu known r m, listed-fill-alike v w a u hu known, units-alike v w a)
 
@@ -137,7 +140,8 @@ module _ (v w : Store) (a : Alike v w) where
   same-byte i l = byte-front v (left-shaped v w a) i l ∙ ap (λ (x : List ℕ). byte x i) (a .front) ∙ sym (byte-front w (right-shaped v w a) i l)
 
   same-long : length (bytes v) ≡ length (bytes w)
-  same-long = length-bytes v (left-shaped v w a) ∙ ap₂ (λ (n : ℕ) (x : List ℕ). storeBytes n + length x) (a .size) (a .rest) ∙ sym (length-bytes w (right-shaped v w a))
+  same-long =
+      length-bytes v (left-shaped v w a) ∙ ap₂ (λ (n : ℕ) (x : List ℕ). storeBytes n + length x) (a .size) (a .rest) ∙ sym (length-bytes w (right-shaped v w a))
 
   same-ranges : ranges (bytes v) ≡ ranges (bytes w)
   unfolding ranges

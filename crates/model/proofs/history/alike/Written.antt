@@ -37,7 +37,8 @@ patched-keys j p key change old l k e =
 module _ (j p : ℕ) (p4 : p < 4) where
   -- alike slots written over alike slots
   patched-like : (x y : List ℕ) → LikeSlot x y → (s t : List ℕ) → LikeSlot s t → (old new : List ℕ) → LikeCheck old new
-      → LikeCheck (patched j p (take keyBytes x) (addBody (drop keyBytes s) (drop keyBytes x)) old) (patched j p (take keyBytes y) (addBody (drop keyBytes t) (drop keyBytes y)) new)
+      → LikeCheck (patched j p (take keyBytes x) (addBody (drop keyBytes s) (drop keyBytes x)) old)
+      (patched j p (take keyBytes y) (addBody (drop keyBytes t) (drop keyBytes y)) new)
   patched-like x y h s t i old new k =
       let kx : length (take keyBytes x) ≡ keyBytes = length-key bodyBytes x (h .left) in
       let ky : length (take keyBytes y) ≡ keyBytes = length-key bodyBytes y (h .right) in
@@ -102,7 +103,8 @@ module _ (v w : Store) (a : Alike v w) where
     dstate = λ u l. ap (pick (eqb u n) 2) (a .dstate u l);
     cstate = λ c l. ap (pick (eqb (16 + c) n) 2) (a .cstate c l);
     slot = λ u r l m. pick-both LikeSlot (eqb u n) (zeros slotBytes) (zeros slotBytes) (v .slot u r) (w .slot u r) (λ _. no-slot) (λ _. a .slot u r l m);
-    check = λ c r l m. pick-both LikeCheck (eqb (16 + c) n) (zeros checkBytes) (zeros checkBytes) (v .check c r) (w .check c r) (λ _. no-check) (λ _. a .check c r l m);
+    check = λ c r l m. pick-both LikeCheck (eqb (16 + c) n) (zeros checkBytes) (zeros checkBytes) (v .check c r) (w .check c r) (λ _. no-check)
+        (λ _. a .check c r l m);
     idle = λ c r l m e. pick-ext (eqb (16 + c) n) (zeros checkBytes) (v .check c r) (zeros checkBytes) (w .check c r) (λ _. refl)
         (λ t. a .idle c r l m (ap (λ (k : ℕ). eqb k 1) (sym (pick-false t 2 (v .cstate c))) ∙ e));
     rest = a .rest;

@@ -11,12 +11,13 @@ use Rattle.buffer.specs.RangeLaws.{count-fails}
 use Rattle.buffer.specs.TestLaws.{not-both, and-false-first, and-true}
 use Rattle.model.specs.Units.{splitPointer}
 use Rattle.model.specs.Numbers.{Call, teach, correct, erase, read, readInPlace, list, unitOut, repair, grow, shrink, raise, firstOf}
-use Rattle.model.specs.history.Ledger.{Ledger, opened, home, placed, isOut, state, outsOf, beyondOf, lost, total, withRecords, grownLedger, shrunkLedger, granted}
+use Rattle.model.specs.RowLaws.{Free, free-first}
+use Rattle.model.specs.history.Ledger.{Ledger, opened, home, placed, isOut, state, outsOf, beyondOf, lost, total, withRecords, grownLedger, shrunkLedger}
+use Rattle.model.specs.history.Ledger.{granted}
 use Rattle.model.specs.history.Table.{refusals, number}
 use Rattle.model.specs.history.Answers.{after, final}
 use Rattle.model.specs.history.Runs.{lasting}
 use Rattle.model.specs.history.Typed.{AllTyped}
-use Rattle.model.specs.RowLaws.{Free, free-first}
 use Rattle.model.proofs.history.ledger.Granted.{granted-free, granted-after, refused-after}
 use Rattle.model.proofs.history.ledger.States.{by-state}
 
@@ -51,7 +52,9 @@ module _ (l : Ledger) where
 
   lost-lossless : lost (lossless l) ≡ false
   unfolding lost
-  lost-lossless = rw (count-fails 16 (λ u. isOut (lossless l) u && beyondOf (lossless l) (u / 4)) (λ u a. and-false-first (isOut-lossless u) (beyondOf (lossless l) (u / 4))))
+  lost-lossless =
+      rw (count-fails 16 (λ u. isOut (lossless l) u && beyondOf (lossless l) (u / 4))
+      (λ u a. and-false-first (isOut-lossless u) (beyondOf (lossless l) (u / 4))))
 
   -- what is granted is granted with no unit out
   free-lossless : (c : Call) → lasting c ≡ true → Free (refusals l c) → Free (refusals (lossless l) c)
@@ -59,7 +62,8 @@ module _ (l : Ledger) where
   free-lossless (teach k x) a f = (f .0, (f .1 .0, (refl, (none-out (home l k / 4), f .1 .1 .1 .1))))
   free-lossless (correct k x) a f = (f .0, (f .1 .0, (refl, (none-out (home l k / 4), f .1 .1 .1 .1))))
   free-lossless (erase k) a f = (f .0, (refl, (none-out (home l k / 4), f .1 .1 .1)))
-  free-lossless (read k out) a f = (f .0, (f .1 .0, (refl, (and-false-first (isOut-lossless (home l k)) (beyondOf (lossless l) (home l k / 4)), f .1 .1 .1 .1))))
+  free-lossless (read k out) a f =
+      (f .0, (f .1 .0, (refl, (and-false-first (isOut-lossless (home l k)) (beyondOf (lossless l) (home l k / 4)), f .1 .1 .1 .1))))
   free-lossless (readInPlace k) a f = tt
   free-lossless (list out) a f = (refl, (lost-lossless, f .1 .1))
   free-lossless (unitOut w) a f = not-both a refl

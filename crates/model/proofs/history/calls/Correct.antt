@@ -11,12 +11,12 @@ use lib.Seq.{getD-set-same, getD-set-other}
 use borrow.Author.Tests.{eqb-false, leb-false}
 use Rattle.model.specs.Units.{unitOf}
 use Rattle.model.specs.Numbers.{correct, refusalsIn}
+use Rattle.model.specs.RowLaws.{Free, row}
 use Rattle.model.specs.Perform.{reply, givenIn, grantedIn}
 use Rattle.model.specs.history.Ledger.{Rec, Ledger, empty, home, recordAt, rankOf, outsOf, granted}
 use Rattle.model.specs.history.Table.{refusals}
 use Rattle.model.specs.history.Answers.{given}
 use Rattle.model.specs.history.Typed.{Typed}
-use Rattle.model.specs.RowLaws.{Free, row}
 use Rattle.model.proofs.history.ledger.Valid.{Good, Valid}
 use Rattle.model.proofs.history.ledger.Seek.{rank-key}
 use Rattle.model.proofs.history.ledger.Changed.{same-key, set-differ}

@@ -16,14 +16,14 @@ use Rattle.buffer.specs.TableLaws.{upd-same}
 use Rattle.model.specs.Units.{unitOf}
 use Rattle.model.specs.Layout.{Store, view, bytes}
 use Rattle.model.specs.LayoutLaws.{Same, bytes-ext}
-use Rattle.model.specs.Changes.{written, erased}
 use Rattle.model.specs.Numbers.{erase, refusalsIn}
+use Rattle.model.specs.RowLaws.{Free, row}
+use Rattle.model.specs.Changes.{written, erased}
 use Rattle.model.specs.Perform.{reply, givenIn, grantedIn}
 use Rattle.model.specs.history.Ledger.{Rec, Ledger, empty, home, recordAt, rankOf, placed, state, outsOf, withRecords, granted}
 use Rattle.model.specs.history.Picture.{recordBytes, image, picture}
 use Rattle.model.specs.history.Table.{refusals}
 use Rattle.model.specs.history.Answers.{given}
-use Rattle.model.specs.RowLaws.{Free, row}
 use Rattle.model.proofs.history.ledger.Valid.{Good, empty-good, Goods, Valid}
 use Rattle.model.proofs.history.ledger.Seek.{Different}
 use Rattle.model.proofs.history.ledger.Changed.{cut-from, cut-differ}

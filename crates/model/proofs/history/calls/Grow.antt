@@ -21,13 +21,13 @@ use Rattle.model.specs.UnitLaws.{split-below}
 use Rattle.model.specs.Layout.{Store, bytes, view, keyOf, frontOf}
 use Rattle.model.specs.LayoutLaws.{Same, bytes-ext}
 use Rattle.model.specs.Numbers.{grow, refusalsIn}
-use Rattle.model.specs.Perform.{reply, givenIn, grantedIn}
+use Rattle.model.specs.RowLaws.{row}
 use Rattle.model.specs.Changes.{filterBy, recordsIn, dealt, grownState, grown}
+use Rattle.model.specs.Perform.{reply, givenIn, grantedIn}
 use Rattle.model.specs.history.Ledger.{Rec, empty, Ledger, recordAt, state, outsOf, grownLedger, granted}
 use Rattle.model.specs.history.Picture.{recordBytes, pictureSlot, pictureCheck, image, picture}
 use Rattle.model.specs.history.Table.{refusals}
 use Rattle.model.specs.history.Answers.{given}
-use Rattle.model.specs.RowLaws.{row}
 use Rattle.model.proofs.history.ledger.Valid.{Valid}
 use Rattle.model.proofs.history.ledger.States.{data-state, check-state}
 use Rattle.model.proofs.history.ledger.Dealt.{filter-ext, filter-map}
@@ -81,12 +81,14 @@ module _ (l : Ledger) (rest : List ℕ) (h : Valid l) (top : l .units ≤ 15)
   -- ---- slots
 
   -- the records for whose key a test holds
-  dealt-list : (p : ℕ → Bool) (r : ℕ) → getD (filterBy (λ x. p (keyOf x)) (recordsIn v n)) r (zeros slotBytes) ≡ recordBytes (getD (filterBy (λ (x : Rec). p (x .key)) rs) r empty)
+  dealt-list : (p : ℕ → Bool) (r : ℕ)
+      → getD (filterBy (λ x. p (keyOf x)) (recordsIn v n)) r (zeros slotBytes) ≡ recordBytes (getD (filterBy (λ (x : Rec). p (x .key)) rs) r empty)
   unfolding recordAt
   dealt-list p r =
       let e : filterBy (λ x. p (keyOf x)) (map recordBytes rs) ≡ map recordBytes (filterBy (λ (x : Rec). p (x .key)) rs) =
       filter-map recordBytes (λ x. p (keyOf x)) rs
-      ∙ ap (map recordBytes) (filter-ext (λ (x : Rec). p (keyOf (recordBytes x))) (λ (x : Rec). p (x .key)) empty rs (λ q a. ap p (key-record (getD rs q empty) (h .good n q .key)))) in
+      ∙ ap (map recordBytes) (filter-ext (λ (x : Rec). p (keyOf (recordBytes x))) (λ (x : Rec). p (x .key)) empty rs
+      (λ q a. ap p (key-record (getD rs q empty) (h .good n q .key)))) in
       rw (records-seen l rest h n (omega (arith, before)) here, e, ← empty-bytes) (List·getD-map recordBytes (filterBy (λ (x : Rec). p (x .key)) rs) r empty)
 
   to-new : (r : ℕ) → getD (filterBy (λ x. moves m (keyOf x)) (recordsIn v n)) r (zeros slotBytes) ≡ recordBytes (getD (dealtTo l m) r empty)
@@ -147,7 +149,8 @@ module _ (l : Ledger) (rest : List ℕ) (h : Valid l) (top : l .units ≤ 15)
   cstate-grown c a =
       rw (level-seen l rest h, s .cstate c a, wording m (c / 3) (h .some) (h .few) (omega arith) .brought, check-state next c)
       (by-either
-      (λ (t : Bool). pick t (pick (ltb (c % 3) (l .level)) 1 0) (state l (16 + c)) ≡ pick (ltb (c % 3) (pick t (l .level) (l .checks (c / 3)))) (pick (l .out (16 + c)) 2 1) 0)
+      (λ (t : Bool). pick t (pick (ltb (c % 3) (l .level)) 1 0) (state l (16 + c))
+      ≡ pick (ltb (c % 3) (pick t (l .level) (l .checks (c / 3)))) (pick (l .out (16 + c)) 2 1) 0)
       (4 * (c / 3))
       m
       n
@@ -159,7 +162,8 @@ module _ (l : Ledger) (rest : List ℕ) (h : Valid l) (top : l .units ≤ 15)
   was-off : (c : ℕ) → touched m (c / 3) ≡ true → eqb (state next (16 + c)) 1 ≡ false → eqb (state l (16 + c)) 1 ≡ false
   was-off c e f =
       serves l c (quiet-check l (h .calm) m new old c e)
-      ∙ fewer (c % 3) (l .checks (c / 3)) (next .checks (c / 3)) (more-checks l h top (c / 3)) (sym (serves next c (resized .marks (16 + c) ∙ quiet-check l (h .calm) m new old c e)) ∙ f)
+      ∙ fewer (c % 3) (l .checks (c / 3)) (next .checks (c / 3)) (more-checks l h top (c / 3))
+      (sym (serves next c (resized .marks (16 + c) ∙ quiet-check l (h .calm) m new old c e)) ∙ f)
 
   checks-same : (g : ℕ) → touched m g ≡ false → next .checks g ≡ l .checks g
   checks-same g e = by-raised l (λ (i : ℕ). i ≡ l .checks g) g
@@ -167,13 +171,15 @@ module _ (l : Ledger) (rest : List ℕ) (h : Valid l) (top : l .units ≤ 15)
 
   check-left : (c r : ℕ) → (touched m (c / 3) && eqb (state next (16 + c)) 1) ≡ false → pictureCheck l c r ≡ pictureCheck next c r
   check-left c r =
-      by-test (λ (t : Bool). touched m (c / 3) ≡ t → (t && eqb (state next (16 + c)) 1) ≡ false → pictureCheck l c r ≡ pictureCheck next c r) (touched m (c / 3))
+      by-test (λ (t : Bool). touched m (c / 3) ≡ t → (t && eqb (state next (16 + c)) 1) ≡ false → pictureCheck l c r ≡ pictureCheck next c r)
+      (touched m (c / 3))
       (λ _ e f. check-off l c r (was-off c e f) ∙ sym (check-off next c r f))
       (λ _ e f. check-same resized c r e (checks-same (c / 3) e))
       refl
 
   check-grown : (c r : ℕ) → c < 12 → r < l .size
-      → pick (touched m (c / 3) && eqb (state next (16 + c)) 1) (checkRecord (c % 3) (λ p. dealt v m (4 * (c / 3) + p) r)) (v .check c r) ≡ pictureCheck next c r
+      → pick (touched m (c / 3) && eqb (state next (16 + c)) 1) (checkRecord (c % 3) (λ p. dealt v m (4 * (c / 3) + p) r)) (v .check c r)
+      ≡ pictureCheck next c r
   unfolding image
   check-grown c r a b =
       by-pick (λ (x : List ℕ). x ≡ pictureCheck next c r) (touched m (c / 3) && eqb (state next (16 + c)) 1) _ (v .check c r)

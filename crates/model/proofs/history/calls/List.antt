@@ -15,12 +15,12 @@ use Rattle.buffer.specs.TableLaws.{tab-ext}
 use Rattle.model.specs.Layout.{Store, view}
 use Rattle.model.specs.Reads.{beyondIn, listedFill, wholeSlot, lostIn, totalIn, listingIn}
 use Rattle.model.specs.Numbers.{list, refusalsIn}
+use Rattle.model.specs.RowLaws.{row}
 use Rattle.model.specs.Perform.{listed, output, reply, givenIn, grantedIn}
 use Rattle.model.specs.history.Ledger.{Ledger, recordAt, isOut, beyondOf, lost, total, granted}
 use Rattle.model.specs.history.Picture.{recordBytes, picture}
 use Rattle.model.specs.history.Table.{refusals}
 use Rattle.model.specs.history.Answers.{listing, given}
-use Rattle.model.specs.RowLaws.{row}
 use Rattle.model.proofs.history.ledger.Valid.{Valid}
 use Rattle.model.proofs.history.picture.Seen.{dstate-out, beyond-seen}
 use Rattle.model.proofs.history.picture.Listed.{fill-known}
@@ -54,7 +54,8 @@ module _ (l : Ledger) (rest : List ℕ) (h : Valid l) where
     listing-seen = tab-ext 16 (λ u. tab (listedFill v u) (wholeSlot v u)) (λ u. tab (length (l .records u)) (λ r. recordBytes (recordAt l u r)))
         (λ u a.
         ap (λ (n : ℕ). tab n (wholeSlot v u)) (fills u a)
-        ∙ tab-ext (length (l .records u)) (wholeSlot v u) (λ r. recordBytes (recordAt l u r)) (λ r b. whole-slot l rest h u a (readable u a) r (omega (arith, h .fits u))))
+        ∙ tab-ext (length (l .records u)) (wholeSlot v u) (λ r. recordBytes (recordAt l u r))
+        (λ r b. whole-slot l rest h u a (readable u a) r (omega (arith, h .fits u))))
 
   pub list-simulated : (out : List ℕ) → Simulated l rest (list out)
   unfolding reply refusalsIn refusals granted grantedIn given givenIn

@@ -60,7 +60,7 @@ module _ (b : ℕ) where
       let rest : List ℕ = drop (storeBytes b) s in
       ap (λ (z : List ℕ). frontOf b 1 1 ++ ((1 ∷ zeros 15) ++ ((1 ∷ zeros 11) ++ z)))
       (ap (λ (k : ℕ). zeros k ++ rest) e ∙ ap (λ (z : List ℕ). z ++ rest) (sym (zeros-append m n)) ∙ append-assoc (zeros m) (zeros n) rest)
-      ∙ sym (rw (data-states, check-states, region-zero 16 slotBytes (pictureSlot (opened b)) slot-zero, region-zero 12 checkBytes (pictureCheck (opened b)) check-zero))
+      ∙ sym (rw (data-states, check-states, region-zero 16 slotBytes (pictureSlot (opened b)) slot-zero, region-zero 12 checkBytes _ check-zero))
 
   pub opened-valid : 1 ≤ b → b ≤ 64 → Valid (opened b)
   unfolding opened recordAt

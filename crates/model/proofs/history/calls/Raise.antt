@@ -8,14 +8,14 @@ use borrow.Author.Tests.{leb-false}
 use Rattle.buffer.specs.Bytes.{byte, bytes32}
 use Rattle.model.specs.Layout.{view, bytes, frontOf, levelIn}
 use Rattle.model.specs.LayoutLaws.{Same, bytes-ext}
-use Rattle.model.specs.Changes.{raised}
 use Rattle.model.specs.Numbers.{raise, refusalsIn}
+use Rattle.model.specs.RowLaws.{row}
+use Rattle.model.specs.Changes.{raised}
 use Rattle.model.specs.Perform.{reply, givenIn, grantedIn}
 use Rattle.model.specs.history.Ledger.{Ledger, recordAt, placed, state, granted}
 use Rattle.model.specs.history.Picture.{pictureSlot, pictureCheck, image, picture}
 use Rattle.model.specs.history.Table.{refusals}
 use Rattle.model.specs.history.Answers.{given}
-use Rattle.model.specs.RowLaws.{row}
 use Rattle.model.proofs.history.ledger.Valid.{Valid}
 use Rattle.model.proofs.history.picture.Picture.{seen}
 use Rattle.model.proofs.history.picture.Seen.{units-seen, level-seen}

@@ -10,12 +10,12 @@ use borrow.Author.Tests.{leb-false}
 use Rattle.model.specs.Layout.{view}
 use Rattle.model.specs.Reads.{homeIn, beyondIn, bodyIn}
 use Rattle.model.specs.Numbers.{read, refusalsIn}
+use Rattle.model.specs.RowLaws.{row}
 use Rattle.model.specs.Perform.{reply, givenIn, grantedIn}
 use Rattle.model.specs.history.Ledger.{Ledger, home, recordAt, rankOf, isOut, beyondOf, granted}
 use Rattle.model.specs.history.Picture.{picture}
 use Rattle.model.specs.history.Table.{refusals, number}
 use Rattle.model.specs.history.Answers.{bodyOf, given}
-use Rattle.model.specs.RowLaws.{row}
 use Rattle.model.proofs.history.ledger.Valid.{Valid}
 use Rattle.model.proofs.history.ledger.Granted.{granted-free}
 use Rattle.model.proofs.history.picture.Records.{drop-record}
@@ -31,18 +31,22 @@ unfolding refusals
 found l k out e = leb-false (length (l .records (home l k))) (rankOf (l .records (home l k)) k) (granted-free l (read k out) e .1 .1 .1 .1 .0)
 
 module _ (l : Ledger) (rest : List ℕ) (h : Valid l) where
-  pub lost-row : (k : ℕ) → (eqb (view (picture l rest) .dstate (homeIn (view (picture l rest)) k)) 2 && beyondIn (view (picture l rest)) (homeIn (view (picture l rest)) k / 4))
+  pub lost-row : (k : ℕ)
+      → (eqb (view (picture l rest) .dstate (homeIn (view (picture l rest)) k)) 2 && beyondIn (view (picture l rest)) (homeIn (view (picture l rest)) k / 4))
       ≡ (isOut l (home l k) && beyondOf l (home l k / 4))
   lost-row k =
       rw (home-seen l rest h k)
-      (ap₂ (λ (a b : Bool). a && b) (dstate-out l rest h (home l k) (home-low l rest h k)) (beyond-seen l rest h (home l k / 4) (omega (arith, home-low l rest h k))))
+      (ap₂ (λ (a b : Bool). a && b) (dstate-out l rest h (home l k) (home-low l rest h k))
+      (beyond-seen l rest h (home l k / 4) (omega (arith, home-low l rest h k))))
 
-  body-read : (k : ℕ) → Readable l (home l k) → rankOf (l .records (home l k)) k < length (l .records (home l k)) → bodyIn (view (picture l rest)) k ≡ bodyOf l k
+  body-read : (k : ℕ) → Readable l (home l k) → rankOf (l .records (home l k)) k < length (l .records (home l k))
+      → bodyIn (view (picture l rest)) k ≡ bodyOf l k
   unfolding bodyIn bodyOf
   body-read k ok a =
       let u : ℕ = home l k in
       let low : u < 16 = home-low l rest h k in
-      rw (home-seen l rest h k, rank-known l rest h u low (known l rest h u low ok) k, whole-slot l rest h u low ok (rankOf (l .records u) k) (omega (arith, h .fits u)))
+      let r : ℕ = rankOf (l .records u) k in
+      rw (home-seen l rest h k, rank-known l rest h u low (known l rest h u low ok) k, whole-slot l rest h u low ok r (omega (arith, h .fits u)))
       (drop-record (recordAt l u (rankOf (l .records u) k)))
 
   pub read-simulated : (k : ℕ) (out : List ℕ) → Simulated l rest (read k out)

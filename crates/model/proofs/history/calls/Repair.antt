@@ -15,14 +15,14 @@ use Rattle.group.specs.CheckRecord.{checkRecord}
 use Rattle.model.specs.Layout.{Store, view, bytes}
 use Rattle.model.specs.LayoutLaws.{Same, bytes-ext}
 use Rattle.model.specs.Reads.{wholeSlot}
-use Rattle.model.specs.Changes.{repaired}
 use Rattle.model.specs.Numbers.{repair, refusalsIn}
+use Rattle.model.specs.RowLaws.{row}
+use Rattle.model.specs.Changes.{repaired}
 use Rattle.model.specs.Perform.{reply, givenIn, grantedIn}
 use Rattle.model.specs.history.Ledger.{Ledger, recordAt, placed, isOut, state, beyondOf, groupOf, granted}
 use Rattle.model.specs.history.Picture.{recordBytes, pictureSlot, checkOver, pictureCheck, image, picture}
 use Rattle.model.specs.history.Table.{refusals}
 use Rattle.model.specs.history.Answers.{given}
-use Rattle.model.specs.RowLaws.{row}
 use Rattle.model.proofs.history.ledger.Valid.{Valid, marked-valid}
 use Rattle.model.proofs.history.picture.Records.{anew-over}
 use Rattle.model.proofs.history.picture.Picture.{seen}
@@ -84,24 +84,29 @@ module _ (l : Ledger) (g : ℕ) where
         (λ e.
         let d : u / 4 ≡ g = eqb-true (u / 4) g e in
         whole u r a d b ∙ sym (slot-kept (granted l (repair g)) (in-valid h) u r a (in-none u (group-data u a ∙ d)) ∙ ap recordBytes (in-at u r)))
-        (λ e. s .slot u r a b ∙ same-slot u r (sym (ap (λ (t : Bool). pick (t && eqb (state l u) 2) 1 (state l u)) e ∙ pick-false refl 1 (state l u)) ∙ in-state u (u / 4) (group-data u a)))
+        (λ e. s .slot u r a b
+        ∙ same-slot u r (sym (ap (λ (t : Bool). pick (t && eqb (state l u) 2) 1 (state l u)) e ∙ pick-false refl 1 (state l u))
+        ∙ in-state u (u / 4) (group-data u a)))
       where
         same-slot : (u r : ℕ) → state l u ≡ state (granted l (repair g)) u → pictureSlot l u r ≡ pictureSlot (granted l (repair g)) u r
         same-slot u r e = unfold pictureSlot recordAt granted in rw e
 
     in-check : (c r : ℕ) → c < 12 → r < l .size
-        → pick (eqb (c / 3) g && eqb (state l (16 + c)) 2) (checkRecord (c % 3) (λ p. wholeSlot v (4 * g + p) r)) (v .check c r) ≡ pictureCheck (granted l (repair g)) c r
+        → pick (eqb (c / 3) g && eqb (state l (16 + c)) 2) (checkRecord (c % 3) (λ p. wholeSlot v (4 * g + p) r)) (v .check c r)
+        ≡ pictureCheck (granted l (repair g)) c r
     unfolding image
     in-check c r a b =
         by-test (λ (t : Bool). pick t 1 (state l (16 + c)) ≡ state (granted l (repair g)) (16 + c)
         → pick t (checkRecord (c % 3) (λ p. wholeSlot v (4 * g + p) r)) (v .check c r) ≡ pictureCheck (granted l (repair g)) c r)
         (eqb (c / 3) g && eqb (state l (16 + c)) 2)
-        (λ e q. pick-true refl _ _ ∙ made (eqb-true (c / 3) g (and-first (eqb (c / 3) g) (eqb (state l (16 + c)) 2) e)) (sym (pick-true refl 1 (state l (16 + c))) ∙ q))
+        (λ e q. pick-true refl _ _
+        ∙ made (eqb-true (c / 3) g (and-first (eqb (c / 3) g) (eqb (state l (16 + c)) 2) e)) (sym (pick-true refl 1 (state l (16 + c))) ∙ q))
         (λ e q. pick-false refl _ _ ∙ s .check c r a b ∙ kept (sym (pick-false refl 1 (state l (16 + c))) ∙ q))
         (in-state (16 + c) (c / 3) (group-check c))
       where
         -- made anew from the rebuilt slots, and as it was
-        made : c / 3 ≡ g → 1 ≡ state (granted l (repair g)) (16 + c) → checkRecord (c % 3) (λ p. wholeSlot v (4 * g + p) r) ≡ pictureCheck (granted l (repair g)) c r
+        made : c / 3 ≡ g → 1 ≡ state (granted l (repair g)) (16 + c)
+            → checkRecord (c % 3) (λ p. wholeSlot v (4 * g + p) r) ≡ pictureCheck (granted l (repair g)) c r
         made d e =
             anew-over (c % 3) (λ p. wholeSlot v (4 * g + p) r) (λ p. recordAt l (4 * g + p) r) (λ p i. whole (4 * g + p) r (omega arith) (omega arith) b)
             ∙ unfold pictureCheck recordAt granted in rw (← e, d) (sym (pick-true refl (checkOver (c % 3) (λ p. recordAt l (4 * g + p) r)) (zeros checkBytes)))

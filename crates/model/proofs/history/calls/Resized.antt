@@ -38,7 +38,8 @@ module _ {l next : Ledger} {m : ℕ} (z : Resized l next m) where
   slot-same u r a b e = rw (e, z .kept u r a b)
 
   -- a check record of a touched group, made anew from the slots f, which are those of the picture after the call
-  pub made : (c r : ℕ) (f : ℕ → List ℕ) → c < 12 → ((u : ℕ) → u < 16 → f u ≡ pictureSlot next u r) → touched m (c / 3) ≡ true → eqb (state next (16 + c)) 1 ≡ true
+  pub made : (c r : ℕ) (f : ℕ → List ℕ) → c < 12 → ((u : ℕ) → u < 16 → f u ≡ pictureSlot next u r) → touched m (c / 3) ≡ true
+      → eqb (state next (16 + c)) 1 ≡ true
       → checkRecord (c % 3) (λ p. f (4 * (c / 3) + p)) ≡ pictureCheck next c r
   made c r f a same e on =
       anew-over (c % 3) (λ p. f (4 * (c / 3) + p)) (λ p. recordAt next (4 * (c / 3) + p) r) (λ p i.

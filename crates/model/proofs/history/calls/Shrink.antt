@@ -21,13 +21,13 @@ use Rattle.model.specs.Layout.{Store, bytes, view, frontOf}
 use Rattle.model.specs.LayoutLaws.{Same, bytes-ext}
 use Rattle.model.specs.Reads.{fillIn, outsIn}
 use Rattle.model.specs.Numbers.{shrink, refusalsIn}
-use Rattle.model.specs.Perform.{reply, givenIn, grantedIn}
+use Rattle.model.specs.RowLaws.{row}
 use Rattle.model.specs.Changes.{recordsIn, merged, shrunkState, shrunk}
+use Rattle.model.specs.Perform.{reply, givenIn, grantedIn}
 use Rattle.model.specs.history.Ledger.{Rec, empty, Ledger, recordAt, state, outsOf, shrunkLedger, granted}
 use Rattle.model.specs.history.Picture.{recordBytes, pictureSlot, pictureCheck, image, picture}
 use Rattle.model.specs.history.Table.{refusals}
 use Rattle.model.specs.history.Answers.{given}
-use Rattle.model.specs.RowLaws.{row}
 use Rattle.model.proofs.history.ledger.Valid.{Valid}
 use Rattle.model.proofs.history.ledger.States.{data-state, check-state}
 use Rattle.model.proofs.history.ledger.Shared.{wording}
@@ -91,7 +91,8 @@ module _ (l : Ledger) (rest : List ℕ) (h : Valid l) (m : ℕ) (is : l .units �
 
   record-kept : (u r : ℕ) → (u ≡ m → ⊥) → (u ≡ n → ⊥) → recordAt next u r ≡ recordAt l u r
   unfolding recordAt
-  record-kept u r a b = by-merged l m (λ (xs : List Rec). getD xs r empty ≡ getD (l .records u) r empty) u (λ e. absurd (a e)) (λ _ e. absurd (b e)) (λ _ _. refl)
+  record-kept u r a b =
+      by-merged l m (λ (xs : List Rec). getD xs r empty ≡ getD (l .records u) r empty) u (λ e. absurd (a e)) (λ _ e. absurd (b e)) (λ _ _. refl)
 
   resized : Resized l (shrunkLedger l m) m
   resized = record {
@@ -150,7 +151,8 @@ module _ (l : Ledger) (rest : List ℕ) (h : Valid l) (m : ℕ) (is : l .units �
   -- ---- check records
 
   check-shrunk : (c r : ℕ) → c < 12 → r < l .size
-      → pick (touched m (c / 3)) (pick (eqb (state next (16 + c)) 1) (checkRecord (c % 3) (λ p. merged v m (4 * (c / 3) + p) r)) (zeros checkBytes)) (v .check c r)
+      → pick (touched m (c / 3)) (pick (eqb (state next (16 + c)) 1) (checkRecord (c % 3) (λ p. merged v m (4 * (c / 3) + p) r)) (zeros checkBytes))
+      (v .check c r)
       ≡ pictureCheck next c r
   unfolding image
   check-shrunk c r a b =

@@ -11,12 +11,12 @@ use Rattle.model.specs.Layout.{view}
 use Rattle.model.specs.Reads.{totalIn}
 use Rattle.model.specs.Sound.{sound}
 use Rattle.model.specs.Numbers.{Call, teach, correct, erase, read, readInPlace, list, unitOut, repair, grow, shrink, raise, firstOf, refusalsIn, numberIn}
+use Rattle.model.specs.RowLaws.{Agree, Free, agree-first}
 use Rattle.model.specs.Perform.{copied, listed, output, reply, givenIn, grantedIn, answerIn, afterIn, perform}
 use Rattle.model.specs.history.Ledger.{Ledger, total, granted}
 use Rattle.model.specs.history.Picture.{picture}
 use Rattle.model.specs.history.Table.{refusals, number}
 use Rattle.model.specs.history.Answers.{given, answer, after}
-use Rattle.model.specs.RowLaws.{Agree, Free, agree-first}
 use Rattle.model.proofs.history.ledger.Valid.{Valid}
 use Rattle.model.proofs.history.ledger.Granted.{granted-free, granted-after, refused-after}
 
@@ -56,7 +56,9 @@ module _ (l : Ledger) (rest : List ℕ) (c : Call) (h : Simulated l rest c) wher
 
   answers-agree : answerIn (picture l rest) c ≡ answer l c
   unfolding answerIn answer
-  answers-agree = rw number-agrees (by-test (λ (t : Bool). reply c (number l c) (givenIn (picture l rest) c) (totalIn (view (picture l rest))) ≡ reply c (number l c) (given l c) (total l)) (eqb (number l c) 0)
+  answers-agree =
+      rw number-agrees (by-test (λ (t : Bool). reply c (number l c) (givenIn (picture l rest) c) (totalIn (view (picture l rest)))
+      ≡ reply c (number l c) (given l c) (total l)) (eqb (number l c) 0)
       (λ e. rw (h .hands (granted-free l c e)) (h .counts (granted-free l c e) (number l c) (given l c)))
       (λ e. refused-reply l c (givenIn (picture l rest) c) (given l c) (totalIn (view (picture l rest))) (total l) e))
 

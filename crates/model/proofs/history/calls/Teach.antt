@@ -12,12 +12,12 @@ use borrow.Author.Tests.{eqb-false, ltb-true, ltb-false, leb-false}
 use Rattle.buffer.specs.ChoiceLaws.{by-test}
 use Rattle.model.specs.Units.{unitOf}
 use Rattle.model.specs.Numbers.{teach, refusalsIn}
+use Rattle.model.specs.RowLaws.{Free, row}
 use Rattle.model.specs.Perform.{reply, givenIn, grantedIn}
 use Rattle.model.specs.history.Ledger.{Rec, Ledger, empty, home, recordAt, rankOf, outsOf, granted}
 use Rattle.model.specs.history.Table.{refusals}
 use Rattle.model.specs.history.Answers.{given}
 use Rattle.model.specs.history.Typed.{Typed}
-use Rattle.model.specs.RowLaws.{Free, row}
 use Rattle.model.proofs.history.ledger.Valid.{Good, Valid}
 use Rattle.model.proofs.history.ledger.Seek.{Without, rank-without}
 use Rattle.model.proofs.history.picture.Seen.{size-seen, home-seen, home-lt}
@@ -46,7 +46,8 @@ module _ (l : Ledger) (rest : List ℕ) (h : Valid l) where
     counts = λ f n z. refl;
     bytes = λ f. rw (fill-home l rest h k (quiet f), home-seen l rest h k)
         (write-home l rest h k (quiet f) (length rs) y (rs ++ (y ∷ [])) (room f) (good f) (snoc-at rs y) (snoc-other rs y));
-    valid = λ f. valid-with l u (rs ++ (y ∷ [])) h (home-lt l rest h k) (omega (arith, length-append rs (y ∷ []), room f)) (goods f) (keys f) (owns f) (differs f);
+    valid = λ f. valid-with l u (rs ++ (y ∷ [])) h (home-lt l rest h k) (omega (arith, length-append rs (y ∷ []), room f)) (goods f) (keys f) (owns f)
+        (differs f);
   }
     where
       u : ℕ
@@ -82,7 +83,8 @@ module _ (l : Ledger) (rest : List ℕ) (h : Valid l) where
       owns f r a = by-rank (λ (z : Rec). unitOf (l .units) (z .key) ≡ u) (snoc-at rs y r) (snoc-other rs y r) (λ e. refl)
           (λ n. h .own u r (omega (arith, length-append rs (y ∷ []))))
 
-      differs : Free (refusals l (teach k x)) → (r q : ℕ) → r < q → q < length (rs ++ (y ∷ [])) → getD (rs ++ (y ∷ [])) r empty .key ≢ getD (rs ++ (y ∷ [])) q empty .key
+      differs : Free (refusals l (teach k x)) → (r q : ℕ) → r < q → q < length (rs ++ (y ∷ []))
+          → getD (rs ++ (y ∷ [])) r empty .key ≢ getD (rs ++ (y ∷ [])) q empty .key
       differs f r q a b = rw (snoc-other rs y r (omega (arith, length-append rs (y ∷ []))))
           (by-rank (λ (z : Rec). getD rs r empty .key ≢ z .key) (snoc-at rs y q) (snoc-other rs y q)
           (λ e. new f r (omega arith)) (λ n. h .differ u r q a (omega (arith, length-append rs (y ∷ [])))))

@@ -15,14 +15,14 @@ use Rattle.buffer.specs.TableLaws.{upd-at, upd-other}
 use Rattle.group.specs.Widths.{slotBytes, checkBytes}
 use Rattle.model.specs.Layout.{Store, view, bytes}
 use Rattle.model.specs.LayoutLaws.{Same, bytes-ext}
-use Rattle.model.specs.Changes.{unitLost}
 use Rattle.model.specs.Numbers.{unitOut, refusalsIn}
+use Rattle.model.specs.RowLaws.{row}
+use Rattle.model.specs.Changes.{unitLost}
 use Rattle.model.specs.Perform.{reply, givenIn, grantedIn}
 use Rattle.model.specs.history.Ledger.{Ledger, recordAt, placed, state, granted}
 use Rattle.model.specs.history.Picture.{pictureSlot, pictureCheck, image, picture}
 use Rattle.model.specs.history.Table.{refusals}
 use Rattle.model.specs.history.Answers.{given}
-use Rattle.model.specs.RowLaws.{row}
 use Rattle.model.proofs.history.ledger.Valid.{Valid, marked-valid}
 use Rattle.model.proofs.history.ledger.States.{state-none}
 use Rattle.model.proofs.history.picture.Picture.{seen, slot-off, check-off}

@@ -10,11 +10,11 @@ use lib.ListN.{length, drop}
 use borrow.Author.Tests.{ltb-false}
 use Rattle.buffer.specs.Choice.{pick}
 use Rattle.buffer.specs.ChoiceLaws.{pick-false, pick-ext}
-use Rattle.model.specs.Layout.{view, storeBytes, unitsIn}
-use Rattle.group.specs.Widths.{bodyBytes}
+use Rattle.model.specs.Layout.{view, storeBytes, unitsIn, Store}
 use Rattle.model.specs.Reads.{homeIn, beyondIn}
 use Rattle.model.specs.Numbers.{Call, read, repair, firstOf, numberIn}
 use Rattle.model.specs.Perform.{copied, perform, layOutNumber, layOut}
+use Rattle.model.specs.GrantedLayout.{layout-granted}
 use Rattle.model.specs.history.Ledger.{Ledger, opened, home}
 use Rattle.model.specs.history.Picture.{picture}
 use Rattle.model.specs.history.Table.{refusals, number}
@@ -22,7 +22,7 @@ use Rattle.model.specs.history.Answers.{final}
 use Rattle.model.specs.history.Runs.{answersIn, finalIn, aloneIn, allGranted, lastTaught, asTaught}
 use Rattle.model.specs.history.Typed.{AllTyped}
 use Rattle.model.specs.history.Claims.{Histories, Unlost, ReadsAsTaught, BeyondRecovery, Outlives}
-use Rattle.model.specs.GrantedLayout.{layout-granted}
+use Rattle.group.specs.Widths.{bodyBytes}
 use Rattle.model.proofs.history.ledger.Valid.{Valid}
 use Rattle.model.proofs.history.taught.Recorded.{recorded}
 use Rattle.model.proofs.history.taught.Taught.{lastTaughtBy, recorded-final, recorded-opened, read-tells}
@@ -38,17 +38,20 @@ use Rattle.model.proofs.history.claims.History.{Run, ordered-of, run}
 -- ---- on the picture of a valid ledger
 
 module _ (l : Ledger) (rest : List ℕ) (h : Valid l) where
+  abbrev v : Store
+  v = view (picture l rest)
+
   -- a read tells what the ledger holds for the key
   tells : (k : ℕ) → 1 ≤ k → (out : List ℕ) → length out ≡ bodyBytes
       → perform (picture l rest) (read k out) .answer
-      ≡ pick (eqb (view (picture l rest) .dstate (homeIn (view (picture l rest)) k)) 2 && beyondIn (view (picture l rest)) (homeIn (view (picture l rest)) k / 4)) (copied 8 out) (asTaught out (recorded l k))
+      ≡ pick (eqb (v .dstate (homeIn v k)) 2 && beyondIn v (homeIn v k / 4)) (copied 8 out) (asTaught out (recorded l k))
   tells k a out fits =
       answer-agrees l rest (read k out) (read-simulated l rest h k out)
       ∙ read-tells l (ordered-of l h) k (omega arith) out fits (λ r. h .good (home l k) r .body .size)
       ∙ ap (λ (t : Bool). pick t (copied 8 out) (asTaught out (recorded l k))) (sym (lost-row l rest h k))
 
   -- a repair is refused as beyond recovery exactly where it is
-  repairs : (g : ℕ) → numberIn (picture l rest) (repair g) ≡ pick (ltb 3 g) 2 (pick (leb (unitsIn (view (picture l rest))) (4 * g)) 3 (pick (beyondIn (view (picture l rest)) g) 8 0))
+  repairs : (g : ℕ) → numberIn (picture l rest) (repair g) ≡ pick (ltb 3 g) 2 (pick (leb (unitsIn v) (4 * g)) 3 (pick (beyondIn v g) 8 0))
   unfolding number refusals firstOf
   repairs g =
       number-agrees l rest (repair g) (repair-simulated l rest h g)

@@ -18,16 +18,16 @@ use Rattle.model.specs.Layout.{Store, view, slotOf, unitsIn, levelIn, by
 use Rattle.model.specs.LayoutLaws.{bytes-view}
 use Rattle.model.specs.Reads.{homeIn, fillIn, rankIn}
 use Rattle.model.specs.Sound.{sound}
-use Rattle.model.specs.Changes.{written, erased, unitLost, repaired, grown, shrunk, raised}
+use Rattle.model.specs.SoundSays.{ranged}
 use Rattle.model.specs.Numbers.{Call, teach, correct, erase, read, readInPlace, list, unitOut, repair, grow, shrink, raise, refusalsIn, numberIn}
+use Rattle.model.specs.RowLaws.{Agree, Free, agree-first}
+use Rattle.model.specs.Changes.{written, erased, unitLost, repaired, grown, shrunk, raised}
 use Rattle.model.specs.Perform.{grantedIn, afterIn, perform}
 use Rattle.model.specs.history.Ledger.{Ledger, home, rankOf, outsOf, granted}
 use Rattle.model.specs.history.Picture.{picture, image}
 use Rattle.model.specs.history.Table.{refusals, number}
 use Rattle.model.specs.history.Typed.{Typed}
 use Rattle.model.specs.history.StaysSound.{StaysSound}
-use Rattle.model.specs.RowLaws.{Agree, Free, agree-first}
-use Rattle.model.specs.SoundSays.{ranged}
 use Rattle.model.proofs.history.ledger.Valid.{Valid}
 use Rattle.model.proofs.history.ledger.Granted.{granted-free}
 use Rattle.model.proofs.history.ledger.States.{state-le, check-state}
@@ -71,7 +71,8 @@ module _ (l : Ledger) (rest : List ℕ) (h : Valid l) (s : List ℕ) (ok : sound
 
   -- ---- a granted call, which the ledger then grants too
 
-  module _ (c : Call) (t : Typed c) (rows : Agree (refusalsIn (sound (picture l rest)) (view (picture l rest)) c) (refusalsIn (sound s) (view s) c)) (zero : numberIn s c ≡ 0) where
+  module _ (c : Call) (t : Typed c) (rows : Agree (refusalsIn (sound (picture l rest)) (view (picture l rest)) c) (refusalsIn (sound s) (view s) c))
+      (zero : numberIn s c ≡ 0) where
     simulates : Simulated l rest c
     simulates = simulated l rest h c t
 
@@ -105,7 +106,9 @@ module _ (l : Ledger) (rest : List ℕ) (h : Valid l) (s : List ℕ) (ok : sound
   -- the rank of a key that is present
   inside : (k : ℕ) → ltb 0 (outsOf l (home l k / 4)) ≡ false → leb (length (l .records (home l k))) (rankOf (l .records (home l k)) k) ≡ false
       → rankIn v (homeIn v k) k < v .size
-  inside k q i = omega (arith, size-seen l rest h, rank-home l rest h k q, h .fits (home l k), leb-false (length (l .records (home l k))) (rankOf (l .records (home l k)) k) i)
+  inside k q i =
+      let present : rankOf (l .records (home l k)) k < length (l .records (home l k)) = leb-false _ _ i in
+      omega (arith, size-seen l rest h, rank-home l rest h k q, h .fits (home l k))
 
   correct-sound : (k : ℕ) (x : List ℕ) → Typed (correct k x) → numberIn s (correct k x) ≡ 0 → sound (grantedIn s (correct k x)) ≡ true
   unfolding grantedIn refusals
@@ -126,7 +129,8 @@ module _ (l : Ledger) (rest : List ℕ) (h : Valid l) (s : List ℕ) (ok : sound
       let room : r < v .size = inside k (f .1 .1 .0) (f .1 .1 .1 .0) in
       let end : last < v .size = omega (arith, size-seen l rest h, fill-home l rest h k (f .1 .1 .0), h .fits (home l k)) in
       rw (← (rank-same v w a some few k), ← (fill-same v w a some few k), ← (home-alike v w a k))
-      (sound-alike (erased v u r last) (erased w u r last) (erased-alike v w a u r last (home-inside v w a some few k) room end) (left-sound (erase k) t rows e))
+      (sound-alike (erased v u r last) (erased w u r last) (erased-alike v w a u r last (home-inside v w a some few k) room end)
+      (left-sound (erase k) t rows e))
 
   -- ---- unit out, repair
 

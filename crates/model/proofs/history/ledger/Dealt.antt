@@ -85,7 +85,8 @@ module _ {A : Type 0} where
   filter-ext p q d (x ∷ xs) h = rw (h zero (zero-lt-suc (length xs)), filter-ext p q d xs (λ r a. h (suc r) (omega arith)))
 
   -- an element of one of two lists, one behind the other
-  pub joint : (P : A → Type 0) (d : A) (xs ys : List A) (r : ℕ) → (r < length xs → P (getD xs r d)) → ((i : ℕ) → r ≡ length xs + i → P (getD ys i d)) → P (getD (xs ++ ys) r d)
+  pub joint : (P : A → Type 0) (d : A) (xs ys : List A) (r : ℕ) → (r < length xs → P (getD xs r d)) → ((i : ℕ) → r ≡ length xs + i → P (getD ys i d))
+      → P (getD (xs ++ ys) r d)
   joint P d xs ys r a b =
       by-test
       (λ t. P (getD (xs ++ ys) r d))

@@ -5,10 +5,10 @@ use lib.Dec.{eqb}
 use borrow.Author.Tests.{eqb-true}
 use Rattle.buffer.specs.ChoiceLaws.{pick-true, pick-false}
 use Rattle.model.specs.Numbers.{Call, teach, correct, erase, read, readInPlace, list, unitOut, repair, grow, shrink, raise}
+use Rattle.model.specs.RowLaws.{Free, Numbered, first-free}
 use Rattle.model.specs.history.Ledger.{Ledger, granted}
 use Rattle.model.specs.history.Table.{refusals, number}
 use Rattle.model.specs.history.Answers.{after}
-use Rattle.model.specs.RowLaws.{Free, Numbered, first-free}
 
 numbered : (l : Ledger) (c : Call) → Numbered (refusals l c)
 unfolding refusals

@@ -61,7 +61,8 @@ module _ (l : Ledger) (h : Valid l) (top : l .units ≤ 15) where
   unfolding recordAt
   own-grown u r =
       by-dealt l (λ (xs : List Rec). r < length xs → unitOf (suc (l .units)) (getD xs r empty .key) ≡ u) u
-      (λ one a. eqb-true (unitOf (suc (l .units)) (getD (dealtTo l u) r empty .key)) u (filter-all (λ (x : Rec). Unit {0}) (goesTo l u) empty (l .records (splitPointer (l .units))) (λ q b. tt) r a .1))
+      (λ one a. eqb-true (unitOf (suc (l .units)) (getD (dealtTo l u) r empty .key)) u
+      (filter-all (λ (x : Rec). Unit {0}) (goesTo l u) empty (l .records (splitPointer (l .units))) (λ q b. tt) r a .1))
       (λ d e a. other-key (l .units) (getD (l .records u) r empty .key) (h .some) top (λ f. e (sym (h .own u r a) ∙ f)) ∙ h .own u r a)
 
   keyed-grown : (u r : ℕ) → r < length (grownLedger l .records u) → getD (grownLedger l .records u) r empty .key ≢ 0
@@ -71,7 +72,8 @@ module _ (l : Ledger) (h : Valid l) (top : l .units ≤ 15) where
       (λ one a. filter-all (λ (x : Rec). x .key ≢ 0) (goesTo l u) empty (l .records (splitPointer (l .units))) (h .keyed (splitPointer (l .units))) r a .0)
       (λ d e. h .keyed u r)
 
-  differ-grown : (u r q : ℕ) → r < q → q < length (grownLedger l .records u) → getD (grownLedger l .records u) r empty .key ≢ getD (grownLedger l .records u) q empty .key
+  differ-grown : (u r q : ℕ) → r < q → q < length (grownLedger l .records u)
+      → getD (grownLedger l .records u) r empty .key ≢ getD (grownLedger l .records u) q empty .key
   unfolding recordAt
   differ-grown u r q a =
       by-dealt l (λ (xs : List Rec). q < length xs → getD xs r empty .key ≢ getD xs q empty .key) u
@@ -112,7 +114,8 @@ module _ (l : Ledger) (h : Valid l) (top : l .units ≤ 15) where
   unfolding placed pick
   placed-grown w =
       by-test
-      (λ (t : Bool). pick t (ltb w (grownLedger l .units)) (ltb ((w - 16) % 3) (grownLedger l .checks ((w - 16) / 3))) ≡ false → pick t (ltb w (l .units)) (ltb ((w - 16) % 3) (l .checks ((w - 16) / 3))) ≡ false)
+      (λ (t : Bool). pick t (ltb w (grownLedger l .units)) (ltb ((w - 16) % 3) (grownLedger l .checks ((w - 16) / 3))) ≡ false
+      → pick t (ltb w (l .units)) (ltb ((w - 16) % 3) (l .checks ((w - 16) / 3))) ≡ false)
       (ltb w 16)
       (λ _ e. fewer w (l .units) (grownLedger l .units) (unfold grownLedger in omega arith) e)
       (λ _ e. fewer ((w - 16) % 3) (l .checks ((w - 16) / 3)) (grownLedger l .checks ((w - 16) / 3)) (more-checks ((w - 16) / 3)) e)

@@ -55,7 +55,8 @@ module _ (l : Ledger) (h : Valid l) (m : ℕ) (is : l .units ≡ suc m) (pos : 1
       (λ e a. absurd (not-suc-le-zero a))
       (λ _ e a. joint (λ (x : Rec). unitOf m (x .key) ≡ u) empty (l .records (splitPointer m)) (l .records m) r
       (λ b. kept (splitPointer m) r b (omega (arith, before)) ∙ sym e)
-      (λ i q. new-key m (getD (l .records m) i empty .key) pos top (own-unit m i (omega (arith, length-append (l .records (splitPointer m)) (l .records m)))) ∙ sym e))
+      (λ i q. new-key m (getD (l .records m) i empty .key) pos top (own-unit m i (omega (arith, length-append (l .records (splitPointer m)) (l .records m))))
+      ∙ sym e))
       (λ d _ a. kept u r a d)
     where
       kept : (u r : ℕ) → r < length (l .records u) → (u ≡ m → ⊥) → unitOf m (getD (l .records u) r empty .key) ≡ u
@@ -76,7 +77,8 @@ module _ (l : Ledger) (h : Valid l) (m : ℕ) (is : l .units ≡ suc m) (pos : 1
   unfolding recordAt
   differ-both r q a b =
       joint (λ (y : Rec). getD (bothLists l m) r empty .key ≢ y .key) empty (l .records (splitPointer m)) (l .records m) q
-      (λ c. subst (λ (x : Rec). x .key ≢ getD (l .records (splitPointer m)) q empty .key) (sym (List·getD-append (l .records (splitPointer m)) (l .records m) empty r (omega arith))) (h .differ (splitPointer m) r q a c))
+      (λ c. subst (λ (x : Rec). x .key ≢ getD (l .records (splitPointer m)) q empty .key)
+      (sym (List·getD-append (l .records (splitPointer m)) (l .records m) empty r (omega arith))) (h .differ (splitPointer m) r q a c))
       (λ i c.
       let d : i < length (l .records m) = omega (arith, length-append (l .records (splitPointer m)) (l .records m)) in
       joint (λ (x : Rec). x .key ≢ getD (l .records m) i empty .key) empty (l .records (splitPointer m)) (l .records m) r
@@ -86,7 +88,8 @@ module _ (l : Ledger) (h : Valid l) (m : ℕ) (is : l .units ≡ suc m) (pos : 1
       apart : splitPointer m ≡ m → ⊥
       apart e = omega (arith, before)
 
-  differ-shrunk : (u r q : ℕ) → r < q → q < length (shrunkLedger l m .records u) → getD (shrunkLedger l m .records u) r empty .key ≢ getD (shrunkLedger l m .records u) q empty .key
+  differ-shrunk : (u r q : ℕ) → r < q → q < length (shrunkLedger l m .records u)
+      → getD (shrunkLedger l m .records u) r empty .key ≢ getD (shrunkLedger l m .records u) q empty .key
   unfolding recordAt
   differ-shrunk u r q a =
       by-merged l m (λ (xs : List Rec). q < length xs → getD xs r empty .key ≢ getD xs q empty .key) u

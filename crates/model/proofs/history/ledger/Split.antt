@@ -69,7 +69,8 @@ step p n k h = go (ltb (k % p) n) (ltb (k % p) (suc n)) refl refl
 -- all p units split is 2 p units with none split
 full : (p k : ℕ) → 0 < p → unitAt p p k ≡ unitAt (2 * p) 0 k
 unfolding unitAt
-full p k h = pick-true (lt-ltb (k % p) p (mod-lt k h)) (k % (2 * p)) (k % p) ∙ sym (pick-false (le-ltb (k % (2 * p)) 0 (omega arith)) (k % (2 * (2 * p))) (k % (2 * p)))
+full p k h =
+    pick-true (lt-ltb (k % p) p (mod-lt k h)) (k % (2 * p)) (k % p) ∙ sym (pick-false (le-ltb (k % (2 * p)) 0 (omega arith)) (k % (2 * (2 * p))) (k % (2 * p)))
 
 module _ (m k : ℕ) (lo : 1 ≤ m) where
   at-now : unitOf m k ≡ unitAt (powerBelow m) (splitPointer m) k

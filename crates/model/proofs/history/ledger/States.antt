@@ -9,8 +9,8 @@ use Rattle.buffer.specs.Choice.{pick}
 use Rattle.buffer.specs.Range.{count}
 use Rattle.buffer.specs.RangeLaws.{count-zero}
 use Rattle.buffer.specs.TestLaws.{not-both}
-use Rattle.model.specs.history.Ledger.{Ledger, placed, isOut, state, outsOf}
 use Rattle.model.specs.SoundSays.{Stateful}
+use Rattle.model.specs.history.Ledger.{Ledger, placed, isOut, state, outsOf}
 
 -- two tests of which just one holds where a third does, counted
 count-both : (n : ℕ) (f g h : ℕ → Bool) → ((k : ℕ) → _≡_ {A = ℕ} (pick (f k) 1 0 + pick (g k) 1 0) (pick (h k) 1 0)) → count n f + count n g ≡ count n h
@@ -20,7 +20,8 @@ count-both (suc n) f g h e = omega (arith, count-both n f g h e, e n)
 
 module _ (l : Ledger) where
   -- a unit is out, in service, or not in place: whether it is in place, whether it is marked out, and its state
-  pub by-state {ℓ} : (P : Bool → Bool → ℕ → Type ℓ) (w : ℕ) → P true true 2 → P true false 1 → ((o : Bool) → P false o 0) → P (placed l w) (l .out w) (state l w)
+  pub by-state {ℓ} : (P : Bool → Bool → ℕ → Type ℓ) (w : ℕ) → P true true 2 → P true false 1 → ((o : Bool) → P false o 0)
+      → P (placed l w) (l .out w) (state l w)
   unfolding state pick
   by-state P w lost serves absent = go (placed l w) (l .out w)
     where

@@ -77,7 +77,8 @@ module _ (l : Ledger) (rest : List ℕ) (h : Valid l) where
         let d : 4 * g + u % 4 ≡ u = omega arith in
         omega (
           arith,
-          count-ext 3 (λ j. eqb (v .cstate (3 * g + j)) 1) (λ j. eqb (state l (16 + (3 * g + j))) 1) (λ j q. ap (λ (n : ℕ). eqb n 1) (cstate-is l rest h (3 * g + j) (omega arith))),
+          count-ext 3 (λ j. eqb (v .cstate (3 * g + j)) 1) (λ j. eqb (state l (16 + (3 * g + j))) 1)
+              (λ j q. ap (λ (n : ℕ). eqb n 1) (cstate-is l rest h (3 * g + j) (omega arith))),
           count-pos 4 (λ p. isOut l (4 * g + p)) (u % 4) (omega arith) (ap (isOut l) d ∙ e),
           serving-count l 3 (λ j. 16 + (3 * g + j)),
           ltb-false (count 3 (λ j. placed l (16 + (3 * g + j)))) (outsOf l g) nb,
@@ -91,7 +92,8 @@ module _ (l : Ledger) (rest : List ℕ) (h : Valid l) where
       unfolding holds bodies image
       holds-data p a e =
           pick-true (lt-ltb p 4 a) _ _
-          ∙ ap (drop keyBytes) (s .slot (4 * g + p) r (omega arith) hr ∙ slot-kept l h (4 * g + p) r (omega arith) (not-true (isOut l (4 * g + p)) (sym (serving-data p a) ∙ e)))
+          ∙ ap (drop keyBytes) (s .slot (4 * g + p) r (omega arith) hr
+          ∙ slot-kept l h (4 * g + p) r (omega arith) (not-true (isOut l (4 * g + p)) (sym (serving-data p a) ∙ e)))
           ∙ drop-record (recordAt l (4 * g + p) r)
 
       holds-check : (j : ℕ) → j < 3 → servesIn v g (4 + j) ≡ true → holds v g r (4 + j) ≡ parity j bodies
@@ -115,11 +117,14 @@ module _ (l : Ledger) (rest : List ℕ) (h : Valid l) where
     known e = one-serves (u / 4) (omega arith) (not-first (isOut l u) (beyondOf l (u / 4)) ok e) u refl e
 
     whole-out : (r : ℕ) → r < l .size → isOut l u ≡ true
-        → pick (eqb (keyOf (listedKey v u r)) 0) (zeros slotBytes) (listedKey v u r ++ rebuilt (servesIn v (u / 4)) (holds v (u / 4) r) (u % 4)) ≡ recordBytes (recordAt l u r)
+        → pick (eqb (keyOf (listedKey v u r)) 0) (zeros slotBytes) (listedKey v u r ++ rebuilt (servesIn v (u / 4)) (holds v (u / 4) r) (u % 4))
+        ≡ recordBytes (recordAt l u r)
     unfolding recordBytes
     whole-out r hr e = rw (key-kept l rest h u hu known r hr)
         (by-pick (λ (x : List ℕ). x ≡ recordBytes (recordAt l u r)) (eqb (keyOf (bytes32 (recordAt l u r .key))) 0) _ _
-        (λ q. sym (ap recordBytes (no-record u r (sym (key-bytes (recordAt l u r .key) (h .good u r .key)) ∙ eqb-true (keyOf (bytes32 (recordAt l u r .key))) 0 q)) ∙ empty-bytes))
+        (λ q.
+        let key : recordAt l u r .key ≡ 0 = sym (key-bytes (recordAt l u r .key) (h .good u r .key)) ∙ eqb-true _ 0 q in
+        sym (ap recordBytes (no-record u r key) ∙ empty-bytes))
         (λ q.
         let g : ℕ = u / 4 in
         let d : 4 * g + u % 4 ≡ u = omega arith in

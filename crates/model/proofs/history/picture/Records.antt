@@ -83,7 +83,8 @@ slots-wide : (f : ℕ → Rec) → ((p : ℕ) → Good (f p)) → Wide 4 slotByt
 slots-wide f h p l = length-record (f p) (h p)
 
 pub length-over : (j : ℕ) (f : ℕ → Rec) → ((p : ℕ) → Good (f p)) → length (checkOver j f) ≡ checkBytes
-length-over j f h = ap length (sym (anew-over j (λ p. recordBytes (f p)) f (λ p l. refl))) ∙ length-checkRecord bodyBytes j (λ p. recordBytes (f p)) (slots-wide f h)
+length-over j f h =
+    ap length (sym (anew-over j (λ p. recordBytes (f p)) f (λ p l. refl))) ∙ length-checkRecord bodyBytes j (λ p. recordBytes (f p)) (slots-wide f h)
 
 -- over no records
 pub over-empty : (j : ℕ) → j < 3 → checkOver j (λ p. empty) ≡ zeros checkBytes

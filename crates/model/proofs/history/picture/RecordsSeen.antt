@@ -17,5 +17,6 @@ pub records-seen : (l : Ledger) (rest : List ℕ) (h : Valid l) (u : ℕ) → u 
 unfolding recordsIn recordAt
 records-seen l rest h u a e =
     rw (fill-seen l rest h u a e)
-    (rows-ext (length (l .records u)) (view (picture l rest) .slot u) (λ r. recordBytes (getD (l .records u) r empty)) (λ r b. slot-seen l rest h u a e r (omega (arith, h .fits u)))
+    (rows-ext (length (l .records u)) (view (picture l rest) .slot u) (λ r. recordBytes (getD (l .records u) r empty))
+    (λ r b. slot-seen l rest h u a e r (omega (arith, h .fits u)))
     ∙ rows-map recordBytes empty (l .records u))

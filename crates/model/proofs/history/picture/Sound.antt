@@ -200,7 +200,8 @@ module _ (l : Ledger) (rest : List ℕ) (h : Valid l) where
 
   lists-true : listsAgree v ≡ true
   unfolding listsAgree
-  lists-true = all-holds 12 _ (λ c a. not-or (eqb (v .cstate c) 1) _ (λ e. all-holds (v .size) _ (λ r b. all-holds 4 _ (λ p d. list-test c a e r (rank r b) p d))))
+  lists-true =
+      all-holds 12 _ (λ c a. not-or (eqb (v .cstate c) 1) _ (λ e. all-holds (v .size) _ (λ r b. all-holds 4 _ (λ p d. list-test c a e r (rank r b) p d))))
 
   pub picture-sound : sound (picture l rest) ≡ true
   unfolding sound

@@ -3,7 +3,7 @@
 use Prim.Native.Nat.{ℕ, _+_, _*_, _/_, _%_, _<_}
 use mathlib.Core.Path.{_≡_, refl, sym, ap, _∙_}
 use mathlib.Core.List.{List}
-use mathlib.Core.Bool.{Bool, true, false, _&&_, and-true, and-false}
+use mathlib.Core.Bool.{Bool, _&&_, and-true, and-false}
 use native.Mathlib.Omega.{arith}
 use lib.Dec.{eqb}
 use lib.ListN.{getD, take, drop}
@@ -54,11 +54,13 @@ module _ (l : Ledger) (u r : ℕ) (x : Rec) (rs : List Rec)
   abbrev group : Ledger → ℕ → ℕ → ℕ → Rec
   group k c q p = recordAt k (4 * (c / 3) + p) q
 
+  -- a check record of check place j that follows the record at rank r
+  abbrev patch : ℕ → List ℕ → List ℕ
+  patch j = patched j (u % 4) (take keyBytes (recordBytes x)) (addBody (drop keyBytes (recordBytes (recordAt l u r))) (drop keyBytes (recordBytes x)))
+
   module _ (h : Goods l) (g : Good x) where
     -- a check record at the rank and of the group
-    follows : (c q : ℕ) → c / 3 ≡ u / 4 → q ≡ r
-        → patched (c % 3) (u % 4) (take keyBytes (recordBytes x)) (addBody (drop keyBytes (recordBytes (recordAt l u r))) (drop keyBytes (recordBytes x))) (checkOver (c % 3) (group l c q))
-        ≡ checkOver (c % 3) (group m c q)
+    follows : (c q : ℕ) → c / 3 ≡ u / 4 → q ≡ r → patch (c % 3) (checkOver (c % 3) (group l c q)) ≡ checkOver (c % 3) (group m c q)
     follows c q e1 e2 =
         let p : ℕ = u % 4 in
         let k : recordAt l u r ≡ group l c q p = ap (λ (n : ℕ). recordAt l n r) (omega arith) ∙ ap (λ (n : ℕ). recordAt l (4 * (c / 3) + p) n) (sym e2) in
@@ -74,6 +76,18 @@ module _ (l : Ledger) (u r : ℕ) (x : Rec) (rs : List Rec)
     stays : (c q : ℕ) → (c / 3 ≡ u / 4 → q ≡ r → ⊥) → checkOver (c % 3) (group l c q) ≡ checkOver (c % 3) (group m c q)
     stays c q n = over-ext (c % 3) (group l c q) (group m c q) (λ i a. sym (miss (4 * (c / 3) + i) q (λ e1 e2. n (omega arith) e2)))
 
+    patched-check : (c q : ℕ)
+        → pick (eqb (c / 3) (u / 4) && eqb q r && eqb (state l (16 + c)) 1) (patch (c % 3) (pictureCheck l c q)) (pictureCheck l c q) ≡ pictureCheck m c q
+    patched-check c q =
+        by-test (λ (t : Bool). eqb (state l (16 + c)) 1 ≡ t
+        → pick (eqb (c / 3) (u / 4) && eqb q r && t) (patch (c % 3) (pictureCheck l c q)) (pictureCheck l c q) ≡ pictureCheck m c q)
+        (eqb (state l (16 + c)) 1)
+        (λ _ e. rw (and-true, check-on l c q e, check-on m c q (rw (same-state (16 + c)) e))
+        (by-both (λ (t : Bool). pick t (patch (c % 3) (checkOver (c % 3) (group l c q))) (checkOver (c % 3) (group l c q)) ≡ checkOver (c % 3) (group m c q))
+        (c / 3) (u / 4) q r (λ d f. pick-true refl _ _ ∙ follows c q d f) (λ n. pick-false refl _ _ ∙ stays c q n)))
+        (λ _ e. rw and-false (pick-false refl _ _ ∙ check-off l c q e ∙ sym (check-off m c q (rw (same-state (16 + c)) e))))
+        refl
+
     -- ---- the parts v are the picture of l
 
     module _ (v : Store) (rest : List ℕ) (s : Same v (image l rest)) (hu : u < 16) (hr : r < l .size) (here : state l u ≡ 1) where
@@ -84,7 +98,8 @@ module _ (l : Ledger) (u r : ℕ) (x : Rec) (rs : List Rec)
       slots : (w q : ℕ) → w < 16 → q < l .size → pick (eqb w u && eqb q r) (recordBytes x) (v .slot w q) ≡ pictureSlot m w q
       unfolding pictureSlot image
       slots w q a b = by-both (λ (t : Bool). pick t (recordBytes x) (v .slot w q) ≡ pictureSlot m w q) w u q r
-          (λ e f. pick-true refl (recordBytes x) (v .slot w q) ∙ sym (rw (hit w q e f, same-state w, e, here) (pick-true refl (recordBytes x) (zeros slotBytes))))
+          (λ e f. pick-true refl (recordBytes x) (v .slot w q)
+          ∙ sym (rw (hit w q e f, same-state w, e, here) (pick-true refl (recordBytes x) (zeros slotBytes))))
           (λ n. pick-false refl (recordBytes x) (v .slot w q) ∙ rw (miss w q n, same-state w) (s .slot w q a b))
 
       checks : (c q : ℕ) → c < 12 → q < l .size
@@ -92,23 +107,7 @@ module _ (l : Ledger) (u r : ℕ) (x : Rec) (rs : List Rec)
           (patched (c % 3) (u % 4) (take keyBytes (recordBytes x)) (addBody (drop keyBytes (v .slot u r)) (drop keyBytes (recordBytes x))) (v .check c q))
           (v .check c q) ≡ pictureCheck m c q
       unfolding image
-      checks c q a b = rw (s .cstate c a, s .check c q a b, old)
-          (by-test (λ (t : Bool). eqb (state l (16 + c)) 1 ≡ t → pick (eqb (c / 3) (u / 4) && eqb q r && eqb (state l (16 + c)) 1) (new c q) (pictureCheck l c q) ≡ pictureCheck m c q)
-          (eqb (state l (16 + c)) 1) (λ _ e. on e) (λ _ e. off e) refl)
-        where
-          new : ℕ → ℕ → List ℕ
-          new c q = patched (c % 3) (u % 4) (take keyBytes (recordBytes x)) (addBody (drop keyBytes (recordBytes (recordAt l u r))) (drop keyBytes (recordBytes x))) (pictureCheck l c q)
-
-          off : eqb (state l (16 + c)) 1 ≡ false → pick (eqb (c / 3) (u / 4) && eqb q r && eqb (state l (16 + c)) 1) (new c q) (pictureCheck l c q) ≡ pictureCheck m c q
-          off e = rw (e, and-false) (pick-false refl (new c q) (pictureCheck l c q) ∙ check-off l c q e ∙ sym (check-off m c q (rw (same-state (16 + c)) e)))
-
-          on : eqb (state l (16 + c)) 1 ≡ true → pick (eqb (c / 3) (u / 4) && eqb q r && eqb (state l (16 + c)) 1) (new c q) (pictureCheck l c q) ≡ pictureCheck m c q
-          on e = rw (e, and-true, check-on l c q e, check-on m c q (rw (same-state (16 + c)) e))
-              (by-both (λ (t : Bool). pick t
-              (patched (c % 3) (u % 4) (take keyBytes (recordBytes x)) (addBody (drop keyBytes (recordBytes (recordAt l u r))) (drop keyBytes (recordBytes x))) (checkOver (c % 3) (group l c q)))
-              (checkOver (c % 3) (group l c q)) ≡ checkOver (c % 3) (group m c q)) (c / 3) (u / 4) q r
-              (λ d f. pick-true refl _ _ ∙ follows c q d f)
-              (λ n. pick-false refl _ _ ∙ stays c q n))
+      checks c q a b = rw (s .cstate c a, s .check c q a b, old) (patched-check c q)
 
       pub write-same : Same (written v u r (recordBytes x)) (image (withRecords l u rs) rest)
       unfolding written image m withRecords

@@ -17,12 +17,12 @@ use Rattle.buffer.specs.Table.{upd}
 use Rattle.model.specs.Units.{splitPointer, unitOf}
 use Rattle.model.specs.UnitLaws.{split-below, unit-below}
 use Rattle.model.specs.Numbers.{Call, teach, correct, erase, read, readInPlace, list, unitOut, repair, grow, shrink, raise}
+use Rattle.model.specs.RowLaws.{Free}
 use Rattle.model.specs.Changes.{filterBy}
 use Rattle.model.specs.history.Ledger.{Rec, empty, Ledger, home, recordAt, rankOf, withRecords, grownLedger, shrunkLedger, granted}
 use Rattle.model.specs.history.Table.{refusals, number}
 use Rattle.model.specs.history.Answers.{after}
 use Rattle.model.specs.history.Runs.{taughtBy}
-use Rattle.model.specs.RowLaws.{Free}
 use Rattle.model.proofs.history.ledger.Granted.{granted-free, granted-after, refused-after}
 use Rattle.model.proofs.history.ledger.Seek.{seek, Different, Without, orElse, or-none, none-or, seek-append, seek-filter, seek-miss, seek-hit, rank-key}
 use Rattle.model.proofs.history.ledger.Seek.{rank-without}
@@ -177,7 +177,8 @@ module _ (l : Ledger) (h : Ordered l) (k : ℕ) where
   recorded-shrunk : (m : ℕ) → l .units ≡ suc m → 1 ≤ m → recorded (shrunkLedger l m) k ≡ recorded l k
   unfolding recorded home shrunkLedger
   recorded-shrunk m is pos =
-      ap (λ (xs : List Rec). seek xs k) (pick-false (ne-eqb u m (omega (arith, unit-below m k pos))) [] (pick (eqb u n) (l .records n ++ l .records m) (l .records u)))
+      ap (λ (xs : List Rec). seek xs k)
+      (pick-false (ne-eqb u m (omega (arith, unit-below m k pos))) [] (pick (eqb u n) (l .records n ++ l .records m) (l .records u)))
       ∙ rw is (by-pick
       (λ (xs : List Rec). seek xs k ≡ seek (l .records (unitOf (suc m) k)) k)
       (eqb u n)
