@@ -1,22 +1,23 @@
 -- What one call owes on a picture, and what follows of it: number, answer, bytes, and a valid ledger again. Assumes nothing.
 use Prim.Native.Nat.{ℕ}
-use mathlib.Core.Path.{_≡_, refl, sym, ap, ap₂, _∙_}
-use mathlib.Core.List.{List, _++_}
-use mathlib.Core.Bool.{Bool, false}
+use mathlib.Core.Path.{_≡_, sym, ap, _∙_}
+use mathlib.Core.List.{List}
+use mathlib.Core.Bool.{Bool}
 use lib.Dec.{eqb}
-use lib.ListN.{length, drop}
-use Rattle.buffer.specs.ChoiceLaws.{by-test, by-pick, pick-false}
-use Rattle.buffer.specs.TestLaws.{not-both}
+use Rattle.buffer.specs.ChoiceLaws.{by-test, by-pick}
 use Rattle.model.specs.Layout.{view}
 use Rattle.model.specs.Reads.{totalIn}
 use Rattle.model.specs.Sound.{sound}
-use Rattle.model.specs.Numbers.{Call, teach, correct, erase, read, readInPlace, list, unitOut, repair, grow, shrink, raise, firstOf, refusalsIn, numberIn}
+use Rattle.model.specs.Numbers.{Call, refusalsIn, numberIn}
 use Rattle.model.specs.RowLaws.{Agree, Free, agree-first}
-use Rattle.model.specs.Perform.{copied, listed, output, reply, givenIn, grantedIn, answerIn, afterIn, perform}
+use Rattle.model.specs.Perform.{reply, givenIn, grantedIn, answerIn, afterIn, perform}
 use Rattle.model.specs.history.Ledger.{Ledger, total, granted}
 use Rattle.model.specs.history.Picture.{picture}
 use Rattle.model.specs.history.Table.{refusals, number}
 use Rattle.model.specs.history.Answers.{given, answer, after}
+use borrow.Author.Tests.{eqb-false}
+use mathlib.Core.Logic.{_≢_}
+use Rattle.model.proofs.Refusals.{refused-reply}
 use Rattle.model.proofs.history.ledger.Valid.{Valid}
 use Rattle.model.proofs.history.ledger.Granted.{granted-free, granted-after, refused-after}
 
@@ -26,28 +27,6 @@ pub record Simulated (l : Ledger) (rest : List ℕ) (c : Call) : Type 0 where
   pub counts : Free (refusals l c) → (n : ℕ) (y : List ℕ) → reply c n y (totalIn (view (picture l rest))) ≡ reply c n y (total l)
   pub bytes : Free (refusals l c) → grantedIn (picture l rest) c ≡ picture (granted l c) rest
   pub valid : Free (refusals l c) → Valid (granted l c)
-
-refused-output : (n : ℕ) (y out : List ℕ) → eqb n 0 ≡ false → output n y out ≡ out
-unfolding output
-refused-output n y out e = pick-false e (y ++ drop (length y) out) out
-
--- a refused call hands back nothing, whatever would have been handed back
-refused-reply : (l : Ledger) (c : Call) (y z : List ℕ) (m n : ℕ) → eqb (number l c) 0 ≡ false → reply c (number l c) y m ≡ reply c (number l c) z n
-unfolding reply number refusals firstOf
-refused-reply l (teach k x) y z m n e = refl
-refused-reply l (correct k x) y z m n e = refl
-refused-reply l (erase k) y z m n e = refl
-refused-reply l (read k out) y z m n e =
-    ap (copied (number l (read k out))) (refused-output (number l (read k out)) y out e ∙ sym (refused-output (number l (read k out)) z out e))
-refused-reply l (readInPlace k) y z m n e = not-both refl e
-refused-reply l (list out) y z m n e =
-    ap₂ (listed (number l (list out))) (pick-false e m 0 ∙ sym (pick-false e n 0))
-    (refused-output (number l (list out)) y out e ∙ sym (refused-output (number l (list out)) z out e))
-refused-reply l (unitOut w) y z m n e = refl
-refused-reply l (repair g) y z m n e = refl
-refused-reply l grow y z m n e = refl
-refused-reply l shrink y z m n e = refl
-refused-reply l raise y z m n e = refl
 
 module _ (l : Ledger) (rest : List ℕ) (c : Call) (h : Simulated l rest c) where
   pub number-agrees : numberIn (picture l rest) c ≡ number l c
@@ -60,7 +39,10 @@ module _ (l : Ledger) (rest : List ℕ) (c : Call) (h : Simulated l rest c) wher
       rw number-agrees (by-test (λ (t : Bool). reply c (number l c) (givenIn (picture l rest) c) (totalIn (view (picture l rest)))
       ≡ reply c (number l c) (given l c) (total l)) (eqb (number l c) 0)
       (λ e. rw (h .hands (granted-free l c e)) (h .counts (granted-free l c e) (number l c) (given l c)))
-      (λ e. refused-reply l c (givenIn (picture l rest) c) (given l c) (totalIn (view (picture l rest))) (total l) e))
+      (λ e.
+      let z : number l c ≢ 0 = eqb-false (number l c) 0 e in
+      refused-reply (picture l rest) c (number l c) (givenIn (picture l rest) c) (totalIn (view (picture l rest))) number-agrees z
+      ∙ sym (refused-reply (picture l rest) c (number l c) (given l c) (total l) number-agrees z)))
 
   afters-agree : afterIn (picture l rest) c ≡ picture (after l c) rest
   unfolding afterIn

@@ -70,72 +70,55 @@ module _ (l : Ledger) (k : ℕ) where
 -- ---- teach, correct, erase
 
 module _ (l : Ledger) (h : Ordered l) (k : ℕ) where
+  -- the list of the unit of key j, and the place of the key there
+  abbrev rs : ℕ → List Rec
+  rs j = l .records (home l j)
+
+  abbrev n : ℕ → ℕ
+  n j = rankOf (l .records (home l j)) j
+
   recorded-teach : (j : ℕ) (x : List ℕ) → Free (refusals l (teach j x)) → recorded (granted l (teach j x)) k ≡ taughtBy k (teach j x) 0 (recorded l k)
   unfolding granted taughtBy refusals
-  recorded-teach j x f = put-list l k j (rs ++ (y ∷ [])) (some x)
-      (λ e. seek-append rs (y ∷ []) k ∙ rw (seek-miss rs k (λ r a q. fresh r a (q ∙ sym e))) (none-or (seek (y ∷ []) k) ∙ one-hit e))
-      (λ n. seek-append rs (y ∷ []) k ∙ rw (one-miss n) (or-none (seek rs k)))
+  recorded-teach j x f = put-list l k j (rs j ++ (y ∷ [])) (some x)
+      (λ e. seek-append (rs j) (y ∷ []) k ∙ rw (seek-miss (rs j) k (λ r a q. fresh r a (q ∙ sym e))) (none-or (seek (y ∷ []) k) ∙ one-hit e))
+      (λ d. seek-append (rs j) (y ∷ []) k ∙ rw (one-miss d) (or-none (seek (rs j) k)))
     where
-      rs : List Rec
-      rs = l .records (home l j)
-
       y : Rec
       y = record { key = j; body = x }
 
-      fresh : Without rs j
-      fresh = rank-without rs j (ltb-false (rankOf rs j) (length rs) (f .1 .1 .1 .1 .0))
+      fresh : Without (rs j) j
+      fresh = rank-without (rs j) j (ltb-false (n j) (length (rs j)) (f .1 .1 .1 .1 .0))
 
       one-hit : j ≡ k → seek (y ∷ []) k ≡ some x
       one-hit e = seek-hit (y ∷ []) k 0 (λ r q a b. absurd (omega arith)) (omega arith) e
 
       one-miss : (j ≡ k → ⊥) → seek (y ∷ []) k ≡ none
-      one-miss n = seek-miss (y ∷ []) k alone
+      one-miss d = seek-miss (y ∷ []) k alone
         where
           alone : Without (y ∷ []) k
-          alone zero a = n
+          alone zero a = d
           alone (suc r) a = absurd (omega arith)
 
   recorded-correct : (j : ℕ) (x : List ℕ) → Free (refusals l (correct j x)) → recorded (granted l (correct j x)) k ≡ taughtBy k (correct j x) 0 (recorded l k)
   unfolding granted taughtBy refusals
-  recorded-correct j x f = put-list l k j (set rs (rankOf rs j) y) (some x)
-      (λ e. ap (seek (set rs (rankOf rs j) y)) (sym e) ∙ set-seek rs d (rankOf rs j) y inside (rank-key rs j inside))
-      (λ n. set-other rs d (rankOf rs j) y inside (rank-key rs j inside) k n)
-    where
-      rs : List Rec
-      rs = l .records (home l j)
-
-      y : Rec
-      y = record { key = j; body = x }
-
-      d : Different rs
-      d = different l h (home l j)
-
-      inside : rankOf rs j < length rs
-      inside = leb-false (length rs) (rankOf rs j) (f .1 .1 .1 .1 .0)
+  recorded-correct j x f =
+      let y : Rec = record { key = j; body = x } in
+      let inside : n j < length (rs j) = leb-false _ _ (f .1 .1 .1 .1 .0) in
+      let hit : getD (rs j) (n j) empty .key ≡ j = rank-key (rs j) j inside in
+      put-list l k j (set (rs j) (n j) y) (some x)
+      (λ e. ap (seek (set (rs j) (n j) y)) (sym e) ∙ set-seek (rs j) (different l h (home l j)) (n j) y inside hit)
+      (set-other (rs j) (different l h (home l j)) (n j) y inside hit k)
 
   recorded-erase : (j : ℕ) → Free (refusals l (erase j)) → recorded (granted l (erase j)) k ≡ taughtBy k (erase j) 0 (recorded l k)
   unfolding granted taughtBy refusals
-  recorded-erase j f = put-list l k j (cut rs n (pred (length rs))) none
-      (λ e. ap (seek (cut rs n (pred (length rs)))) (sym (hit ∙ e)) ∙ cut-seek rs d n (pred (length rs)) inside end)
-      (λ e. cut-other rs d n (pred (length rs)) inside end k (λ w. e (sym hit ∙ w)))
-    where
-      rs : List Rec
-      rs = l .records (home l j)
-
-      n : ℕ
-      n = rankOf rs j
-
-      d : Different rs
-      d = different l h (home l j)
-
-      inside : rankOf rs j < length rs
-      inside = leb-false (length rs) (rankOf rs j) (f .1 .1 .1 .0)
-
-      end : length rs ≡ suc (pred (length rs))
-      end = omega (arith, inside)
-
-      hit : getD rs (rankOf rs j) empty .key ≡ j
-      hit = rank-key rs j inside
+  recorded-erase j f =
+      let e : ℕ = pred (length (rs j)) in
+      let inside : n j < length (rs j) = leb-false _ _ (f .1 .1 .1 .0) in
+      let end : length (rs j) ≡ suc e = omega arith in
+      let hit : getD (rs j) (n j) empty .key ≡ j = rank-key (rs j) j inside in
+      put-list l k j (cut (rs j) (n j) e) none
+      (λ d. ap (seek (cut (rs j) (n j) e)) (sym (hit ∙ d)) ∙ cut-seek (rs j) (different l h (home l j)) (n j) e inside end)
+      (λ d. cut-other (rs j) (different l h (home l j)) (n j) e inside end k (λ w. d (sym hit ∙ w)))
 
   -- ---- grow and shrink move records, and change none
 
