@@ -4,20 +4,21 @@ use Prim.Native.Nat.{ℕ, _+_, _*_, _/_, _%_, _≤_, _<_}
 use mathlib.Core.Path.{_≡_, refl, sym, ap, _∙_}
 use mathlib.Core.List.{List}
 use native.Mathlib.Omega.{arith}
+use mathlib.Core.Bool.{false}
 use lib.Dec.{eqb}
 use borrow.Author.Tests.{eq-eqb, ne-eqb, eqb-true, eqb-false}
 use Rattle.buffer.specs.Choice.{pick}
 use Rattle.buffer.specs.ChoiceLaws.{by-test, pick-true, pick-false}
 use Rattle.buffer.specs.Range.{first}
-use Rattle.buffer.specs.RangeLaws.{first-ext, first-le, first-misses}
+use Rattle.buffer.specs.RangeLaws.{first-ext}
 use Rattle.buffer.specs.Bytes.{byte, be32, part}
 use Rattle.buffer.specs.Strided.{strided32, Within}
 use Rattle.buffer.specs.ByteLaws.{be32-part}
 use Rattle.buffer.specs.SpliceLaws.{part-part}
 use Rattle.group.specs.Widths.{keyBytes, slotBytes, checkBytes}
 use Rattle.model.specs.Layout.{view, slotAt, checkAt, keyOf}
-use Rattle.model.specs.LayoutLaws.{key-first}
 use Rattle.model.specs.Reads.{fillIn, rankIn, firstCheck, listedKey, listedFill, listedRank}
+use Rattle.model.specs.ReadLaws as reads
 use Rattle.lookup.specs.Sized.{Sized, slot-fits, check-fits}
 
 -- ---- the key of a slot
@@ -125,23 +126,17 @@ module _ {s : List ℕ} {u base step : ℕ} (lists : Lists s u base step) where
 
 -- ---- a unit in service lists its own keys
 module _ (s : List ℕ) (u : ℕ) (serves : byte s (8 + u) ≡ 2 → ⊥) where
-  own-key : (r : ℕ) → keyOf (view s .slot u r) ≡ keyOf (listedKey (view s) u r)
-  unfolding listedKey view
-  own-key r = sym (key-first _) ∙ ap keyOf (sym (pick-false (ne-eqb (byte s (8 + u)) 2 serves) _ _))
+  kept : eqb (view s .dstate u) 2 ≡ false
+  unfolding view
+  kept = ne-eqb (byte s (8 + u)) 2 serves
 
   pub own-fill : fillIn (view s) u ≡ listedFill (view s) u
-  unfolding fillIn listedFill
-  own-fill = first-ext (view s .size) _ _ (λ r l. ap (λ x. eqb x 0) (own-key r))
+  own-fill = sym (reads.own-fill (view s) u kept)
 
   pub own-rank : (k : ℕ) → rankIn (view s) u k ≡ listedRank (view s) u k
-  unfolding rankIn listedRank
-  own-rank k = rw own-fill (first-ext (listedFill (view s) u) _ _ (λ r l. ap (λ x. eqb x k) (own-key r)))
+  own-rank k = sym (reads.own-rank (view s) u kept k)
 
--- a listed rank has a key
-pub listed-has-key : (s : List ℕ) (u r : ℕ) → r < listedFill (view s) u → keyOf (listedKey (view s) u r) ≡ 0 → ⊥
-unfolding listedFill
-listed-has-key s u r l = eqb-false (keyOf (listedKey (view s) u r)) 0 (first-misses (view s .size) (λ q. eqb (keyOf (listedKey (view s) u q)) 0) r l)
-
+-- no more records are listed than a unit has ranks
 pub listed-fill-small : (s : List ℕ) (u : ℕ) → listedFill (view s) u ≤ byte s 5
-unfolding listedFill view
-listed-fill-small s u = first-le (byte s 5) _
+unfolding view
+listed-fill-small s u = reads.listed-le (view s) u

@@ -16,7 +16,8 @@ use Rattle.buffer.specs.RangeLaws.{all-true}
 use Rattle.buffer.specs.Bytes.{byte}
 use Rattle.group.specs.Widths.{slotBytes, checkBytes}
 use Rattle.model.specs.Layout.{Store, view, storeBytes, unitsIn, levelIn, slotAt, checkAt}
-use Rattle.model.specs.StoreLaws.{slot-within, slots-within, check-within}
+use Rattle.model.specs.Places.{data-units, check-units}
+use Rattle.model.specs.LayoutLaws.{rank-within, ranks-within}
 use Rattle.model.specs.SoundSays.{clauses, ranged}
 use Rattle.model.specs.Sound.{sound, groupsPlaced, checksIn, checksAllowed}
 
@@ -30,13 +31,13 @@ pub record Sized (s : List ℕ) : Type 0 where
 
 -- ---- a slot and a check record lie within the slice
 pub slot-fits : {s : List ℕ} → Sized s → (u r : ℕ) → u < 16 → r < byte s 5 → slotAt (byte s 5) u r + slotBytes ≤ length s
-slot-fits {s} h u r l m = slot-within (byte s 5) u r (length s) l m (h .long)
+slot-fits {s} h u r l m = rank-within data-units (byte s 5) u r (length s) l m (h .long)
 
 pub slots-fit : {s : List ℕ} → Sized s → (u n : ℕ) → u < 16 → n ≤ byte s 5 → slotAt (byte s 5) u 0 + slotBytes * n ≤ length s
-slots-fit {s} h u n l m = slots-within (byte s 5) u 0 n (length s) l (omega arith) (h .long)
+slots-fit {s} h u n l m = ranks-within data-units (byte s 5) u 0 n (length s) l (omega arith) (h .long)
 
 pub check-fits : {s : List ℕ} → Sized s → (c r : ℕ) → c < 12 → r < byte s 5 → checkAt (byte s 5) c r + checkBytes ≤ length s
-check-fits {s} h c r l m = check-within (byte s 5) c r (length s) l m (h .long)
+check-fits {s} h c r l m = rank-within check-units (byte s 5) c r (length s) l m (h .long)
 
 -- ---- a sound store
 either : (n : ℕ) → (eqb n 1 || eqb n 2) ≡ true → n ≤ 2

@@ -27,8 +27,9 @@ use Rattle.group.specs.Four.{fourBodies}
 use Rattle.group.specs.WeighedLaws.{length-weighed, weighed-ext}
 use Rattle.model.specs.Layout.{view, slotAt, checkAt, keyOf}
 use Rattle.model.specs.Reads.{servesIn, holds, firstCheck, listedKey, listedFill, wholeSlot}
+use Rattle.model.specs.ReadLaws.{listed-some}
 use Rattle.lookup.specs.Sized.{Sized, slot-fits, check-fits}
-use Rattle.lookup.specs.Keys.{Lists, keysAt, lists-out, listed-has-key}
+use Rattle.lookup.specs.Keys.{Lists, keysAt, lists-out}
 use Rattle.lookup.specs.Groups.{Recoverable, recoverable-known, group-four}
 
 -- ---- where a member of group g holds the body or the parity of rank r
@@ -180,4 +181,4 @@ pub body-out : {s : List ℕ} {u : ℕ} {members weights : List ℕ} → Recipe 
     → body ≡ weighed weights (λ i. holds (view s) (u / 4) r (getD members i 0)) → body ≡ drop keyBytes (wholeSlot (view s) u r)
 body-out {s} {u} recipe r body l k e =
     sym (drop-at (listedKey (view s) u r) body keyBytes (out-key-long (recipe .unit) r l (recipe .out)))
-    ∙ ap (drop keyBytes) (slot-rebuilt recipe r body (listed-has-key s u r k) (e ∙ body-rebuilt recipe r _ (λ i q. refl)))
+    ∙ ap (drop keyBytes) (slot-rebuilt recipe r body (listed-some (view s) u r k) (e ∙ body-rebuilt recipe r _ (λ i q. refl)))

@@ -3,7 +3,7 @@ use Prim.Native.Nat.{ℕ, _+_, _*_, _/_, _≤_, _<_}
 use mathlib.Core.Path.{_≡_, refl, sym, _∙_}
 use mathlib.Core.List.{List}
 use mathlib.Core.Bool.{Bool, true, false, not, _&&_, _||_}
-use lib.Dec.{eqb, ltb, leb}
+use lib.Dec.{eqb, ltb}
 use lib.ListN.{length}
 use borrow.Author.Tests.{eqb-true, leb-true}
 use Rattle.buffer.specs.Choice.{pick}
@@ -19,6 +19,9 @@ use Rattle.model.specs.StoreLaws.{units-of}
 use Rattle.model.specs.Reads.{fillIn, listedKey, listedFill}
 use Rattle.model.specs.Sound.{same, ranges, unitsPlaced, checksIn, checksAllowed, groupsPlaced, zeroed, keysKnown, keysPlaced, listsAgree, sound}
 use Rattle.model.specs.SoundLaws.{same-true}
+
+and-both : (s t : Bool) → (s && t) ≡ true → (s ≡ true) × (t ≡ true)
+and-both s t e = (and-first s t e, and-second s t e)
 
 unless-second : (s t : Bool) → (not s || t) ≡ true → s ≡ true → t ≡ true
 unless-second true t e f = e
@@ -61,32 +64,24 @@ pub record Ranged (s : List ℕ) : Type 0 where
 pub in-range : (s : List ℕ) → ranges s ≡ true → Ranged s
 unfolding ranges
 in-range s h =
-    let t0 = eqb (byte s 0) version in
-    let t1 = eqb (be32 s 1) (storeBytes (byte s 5)) in
-    let t2 = leb 1 (byte s 5) in
-    let t3 = leb (byte s 5) 64 in
-    let t4 = leb 1 (byte s 6) in
-    let t5 = leb (byte s 6) 16 in
-    let t6 = leb 1 (byte s 7) in
-    let t7 = leb (byte s 7) 3 in
-    let t8 = leb (storeBytes (byte s 5)) (length s) in
-    let e7 = and-first (t0 && t1 && t2 && t3 && t4 && t5 && t6 && t7) t8 h in
-    let e6 = and-first (t0 && t1 && t2 && t3 && t4 && t5 && t6) t7 e7 in
-    let e5 = and-first (t0 && t1 && t2 && t3 && t4 && t5) t6 e6 in
-    let e4 = and-first (t0 && t1 && t2 && t3 && t4) t5 e5 in
-    let e3 = and-first (t0 && t1 && t2 && t3) t4 e4 in
-    let e2 = and-first (t0 && t1 && t2) t3 e3 in
-    let e1 = and-first (t0 && t1) t2 e2 in
+    let p8 = and-both _ _ h in
+    let p7 = and-both _ _ (p8 .0) in
+    let p6 = and-both _ _ (p7 .0) in
+    let p5 = and-both _ _ (p6 .0) in
+    let p4 = and-both _ _ (p5 .0) in
+    let p3 = and-both _ _ (p4 .0) in
+    let p2 = and-both _ _ (p3 .0) in
+    let p1 = and-both _ _ (p2 .0) in
     record {
-      first = eqb-true (byte s 0) version (and-first t0 t1 e1);
-      spelled = eqb-true (be32 s 1) (storeBytes (byte s 5)) (and-second t0 t1 e1);
-      least = leb-true 1 (byte s 5) (and-second (t0 && t1) t2 e2);
-      most = leb-true (byte s 5) 64 (and-second (t0 && t1 && t2) t3 e3);
-      some = leb-true 1 (byte s 6) (and-second (t0 && t1 && t2 && t3) t4 e4);
-      few = leb-true (byte s 6) 16 (and-second (t0 && t1 && t2 && t3 && t4) t5 e5);
-      levelled = leb-true 1 (byte s 7) (and-second (t0 && t1 && t2 && t3 && t4 && t5) t6 e6);
-      topped = leb-true (byte s 7) 3 (and-second (t0 && t1 && t2 && t3 && t4 && t5 && t6) t7 e7);
-      long = leb-true (storeBytes (byte s 5)) (length s) (and-second (t0 && t1 && t2 && t3 && t4 && t5 && t6 && t7) t8 h);
+      first = eqb-true _ _ (p1 .0);
+      spelled = eqb-true _ _ (p1 .1);
+      least = leb-true _ _ (p2 .1);
+      most = leb-true _ _ (p3 .1);
+      some = leb-true _ _ (p4 .1);
+      few = leb-true _ _ (p5 .1);
+      levelled = leb-true _ _ (p6 .1);
+      topped = leb-true _ _ (p7 .1);
+      long = leb-true _ _ (p8 .1);
     }
 
 -- a state that a unit in place, or not in place, may have
@@ -110,18 +105,12 @@ module _ (s : List ℕ) (h : sound s ≡ true) where
   pub clauses : Clauses
   unfolding sound
   clauses =
-      let a = and-first (ranges s && unitsPlaced v && groupsPlaced v && zeroed v && keysPlaced v) (listsAgree v) h in
-      let b = and-first (ranges s && unitsPlaced v && groupsPlaced v && zeroed v) (keysPlaced v) a in
-      let c = and-first (ranges s && unitsPlaced v && groupsPlaced v) (zeroed v) b in
-      let d = and-first (ranges s && unitsPlaced v) (groupsPlaced v) c in
-      record {
-        ranges = and-first (ranges s) (unitsPlaced v) d;
-        units = and-second (ranges s) (unitsPlaced v) d;
-        groups = and-second (ranges s && unitsPlaced v) (groupsPlaced v) c;
-        zeros = and-second (ranges s && unitsPlaced v && groupsPlaced v) (zeroed v) b;
-        keys = and-second (ranges s && unitsPlaced v && groupsPlaced v && zeroed v) (keysPlaced v) a;
-        lists = and-second (ranges s && unitsPlaced v && groupsPlaced v && zeroed v && keysPlaced v) (listsAgree v) h;
-      }
+      let p5 = and-both _ _ h in
+      let p4 = and-both _ _ (p5 .0) in
+      let p3 = and-both _ _ (p4 .0) in
+      let p2 = and-both _ _ (p3 .0) in
+      let p1 = and-both _ _ (p2 .0) in
+      record { ranges = p1 .0; units = p1 .1; groups = p2 .1; zeros = p3 .1; keys = p4 .1; lists = p5 .1 }
 
   pub ranged : Ranged s
   ranged = in-range s (clauses .ranges)
@@ -164,7 +153,8 @@ module _ (s : List ℕ) (h : sound s ≡ true) where
 
   pub zero-check : (c r : ℕ) → c < 12 → r < v .size → eqb (v .cstate c) 1 ≡ false → v .check c r ≡ zeros checkBytes
   zero-check c r l m e =
-      same-true (v .check c r) (zeros checkBytes) (or-other (eqb (v .cstate c) 1) (same (v .check c r) (zeros checkBytes)) e (zeroed-says v (clauses .zeros) .checks c r l m))
+      same-true (v .check c r) (zeros checkBytes)
+      (or-other (eqb (v .cstate c) 1) (same (v .check c r) (zeros checkBytes)) e (zeroed-says v (clauses .zeros) .checks c r l m))
 
   -- ---- keys of a unit that are known
 
@@ -184,7 +174,9 @@ module _ (s : List ℕ) (h : sound s ≡ true) where
     listed-own r m e = eqb-true (unitOf (unitsIn v) (keyOf (listedKey v u r))) u (and-first _ _ (listed-test r m e))
 
     pub listed-differ : (r q : ℕ) → r < q → q < v .size → ltb q (listedFill v u) ≡ true → not (eqb (keyOf (listedKey v u r)) (keyOf (listedKey v u q))) ≡ true
-    listed-differ r q l m e = all-true q (λ i. not (eqb (keyOf (listedKey v u i)) (keyOf (listedKey v u q)))) (and-second (eqb (unitOf (unitsIn v) (keyOf (listedKey v u q))) u) _ (listed-test q m e)) r l
+    listed-differ r q l m e =
+        all-true q (λ i. not (eqb (keyOf (listedKey v u i)) (keyOf (listedKey v u q))))
+        (and-second (eqb (unitOf (unitsIn v) (keyOf (listedKey v u q))) u) _ (listed-test q m e)) r l
 
     pub listed-past : (r : ℕ) → r < v .size → ltb r (listedFill v u) ≡ false → keyOf (listedKey v u r) ≡ 0
     listed-past r m e = eqb-true (keyOf (listedKey v u r)) 0 (sym (pick-false e _ (eqb (keyOf (listedKey v u r)) 0)) ∙ key-test r m)
@@ -193,4 +185,5 @@ module _ (s : List ℕ) (h : sound s ≡ true) where
   pub lists : (c : ℕ) → c < 12 → eqb (v .cstate c) 1 ≡ true → (r : ℕ) → r < v .size → (p : ℕ) → p < 4
       → keyOf (part (keyBytes * p) keyBytes (v .check c r)) ≡ keyOf (listedKey v (4 * (c / 3) + p) r)
   unfolding listsAgree
-  lists c l e r m p n = eqb-true _ _ (all-true 4 _ (all-true (v .size) _ (unless-second (eqb (v .cstate c) 1) _ (all-true 12 _ (clauses .lists) c l) e) r m) p n)
+  lists c l e r m p n =
+      eqb-true _ _ (all-true 4 _ (all-true (v .size) _ (unless-second (eqb (v .cstate c) 1) _ (all-true 12 _ (clauses .lists) c l) e) r m) p n)

@@ -15,8 +15,10 @@ use Rattle.group.specs.Widths.{checkBytes}
 use Rattle.model.specs.Units.{splitPointer}
 use Rattle.model.specs.UnitLaws.{split-below}
 use Rattle.model.specs.Layout.{view, bytes, unitsIn, levelIn}
-use Rattle.model.specs.LayoutLaws.{Long, bytes-view, view-shaped}
-use Rattle.model.specs.StoreLaws.{withFront, size-of, units-of, level-of, front-set}
+use Rattle.model.specs.Places.{Long}
+use Rattle.model.specs.Parts.{withFront}
+use Rattle.model.specs.LayoutLaws.{bytes-view, view-shaped}
+use Rattle.model.specs.StoreLaws.{size-of, units-of, level-of, front-set}
 use Rattle.model.specs.Reads.{fillIn, outsIn}
 use Rattle.model.specs.Sound.{sound}
 use Rattle.model.specs.SoundLaws.{same-true}

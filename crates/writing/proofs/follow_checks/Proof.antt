@@ -7,7 +7,8 @@ use mathlib.Core.Logic.{⊎-elim}
 use lib.ListN.{length, getD}
 use borrow.Author.Needs.{needs}
 use Rattle.buffer.specs.Bytes.{part, splice}
-use Rattle.model.specs.StoreLaws.{check-within}
+use Rattle.model.specs.Places.{check-units}
+use Rattle.model.specs.LayoutLaws.{rank-within}
 use Rattle.writing.proofs.Following.{Following, following-start, following-on, following-off, following-end}
 use Rattle.writing.proofs.follow_checks.Statement.{statement}
 use Rattle.writing.proofs.follow_checks.Tie as tie
@@ -28,7 +29,7 @@ part-follow-end c =
     let l = c .before .before .before .before .before in
     let e = l .before .before .before in
     let a = e .args in
-    omega (arith, check-within (getD (a .s .now) 5 0) (3 * (a .u / 4) + l .loop .j) (a .r) (length (a .s .now)) (omega arith) (e .pre .0 .rank) (e .pre .0 .long))
+    omega (arith, rank-within check-units (getD (a .s .now) 5 0) (3 * (a .u / 4) + l .loop .j) (a .r) (length (a .s .now)) (omega arith) (e .pre .0 .rank) (e .pre .0 .long))
 
 follow-requires : tie.Need-follow-requires Inv-loop μ-loop
 follow-requires c κs = (search needs, search needs, search needs, search needs)
