@@ -19,8 +19,8 @@ use Rattle.model.specs.Units.{unitOf}
 use Rattle.model.specs.Layout.{view, unitsIn}
 use Rattle.model.specs.Reads.{homeIn, outsIn, beyondIn, firstCheck, listedFill, listedRank, lostIn, totalIn}
 use Rattle.model.specs.Numbers.{firstOf}
-use Rattle.soundness.specs.Survey.{Surveyed, found-sound, fill-listed, first-check-found, outs-counted}
-use Rattle.lookup.specs.Sized.{Sized, sound-sized}
+use Rattle.soundness.specs.Survey.{Surveyed, found-sized, fill-read, first-check-read}
+use Rattle.lookup.specs.Sized.{Sized}
 use Rattle.lookup.specs.Keys.{listed-fill-small}
 use Rattle.lookup.specs.Groups.{Recoverable, Whole, goneIn, recoverable-known, whole-unit, none-lost}
 use Rattle.reading.specs.Rows.{readNumber, listNumber}
@@ -32,11 +32,6 @@ pub refusal : {s : List ℕ} {ok : Bool} {k n : ℕ} (m : ℕ) {number unit rank
     → suc m ≡ readNumber ok (view s) k n → Verdict s ok k n number unit rank
 refusal m e f =
     record { given = e .0 ∙ f; placed = λ z. absurd (omega arith); room = λ z. absurd (omega arith); nowhere = λ _. (e .1, e .2) }
-
--- the unit that the code looks in is the key's
-pub home-is : (s : List ℕ) (k u : ℕ) → u ≡ unitOf (byte s 6) k → u ≡ homeIn (view s) k
-unfolding homeIn unitsIn view
-home-is s k u e = e ∙ ap (λ m. unitOf m k) (sym (getD-take 8 s 6 0 (omega arith)))
 
 -- ---- read
 module _ (s : List ℕ) (ok : Bool) (k n : ℕ) where
@@ -73,11 +68,7 @@ pub record Sought (s : List ℕ) (ok : Bool) (fills firstChecks outs : List ℕ)
 
 module _ {s : List ℕ} {ok : Bool} {fills firstChecks outs : List ℕ} {k n u : ℕ} (h : Sought s ok fills firstChecks outs k n u) where
   pub sought-sized : Sized s
-  sought-sized = sound-sized (found-sound (h .surveyed) (h .good))
-
-  -- the units out of its group, which the code reads at the index i
-  pub outs-read : {i : ℕ} → i ≡ u / 4 → getD outs i 0 ≡ outsIn (view s) (u / 4)
-  outs-read e = let l = h .low in ap (λ j. getD outs j 0) e ∙ outs-counted (h .surveyed) (h .good) (u / 4) (omega arith)
+  sought-sized = found-sized (h .surveyed) (h .good)
 
   pub lost : goneIn (view s) u ≡ true → 8 ≡ readNumber ok (view s) k n
   unfolding readNumber firstOf pick
@@ -87,14 +78,9 @@ module _ {s : List ℕ} {ok : Bool} {fills firstChecks outs : List ℕ} {k n u :
     pub there : Recoverable s u
     there = safe-unit sought-sized (h .low) safe
 
-    -- its records, and the first check unit in service of its group, which the code reads at the index i
-    pub fill-read : {i : ℕ} → i ≡ u → (getD fills i 0 ≡ listedFill (view s) u) × (getD fills i 0 ≤ byte s 5)
-    fill-read {i} e =
-        let n : getD fills i 0 ≡ listedFill (view s) u = ap (λ j. getD fills j 0) e ∙ fill-listed (h .surveyed) (h .good) u (h .low) (recoverable-known there .listed) in
-        (n, rw n (listed-fill-small s u))
-
-    pub first-check-read : {i : ℕ} → i ≡ u / 4 → getD firstChecks i 0 ≡ firstCheck (view s) (u / 4)
-    first-check-read e = let l = h .low in ap (λ j. getD firstChecks j 0) e ∙ first-check-found (h .surveyed) (h .good) (u / 4) (omega arith)
+    -- its records, which the code reads at the index i
+    pub listed-read : {i : ℕ} → i ≡ u → (getD fills i 0 ≡ listedFill (view s) u) × (getD fills i 0 ≤ byte s 5)
+    listed-read e = let n = fill-read (h .surveyed) (h .good) u e (h .low) (recoverable-known there .listed) in (n, rw n (listed-fill-small s u))
 
     -- of m records, the key is at rank r
     module _ {m r : ℕ} (fill : (m ≡ listedFill (view s) u) × (m ≤ byte s 5)) (rank : r ≡ listedRank (view s) u k) where
@@ -126,7 +112,11 @@ safe-store {s} h e = record { sized = h; units = λ u l. safe-unit h l (none-los
 
 -- then the survey has counted every unit
 pub whole-learned : {s : List ℕ} {ok : Bool} {fills firstChecks outs : List ℕ} → Surveyed s ok fills firstChecks outs → ok ≡ true → Whole s → Learned s fills firstChecks
-whole-learned g e h = record { listed = λ u l. fill-listed g e u l (recoverable-known (whole-unit h u l) .listed); kept = first-check-found g e }
+whole-learned g e h =
+    record {
+      listed = λ u l. fill-read g e u refl l (recoverable-known (whole-unit h u l) .listed);
+      kept = λ q. first-check-read g e q refl;
+    }
 
 pub fills-total : {s fills firstChecks : List ℕ} → Learned s fills firstChecks → sum 16 (λ u. getD fills u 0) ≡ totalIn (view s)
 unfolding totalIn

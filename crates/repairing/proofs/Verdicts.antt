@@ -1,6 +1,6 @@
 -- What a granted repair may rely on. Assumes nothing.
 use Prim.Native.Nat.{ℕ}
-use mathlib.Core.Path.{_≡_, ap, _∙_}
+use mathlib.Core.Path.{_≡_}
 use mathlib.Core.Bool.{Bool, true}
 use mathlib.Core.List.{List}
 use native.Mathlib.Omega.{arith}
@@ -10,8 +10,7 @@ use Rattle.model.specs.Layout.{view}
 use Rattle.model.specs.Reads.{firstCheck}
 use Rattle.model.specs.Numbers.{Call, repair, firstOf, refusalsIn}
 use Rattle.model.specs.PerformLaws.{none-holds}
-use Rattle.soundness.specs.Survey.{Surveyed, found-sound, first-check-found}
-use Rattle.lookup.specs.Sized.{sound-sized}
+use Rattle.soundness.specs.Survey.{Surveyed, found-sized, first-check-read}
 use Rattle.repairing.specs.Groups.{Repairable}
 
 -- no row holds, so the store is sound and the group is not beyond recovery
@@ -22,8 +21,8 @@ module _ {s : List ℕ} {ok : Bool} {fills firstChecks outs : List ℕ} {g r : �
   repairable =
       let rows = none-holds ok (view s) (Call.repair g) r found z in
       let good = not-false ok (rows .1 .0) in
-      (record { sized = sound-sized (found-sound survey good); group = omega (arith, ltb-false 3 g (rows .0)); whole = rows .1 .1 .1 .0 }, good)
+      (record { sized = found-sized survey good; group = omega (arith, ltb-false 3 g (rows .0)); whole = rows .1 .1 .1 .0 }, good)
 
   -- and the survey has found its first check unit in service, which the code reads at the index i
   pub group-first-check : {i : ℕ} → i ≡ g → Repairable s g × (getD firstChecks i 0 ≡ firstCheck (view s) g)
-  group-first-check e = (repairable .0, ap (λ j. getD firstChecks j 0) e ∙ first-check-found survey (repairable .1) g (repairable .0 .group))
+  group-first-check e = (repairable .0, first-check-read survey (repairable .1) g e (repairable .0 .group))

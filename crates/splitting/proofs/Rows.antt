@@ -27,10 +27,8 @@ use Rattle.model.specs.Changes.{raised}
 use Rattle.model.specs.RowLaws.{row-pair, first-free}
 use Rattle.model.specs.PerformLaws.{none-holds}
 use Rattle.model.specs.SoundSays.{zeroed-says, clauses}
-use Rattle.soundness.specs.Survey.{Surveyed, outs-counted, fill-listed}
+use Rattle.soundness.specs.Survey.{Surveyed, found-sized, outs-read, own-fill-read}
 use Rattle.lookup.specs.Sized.{Sized, sound-sized}
-use Rattle.lookup.specs.Keys.{own-fill}
-use Rattle.lookup.specs.Groups.{none-out}
 use Rattle.splitting.specs.Steps.{Split, Blank, pairOut, pairCrowded}
 use Rattle.splitting.proofs.StepLaws.{or-first, or-second}
 
@@ -45,15 +43,22 @@ unfolding pairOut
 pair-read outs m en ei ej = rw (ei, ej, en)
 
 -- ---- the rows, as the code reads them: m is the number of units
+abbrev pub growRows : List ℕ → Bool → ℕ → List (Bool × ℕ)
+growRows s ok m = (not ok, 1) ∷ (leb 16 m, 9) ∷ (pairOut (outsIn (view s)) m, 4) ∷ []
+
+abbrev pub shrinkRows : List ℕ → Bool → ℕ → List (Bool × ℕ)
+shrinkRows s ok m =
+    (not ok, 1) ∷ (leb m 1, 9) ∷ (pairOut (outsIn (view s)) (m - 1), 4) ∷ (pairCrowded (view s .size) (fillIn (view s)) (m - 1), 7) ∷ []
+
 module _ (s : List ℕ) (ok : Bool) {m : ℕ} (e : m ≡ byte s 6) where
   units : m ≡ unitsIn (view s)
   units = e ∙ units-of s
 
-  pub grow-rows : firstOf (refusalsIn ok (view s) Call.grow) ≡ firstOf ((not ok, 1) ∷ (leb 16 m, 9) ∷ (pairOut (outsIn (view s)) m, 4) ∷ [])
+  pub grow-rows : firstOf (refusalsIn ok (view s) Call.grow) ≡ firstOf (growRows s ok m)
   unfolding firstOf refusalsIn pairOut
   grow-rows = rw (← units) (ap (λ n. pick (not ok) 1 (pick (leb 16 m) 9 n)) (row-pair _ _ 4 []))
 
-  pub shrink-rows : firstOf (refusalsIn ok (view s) Call.shrink) ≡ firstOf ((not ok, 1) ∷ (leb m 1, 9) ∷ (pairOut (outsIn (view s)) (m - 1), 4) ∷ (pairCrowded (view s .size) (fillIn (view s)) (m - 1), 7) ∷ [])
+  pub shrink-rows : firstOf (refusalsIn ok (view s) Call.shrink) ≡ firstOf (shrinkRows s ok m)
   unfolding firstOf refusalsIn pairOut pairCrowded
   shrink-rows = rw (← units, ← pred-of m) (ap (λ n. pick (not ok) 1 (pick (leb m 1) 9 n)) (row-pair _ _ 4 ((pairCrowded (view s .size) (fillIn (view s)) (m - 1), 7) ∷ [])))
 
@@ -69,32 +74,26 @@ last-unit {s} {m} store e some = (omega arith, omega (arith, store .units))
 pub sized : (s : List ℕ) {ok : Bool} → ok ≡ sound s → ok ≡ true → Sized s
 sized s e h = sound-sized (sym e ∙ h)
 
-pub blank : (s : List ℕ) {ok : Bool} → ok ≡ sound s → ok ≡ true → Blank s
-blank s e h c r a b out =
-    let zero : (eqb (view s .cstate c) 1 || _) ≡ true = zeroed-says (view s) (clauses s (sym e ∙ h) .zeros) .checks c r a (rw (← size-of s) b) in
+blank : (s : List ℕ) → sound s ≡ true → Blank s
+blank s h c r a b out =
+    let zero : (eqb (view s .cstate c) 1 || _) ≡ true = zeroed-says (view s) (clauses s h .zeros) .checks c r a (rw (← size-of s) b) in
     same-true (view s .check c r) (zeros checkBytes) (or-other (eqb (view s .cstate c) 1) _ (ne-eqb (view s .cstate c) 1 (unfold view in out)) zero)
 
 -- ---- what the survey says of unit m and of the unit that it is split from
 module _ {s : List ℕ} {ok : Bool} {fills firstChecks outs : List ℕ} (g : Surveyed s ok fills firstChecks outs) (e : ok ≡ true) {m : ℕ} (some : 1 ≤ m) (l : m < 16) where
   pub outs-pair : pairOut (outsIn (view s)) m ≡ pairOut (λ h. getD outs h 0) m
   unfolding pairOut
-  outs-pair = rw (outs-counted g e (m / 4) (omega arith), outs-counted g e (splitPointer m / 4) (omega (arith, split-below m some)))
-
-  -- the records of a unit of whose group none is out, read at the index i
-  fill-read : (u : ℕ) {i : ℕ} → i ≡ u → u < 16 → ltb 0 (outsIn (view s) (u / 4)) ≡ false → getD fills i 0 ≡ fillIn (view s) u
-  fill-read u ei k none =
-      let serves : byte s (8 + u) ≡ 2 → ⊥ = none-out s u none in
-      ap (λ i. getD fills i 0) ei ∙ fill-listed g e u k (λ w. absurd (serves w)) ∙ sym (own-fill s u serves)
+  outs-pair = rw (outs-read g e (m / 4) refl (omega arith), outs-read g e (splitPointer m / 4) refl (omega (arith, split-below m some)))
 
   module _ (free : pairOut (outsIn (view s)) m ≡ false) where
     pub unit-fill : {i : ℕ} → i ≡ m → getD fills i 0 ≡ fillIn (view s) m
     unfolding pairOut
-    unit-fill ei = fill-read m ei l (or-first (ltb 0 (outsIn (view s) (m / 4))) _ free)
+    unit-fill ei = own-fill-read g e m ei l (or-first (ltb 0 (outsIn (view s) (m / 4))) _ free)
 
     pub from-fill : {n i : ℕ} → n ≡ splitPointer m → n < m → i ≡ n → getD fills i 0 ≡ fillIn (view s) n
     unfolding pairOut
     from-fill {n} en k ei =
-        fill-read n ei (omega arith) (ap (λ u. ltb 0 (outsIn (view s) (u / 4))) en ∙ or-second (ltb 0 (outsIn (view s) (m / 4))) _ free)
+        own-fill-read g e n ei (omega arith) (ap (λ u. ltb 0 (outsIn (view s) (u / 4))) en ∙ or-second (ltb 0 (outsIn (view s) (m / 4))) _ free)
 
     crowded-pair : (b : ℕ) → pairCrowded b (fillIn (view s)) m ≡ pairCrowded b (λ u. getD fills u 0) m
     unfolding pairCrowded
@@ -108,16 +107,32 @@ module _ {s : List ℕ} {ok : Bool} {fills firstChecks outs : List ℕ} (g : Sur
       ap (λ t. pick t 4 (pick crowded 7 0)) (eo ∙ sym outs-pair)
       ∙ pick-ext (pairOut (outsIn (view s)) m) 4 _ 4 _ (λ _. refl) (λ free. ap (λ t. pick t 7 0) (test ∙ sym (crowded-pair free (view s .size))))
 
--- ---- what the tests leave
-pub record Grows (s : List ℕ) (ok : Bool) (m : ℕ) : Type 0 where
-  pub sound : ok ≡ true
+-- ---- what the tests leave: unit m and the unit that it is split from, in a sound store with none out in their groups. Their records are counted,
+-- which the code reads at an index i
+pub record Pair (s fills : List ℕ) (m : ℕ) : Type 0 where
+  pub tested : sound s ≡ true
+  pub some : 1 ≤ m
   pub few : m < 16
-  pub free : pairOut (outsIn (view s)) m ≡ false
+  pub own : (i : ℕ) → i ≡ m → getD fills i 0 ≡ fillIn (view s) m
+  pub from : (n i : ℕ) → n ≡ splitPointer m → n < m → i ≡ n → getD fills i 0 ≡ fillIn (view s) n
 
-pub record Shrinks (s : List ℕ) (ok : Bool) (m : ℕ) : Type 0 where
-  pub sound : ok ≡ true
-  pub some : 1 < m
-  pub free : pairOut (outsIn (view s)) (m - 1) ≡ false
+pair : {s : List ℕ} {ok : Bool} {fills firstChecks outs : List ℕ} {m : ℕ} → Surveyed s ok fills firstChecks outs → ok ≡ true → 1 ≤ m → m < 16
+    → pairOut (outsIn (view s)) m ≡ false → Pair s fills m
+pair g e some few free =
+    record {
+      tested = sym (g .tested) ∙ e;
+      some = some;
+      few = few;
+      own = λ i. unit-fill g e some few free;
+      from = λ n i. from-fill g e some few free;
+    }
+
+pub splits : {s fills : List ℕ} {m n : ℕ} → Pair s fills m → (n ≡ splitPointer m) × (n < m) → Split s n m
+splits h en = record { sized = sound-sized (h .tested); from = en .0; apart = en .1; unit = h .few }
+
+-- the last unit, and room for its records
+pub record Shrinks (s fills : List ℕ) (m : ℕ) : Type 0 where
+  pub last : Pair s fills (m - 1)
   pub room : fillIn (view s) (splitPointer (m - 1)) + fillIn (view s) (m - 1) ≤ byte s 5
 
 pub record Raises (s : List ℕ) (ok : Bool) : Type 0 where
@@ -128,47 +143,41 @@ uncrowded : (size : ℕ) (fill : ℕ → ℕ) (m : ℕ) → pairCrowded size fil
 unfolding pairCrowded
 uncrowded size fill m e = ltb-false size _ e
 
-module _ (s : List ℕ) {ok : Bool} {r : ℕ} (z : r ≡ 0) where
-  pub grows : {m : ℕ} → m ≡ byte s 6 → r ≡ firstOf (refusalsIn ok (view s) Call.grow) → Grows s ok m
-  grows {m} em e =
-      let free = first-free ((not ok, 1) ∷ (leb 16 m, 9) ∷ (pairOut (outsIn (view s)) m, 4) ∷ []) (refl, (refl, (refl, tt))) (sym (grow-rows s ok em) ∙ sym e ∙ z) in
-      record { sound = not-false ok (free .0); few = leb-false 16 m (free .1 .0); free = free .1 .1 .0 }
+module _ {s : List ℕ} {ok : Bool} {fills firstChecks outs : List ℕ} (g : Surveyed s ok fills firstChecks outs) {r m : ℕ} (z : r ≡ 0) (em : m ≡ byte s 6) where
+  pub grows : r ≡ firstOf (refusalsIn ok (view s) Call.grow) → Pair s fills m
+  grows e =
+      let free = first-free (growRows s ok m) (refl, (refl, (refl, tt))) (sym (grow-rows s ok em) ∙ sym e ∙ z) in
+      let good = not-false ok (free .0) in
+      pair g good (omega (arith, found-sized g good .unit)) (leb-false 16 m (free .1 .0)) (free .1 .1 .0)
 
-  pub shrinks : {m : ℕ} → m ≡ byte s 6 → r ≡ firstOf (refusalsIn ok (view s) Call.shrink) → Shrinks s ok m
-  shrinks {m} em e =
-      let free =
-      first-free ((not ok, 1) ∷ (leb m 1, 9) ∷ (pairOut (outsIn (view s)) (m - 1), 4) ∷ (pairCrowded (view s .size) (fillIn (view s)) (m - 1), 7) ∷ []) (refl, (refl, (refl, (refl, tt))))
-      (sym (shrink-rows s ok em) ∙ sym e ∙ z) in
+  pub shrinks : r ≡ firstOf (refusalsIn ok (view s) Call.shrink) → Shrinks s fills m
+  shrinks e =
+      let free = first-free (shrinkRows s ok m) (refl, (refl, (refl, (refl, tt)))) (sym (shrink-rows s ok em) ∙ sym e ∙ z) in
+      let good = not-false ok (free .0) in
+      let last = last-unit (found-sized g good) em (leb-false m 1 (free .1 .0)) in
       record {
-        sound = not-false ok (free .0);
-        some = leb-false m 1 (free .1 .0);
-        free = free .1 .1 .0;
+        last = pair g good (last .0) (last .1) (free .1 .1 .0);
         room = rw (size-of s) (uncrowded (view s .size) (fillIn (view s)) (m - 1) (free .1 .1 .1 .0));
       }
 
-  pub raises : r ≡ firstOf (refusalsIn ok (view s) Call.raise) → Raises s ok
-  unfolding refusalsIn
-  raises e =
-      let free = none-holds ok (view s) Call.raise r e z in
-      record { sound = not-false ok (free .0); low = rw (level-of s) (leb-false _ _ (free .1 .1 .1 .0)) }
+pub raises : (s : List ℕ) {ok : Bool} {r : ℕ} → r ≡ 0 → r ≡ firstOf (refusalsIn ok (view s) Call.raise) → Raises s ok
+unfolding refusalsIn
+raises s {ok} {r} z e =
+    let free = none-holds ok (view s) Call.raise r e z in
+    record { sound = not-false ok (free .0); low = rw (level-of s) (leb-false _ _ (free .1 .1 .1 .0)) }
 
 -- ---- what the code reads for the unit that it adds or removes, at the indices i and j
-module _ {s : List ℕ} {ok : Bool} {fills firstChecks outs : List ℕ} (g : Surveyed s ok fills firstChecks outs) {n m i : ℕ} where
-  pub adds : Grows s ok m → m ≡ byte s 6 → (n ≡ splitPointer m) × (n < m) → i ≡ n → Split s n m × (getD fills i 0 ≡ fillIn (view s) n)
-  adds h em en ei =
-      let store = sized s (g .tested) (h .sound) in
-      let fill = from-fill g (h .sound) (omega (arith, store .unit)) (h .few) (h .free) (en .0) (en .1) ei in
-      (record { sized = store; from = en .0; apart = en .1; unit = h .few }, fill)
+module _ {s fills : List ℕ} {m n i : ℕ} where
+  pub adds : Pair s fills m → (n ≡ splitPointer m) × (n < m) → i ≡ n → Split s n m × (getD fills i 0 ≡ fillIn (view s) n)
+  adds h en ei = (splits h en, h .from n i (en .0) (en .1) ei)
 
-  pub removes : {j : ℕ} → Shrinks s ok m → m ≡ byte s 6 → (n ≡ splitPointer (m - 1)) × (n < m - 1) → i ≡ n → j ≡ m - 1
+  pub removes : {j : ℕ} → Shrinks s fills m → (n ≡ splitPointer (m - 1)) × (n < m - 1) → i ≡ n → j ≡ m - 1
       → Split s n (m - 1) × Blank s × (getD fills i 0 ≡ fillIn (view s) n) × (getD fills j 0 ≡ fillIn (view s) (m - 1)) × (getD fills i 0 + getD fills j 0 ≤ byte s 5)
-  removes h em en ei ej =
-      let store = sized s (g .tested) (h .sound) in
-      let last = last-unit store em (h .some) in
-      let from = from-fill g (h .sound) (last .0) (last .1) (h .free) (en .0) (en .1) ei in
-      let own = unit-fill g (h .sound) (last .0) (last .1) (h .free) ej in
+  removes {j} h en ei ej =
+      let from = h .last .from n i (en .0) (en .1) ei in
+      let own = h .last .own j ej in
       let room : fillIn (view s) n + fillIn (view s) (m - 1) ≤ byte s 5 = rw (en .0) (h .room) in
-      (record { sized = store; from = en .0; apart = en .1; unit = last .1 }, blank s (g .tested) (h .sound), from, own, omega arith)
+      (splits (h .last) en, blank s (h .last .tested), from, own, omega arith)
 
 -- ---- the level raised
 pub raised-bytes : (s : List ℕ) (k : ℕ) → Long s → k ≡ byte s 7 + 1 → set s 7 k ≡ bytes (raised (view s))

@@ -1,23 +1,22 @@
 -- Where a key belongs, from what the code looks up. Assumes nothing.
-use Prim.Native.Nat.{ℕ, suc, _+_, _/_, _≤_, _<_}
-use mathlib.Core.Path.{_≡_, sym, ap, _∙_}
-use mathlib.Core.Bool.{Bool, true, false}
+use Prim.Native.Nat.{ℕ, suc, _/_, _<_}
+use mathlib.Core.Path.{_≡_, refl, sym, ap, _∙_}
+use mathlib.Core.Bool.{Bool, true, false, not}
 use mathlib.Core.List.{List}
 use native.Mathlib.Omega.{arith}
 use lib.Dec.{eqb, ltb}
 use lib.ListN.{getD}
-use Rattle.buffer.specs.Bytes.{byte}
+use Rattle.buffer.specs.Choice.{pick}
+use Rattle.buffer.specs.ChoiceLaws.{pick-false}
 use Rattle.buffer.specs.Range.{first}
-use Rattle.model.specs.Units.{unitOf}
 use Rattle.model.specs.Layout.{view, keyOf}
-use Rattle.model.specs.Reads.{homeIn, outsIn, fillIn}
+use Rattle.model.specs.Reads.{homeIn, outsIn}
 use Rattle.model.specs.Numbers.{firstOf}
-use Rattle.model.specs.StoreLaws.{units-of}
-use Rattle.soundness.specs.Survey.{Surveyed, found-sound, fill-listed, fill-most, outs-counted}
+use Rattle.model.specs.Sound.{sound}
+use Rattle.soundness.specs.Survey.{Surveyed, fill-most, own-fill-read}
 use Rattle.lookup.specs.Sized.{sound-sized}
-use Rattle.lookup.specs.Keys.{rank-in, own-fill}
-use Rattle.lookup.specs.Groups.{none-out}
-use Rattle.writing.specs.Homes.{openingRows, Located, Homed}
+use Rattle.lookup.specs.Keys.{rank-in}
+use Rattle.writing.specs.Homes.{openingRows, Homed}
 
 -- a key that is refused
 pub homeless : {s : List ℕ} {k : ℕ} {fits : Bool} {number u n r m : ℕ} → (number ≡ suc m) × (u ≡ 0) × (n ≡ 0) × (r ≡ 0)
@@ -30,31 +29,38 @@ homeless e f =
       nowhere = λ _. (e .1, e .2, e .3);
     }
 
-pub home-unit : (s : List ℕ) (k : ℕ) {u : ℕ} → u ≡ unitOf (byte s 6) k → homeIn (view s) k ≡ u
-unfolding homeIn
-home-unit s k e = ap (λ j. unitOf j k) (sym (units-of s)) ∙ sym e
+-- ---- key k of a call whose body fits belongs to unit u of a sound store
+pub record Belongs (s : List ℕ) (k : ℕ) (fits : Bool) (u : ℕ) : Type 0 where
+  pub key : eqb k 0 ≡ false
+  pub fitting : fits ≡ true
+  pub tested : sound s ≡ true
+  pub home : u ≡ homeIn (view s) k
+  pub low : u < 16
 
--- the number of units out of a unit's group, read at the index j
-pub outs-read : {s : List ℕ} {ok : Bool} {fills firstChecks outs : List ℕ} {u j : ℕ} → Surveyed s ok fills firstChecks outs → ok ≡ true → u < byte s 6 → j ≡ u / 4
-    → getD outs j 0 ≡ outsIn (view s) (u / 4)
-outs-read {outs = outs} {u = u} g e l ej =
-    let store = sound-sized (found-sound g e) in
-    ap (λ h. getD outs h 0) ej ∙ outs-counted g e (u / 4) (omega (arith, store .units))
+module _ {s : List ℕ} {k : ℕ} {fits : Bool} {u : ℕ} (h : Belongs s k fits u) where
+  -- the last row decides
+  pub opening : firstOf (openingRows s k fits) ≡ pick (ltb 0 (outsIn (view s) (u / 4))) 4 0
+  unfolding firstOf openingRows
+  opening =
+      pick-false (h .key) _ _ ∙ pick-false (ap not (h .fitting)) _ _ ∙ pick-false (ap not (h .tested)) _ _
+      ∙ ap (λ v. pick (ltb 0 (outsIn (view s) (v / 4))) 4 0) (sym (h .home))
 
--- the code reads u, whether a unit of its group is out, n at the index i, and r
-pub located : {s : List ℕ} {ok : Bool} {fills firstChecks outs : List ℕ} {u i r : ℕ} (k : ℕ) → Surveyed s ok fills firstChecks outs → ok ≡ true → (u ≡ unitOf (byte s 6) k) × (u < byte s 6)
-    → ltb 0 (outsIn (view s) (u / 4)) ≡ false → i ≡ u → (r ≡ first (getD fills i 0) (λ q. eqb (keyOf (view s .slot u q)) k)) × (r ≤ getD fills i 0)
-    → Located s k u (getD fills i 0) r
-located {s} {ok} {fills} {u = u} {i = i} {r = r} k g e eu eo ei er =
-    let store = sound-sized (found-sound g e) in
-    let low : u < 16 = omega (arith, store .units) in
-    let serves : byte s (8 + u) ≡ 2 → ⊥ = none-out s u eo in
-    let own : getD fills i 0 ≡ fillIn (view s) u = ap (λ j. getD fills j 0) ei ∙ fill-listed g e u low (λ w. absurd (serves w)) ∙ sym (own-fill s u serves) in
-    record {
-      sized = store;
-      unit = home-unit s k (eu .0);
-      fill = sym own;
-      rank = sym (rank-in s u (getD fills i 0) r k own (er .0));
-      below = low;
-      most = rw ei (fill-most g u low);
-    }
+  -- no unit of its group is out; the code reads n at the index i, and r
+  pub homed : {ok : Bool} {fills firstChecks outs : List ℕ} {i r : ℕ} → Surveyed s ok fills firstChecks outs → ok ≡ true
+      → ltb 0 (outsIn (view s) (u / 4)) ≡ false → i ≡ u → r ≡ first (getD fills i 0) (λ q. eqb (keyOf (view s .slot u q)) k)
+      → Homed s k fits 0 u (getD fills i 0) r
+  homed {ok} {fills} {i = i} {r = r} g e none ei er =
+      let own = own-fill-read g e u ei (h .low) none in
+      record {
+        found = sym (opening ∙ pick-false none _ _);
+        fitting = λ _. h .fitting;
+        located = λ _. record {
+          sized = sound-sized (h .tested);
+          unit = sym (h .home);
+          fill = sym own;
+          rank = sym (rank-in s u (getD fills i 0) r k own er);
+          below = h .low;
+          most = rw ei (fill-most g u (h .low));
+        };
+        nowhere = λ z. absurd (z refl);
+      }

@@ -1,50 +1,56 @@
--- `reading::count_records` meets its contract. Assumes nothing.
-use mathlib.Core.Path.{sym, _∙_}
+-- `reading::count_records` meets its contract. What is known at a place is said once, and the needs behind it use it. Assumes nothing.
+use mathlib.Core.Bool.{true, false}
+use mathlib.Core.Path.{_≡_, refl, sym, _∙_}
 use native.Mathlib.Omega.{arith}
 use borrow.Author.Needs.{needs}
 use borrow.Author.Tests.{not-true, not-false}
-use Rattle.soundness.specs.Survey.{found-sound, outs-counted}
-use Rattle.lookup.specs.Sized.{sound-sized}
+use Rattle.model.specs.Layout.{view}
+use Rattle.model.specs.Reads.{lostIn, totalIn}
+use Rattle.soundness.specs.Survey.{found-sized, outs-read}
 use Rattle.reading.proofs.Verdicts.{not-counted, safe-store, whole-learned, fills-total, list-unsound, list-lost, list-short, counted}
 use Rattle.reading.proofs.count_records.Statement.{statement}
 use Rattle.reading.proofs.count_records.Tie as tie
 
+-- ---- the store is sound, nothing of it is lost, and its records are counted
+abbrev start : tie.Else1 → tie.Start
+start c = c .before .before .before
+
+sound : (c : tie.Else1) → start c .args .survey .sound ≡ true
+sound c = not-false _ (c .if1 .left)
+
+abbrev tested : tie.Else2 → tie.Else1
+tested c = c .before .before .before
+
+none : (c : tie.Else2) → lostIn (view (start (tested c) .args .s .now)) ≡ false
+none c = sym (c .before .lost .ensures) ∙ c .if2 .left
+
+sum : (c : tie.After-total) → c .total .result ≡ totalIn (view (start (tested (c .before .before)) .args .s .now))
+sum c =
+    let safe = c .before .before in
+    let survey = start (tested safe) .pre in
+    let ok = sound (tested safe) in
+    c .total .ensures .0 ∙ fills-total (whole-learned survey ok (safe-store (found-sized survey ok) (none safe)))
+
+-- ---- the needs
 returns : tie.Need-returns
 returns c = not-counted 0 (list-unsound _ _ _ (not-true _ (c .if1 .taken)))
 
 lost-requires : tie.Need-lost-requires
-lost-requires c κs =
-    let good = c .before in
-    let survey = good .before .before .before .pre in
-    let ok = not-false _ (good .if1 .left) in
-    (sound-sized (found-sound survey ok), outs-counted survey ok)
+lost-requires c κs = let survey = start (c .before) .pre in let ok = sound (c .before) in (found-sized survey ok, λ g. outs-read survey ok g refl)
 
 returns-2 : tie.Need-returns-2
-returns-2 c =
-    let lost = c .before in
-    not-counted 7 (list-lost _ _ _ (not-false _ (lost .before .before .if1 .left)) (sym (lost .lost .ensures) ∙ c .if2 .taken))
+returns-2 c = let lost = c .before in not-counted 7 (list-lost _ _ _ (sound (lost .before .before)) (sym (lost .lost .ensures) ∙ c .if2 .taken))
 
 returns-3 : tie.Need-returns-3
 returns-3 c =
-    let total = c .before in
-    let safe = total .before .before in
-    let good = safe .before .before .before in
-    let start = good .before .before .before in
-    let ok = not-false _ (good .if1 .left) in
-    let none = sym (safe .before .lost .ensures) ∙ safe .if2 .left in
-    let sum = total .total .ensures .0 ∙ fills-total (whole-learned (start .pre) ok (safe-store (sound-sized (found-sound (start .pre) ok)) none)) in
-    not-counted 6 (list-short _ _ _ ok none (omega (arith, c .if3 .taken, sum)))
+    let safe = c .before .before .before in
+    not-counted 6 (list-short _ _ _ (sound (tested safe)) (none safe) (omega (arith, c .if3 .taken, sum (c .before))))
 
 returns-4 : tie.Need-returns-4
 returns-4 c =
-    let total = c .before in
-    let safe = total .before .before in
-    let good = safe .before .before .before in
-    let start = good .before .before .before in
-    let ok = not-false _ (good .if1 .left) in
-    let none = sym (safe .before .lost .ensures) ∙ safe .if2 .left in
-    let sum = total .total .ensures .0 ∙ fills-total (whole-learned (start .pre) ok (safe-store (sound-sized (found-sound (start .pre) ok)) none)) in
-    counted _ _ _ ok none _ (sound-sized (found-sound (start .pre) ok)) sum (omega (arith, c .if3 .left, sum))
+    let safe = c .before .before .before in
+    let ok = sound (tested safe) in
+    counted _ _ _ ok (none safe) _ (found-sized (start (tested safe) .pre) ok) (sum (c .before)) (omega (arith, c .if3 .left, sum (c .before)))
 
 pub count-records-spec : {M : Type 1} → statement M
 count-records-spec =

@@ -6,10 +6,10 @@ use borrow.Author.Needs.{needs}
 use borrow.Author.Tests.{not-true, not-false}
 use Rattle.model.specs.Layout.{view}
 use Rattle.lookup.specs.Groups.{goneIn, recoverable-known}
-use Rattle.lookup.specs.Sized.{Sized, sound-sized}
-use Rattle.soundness.specs.Survey.{found-sound}
-use Rattle.reading.proofs.Verdicts.{refusal, home-is, no-key, no-room, unsound, Sought, sought-sized, outs-read, lost}
-use Rattle.reading.proofs.Verdicts.{there, fill-read, first-check-read, absent, present}
+use Rattle.lookup.specs.Sized.{Sized}
+use Rattle.lookup.specs.UnitCases.{home-found}
+use Rattle.soundness.specs.Survey.{found-sized, outs-read, first-check-read}
+use Rattle.reading.proofs.Verdicts.{refusal, no-key, no-room, unsound, Sought, sought-sized, lost, there, listed-read, absent, present}
 use Rattle.reading.proofs.look_up.Statement.{statement}
 use Rattle.reading.proofs.look_up.Tie as tie
 
@@ -18,7 +18,7 @@ abbrev start : tie.Else3 → tie.Start
 start c = c .before .before .before .before .before
 
 tested : (c : tie.Else3) → Sized (start c .args .s .now)
-tested c = sound-sized (found-sound (start c .pre) (not-false _ (c .if3 .left)))
+tested c = found-sized (start c .pre) (not-false _ (c .if3 .left))
 
 -- ---- the key's unit
 abbrev store : tie.After-unit-of → tie.Else3
@@ -35,7 +35,7 @@ sought c =
       good = not-false _ (store c .if3 .left);
       key = room .before .if1 .left;
       room = room .if2 .left;
-      home = home-is _ _ _ (c .unit-of .ensures .0);
+      home = home-found _ _ (c .unit-of .ensures .0);
       low = omega (arith, c .unit-of .ensures .1, tested (store c) .units);
     }
 
@@ -68,7 +68,7 @@ array-read-gone : tie.Need-array-read-gone
 array-read-gone c = omega (arith, c .wide .ensures .0, sought (c .before .before) .low)
 
 gone-requires : tie.Need-gone-requires
-gone-requires c κs = let key = sought (c .before .before) in (sought-sized key, key .low, outs-read key (c .wide .ensures .0))
+gone-requires c κs = let key = sought (c .before .before) in (sought-sized key, key .low, outs-read (key .surveyed) (key .good) _ (c .wide .ensures .0) (omega (arith, key .low)))
 
 returns-4 : tie.Need-returns-4
 returns-4 c =
@@ -86,8 +86,8 @@ listed-rank-requires c κs =
     let count = c .before .before in
     let unlost = count .before .before in
     let key = sought (unit unlost) in
-    let fill = fill-read key (safe unlost) (count .wide2 .ensures .0) in
-    (recoverable-known (there key (safe unlost)), first-check-read key (safe unlost) (c .wide3 .ensures .0), fill .0, fill .1)
+    let fill = listed-read key (safe unlost) (count .wide2 .ensures .0) in
+    (recoverable-known (there key (safe unlost)), first-check-read (key .surveyed) (key .good) _ (c .wide3 .ensures .0) (omega (arith, key .low)), fill .0, fill .1)
 
 returns-5 : tie.Need-returns-5
 returns-5 c =
@@ -96,14 +96,14 @@ returns-5 c =
     let unlost = count .before .before in
     let key = sought (unit unlost) in
     refusal 5 (c .refused5 .ensures)
-    (absent key (safe unlost) (fill-read key (safe unlost) (count .wide2 .ensures .0)) (rank .listed-rank .ensures .0) (c .before .if5 .taken))
+    (absent key (safe unlost) (listed-read key (safe unlost) (count .wide2 .ensures .0)) (rank .listed-rank .ensures .0) (c .before .if5 .taken))
 
 returns-6 : tie.Need-returns-6
 returns-6 c =
     let count = c .before .before .before .before in
     let unlost = count .before .before in
     let key = sought (unit unlost) in
-    present key (safe unlost) (fill-read key (safe unlost) (count .wide2 .ensures .0)) (c .before .listed-rank .ensures .0) (c .if5 .left)
+    present key (safe unlost) (listed-read key (safe unlost) (count .wide2 .ensures .0)) (c .before .listed-rank .ensures .0) (c .if5 .left)
 
 pub look-up-spec : {M : Type 1} → statement M
 look-up-spec =

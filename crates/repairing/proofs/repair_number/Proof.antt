@@ -1,15 +1,13 @@
 -- `repairing::repair_number` meets its contract. Assumes nothing.
 use Rattle.buffer.specs.TestLaws.{is-yes}
 use Prim.Native.Nat.{_<_}
-use mathlib.Core.Path.{refl, ap, _∙_}
+use mathlib.Core.Path.{refl}
 use native.Mathlib.Omega.{arith}
-use lib.ListN.{getD}
 use borrow.Author.Tests.{ltb-false}
 use Rattle.buffer.specs.Choice.{pick}
 use Rattle.model.specs.Numbers.{firstOf, refusalsIn}
 use Rattle.model.specs.StoreLaws.{units-of}
-use Rattle.soundness.specs.Survey.{found-sound, outs-counted}
-use Rattle.lookup.specs.Sized.{sound-sized}
+use Rattle.soundness.specs.Survey.{found-sized, outs-read}
 use borrow.Author.Needs.{needs}
 use Rattle.repairing.proofs.repair_number.Statement.{statement}
 use Rattle.repairing.proofs.repair_number.Tie as tie
@@ -39,7 +37,7 @@ beyond-requires c κs =
     let start = good .before .before .before .before in
     let low : start .args .group < 4 = omega (arith, ltb-false 3 (start .args .group) (good .before .before .if1 .left)) in
     let ok = is-yes refl (good .if2 .left) in
-    (sound-sized (found-sound (start .pre) ok), low, ap (λ i. getD (start .args .survey .outs) i 0) (c .wide .ensures .0) ∙ outs-counted (start .pre) ok (start .args .group) low)
+    (found-sized (start .pre) ok, low, outs-read (start .pre) ok (start .args .group) (c .wide .ensures .0) low)
 
 returns-4 : tie.Need-returns-4
 unfolding firstOf refusalsIn pick

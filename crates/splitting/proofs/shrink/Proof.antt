@@ -1,83 +1,59 @@
--- `splitting::shrink` meets its contract. Assumes nothing.
+-- `splitting::shrink` meets its contract. What is known at a place is said once, and the needs behind it use it. Assumes nothing.
 use borrow.Author.Needs.{needs}
+use mathlib.Core.List.{List}
 use mathlib.Core.Path.{ap, _∙_}
 use native.Mathlib.Omega.{arith}
-use Prim.Native.Nat.{pred}
+use Prim.Native.Nat.{ℕ, pred}
 use Rattle.model.specs.Layout.{bytes, view}
 use Rattle.model.specs.Changes.{shrunk}
 use Rattle.model.specs.Perform.{grantedIn}
 use Rattle.model.specs.PerformLaws.{of-shrink, refused, granted}
 use Rattle.model.specs.StoreLaws.{units-of}
-use Rattle.splitting.proofs.Rows.{pred-of, sized, last-unit, shrinks, removes}
+use Rattle.splitting.proofs.Rows.{pred-of, Shrinks, shrinks, removes}
 use Rattle.splitting.proofs.shrink.Statement.{statement}
 use Rattle.splitting.proofs.shrink.Tie as tie
 
+-- ---- the store, and the unit that is removed
+abbrev survey : tie.After-byte-at → tie.After-survey-of
+survey c = c .before .before .before .before .before
+
+abbrev store : tie.After-byte-at → List ℕ
+store c = survey c .before .before .before .args .s .now
+
+removed : (c : tie.After-byte-at) → Shrinks (store c) (survey c .survey-of .result .fills) (c .byte-at .result)
+removed c = shrinks (survey c .survey-of .ensures) (c .before .before .if1 .left) (c .byte-at .ensures) (c .before .before .before .shrink-number .ensures)
+
+-- ---- the needs
 shrink-number-requires : tie.Need-shrink-number-requires
 shrink-number-requires c κs = c .before .survey-of .ensures
 
 returns : tie.Need-returns
-returns c =
-    let n = c .before in
-    let k = n .before .before in
-    refused (k .before .before .before .args .s .now) of-shrink (k .survey-of .ensures .tested) (n .shrink-number .ensures) (c .if1 .taken)
+returns c = refused _ of-shrink (c .before .before .before .survey-of .ensures .tested) (c .before .shrink-number .ensures) (c .if1 .taken)
 
 sub-m : tie.Need-sub-m
-sub-m c =
-    let i = c .before .before in
-    let n = i .before in
-    let s = n .before .before .before .before .before .args .s .now in
-    omega (arith, shrinks s (i .if1 .left) (c .byte-at .ensures) (n .shrink-number .ensures) .some)
+sub-m c = omega (arith, removed c .last .some)
 
 split-pointer-requires : tie.Need-split-pointer-requires
-split-pointer-requires c κs =
-    let i = c .before .before in
-    let n = i .before in
-    let s = n .before .before .before .before .before .args .s .now in
-    omega (arith, shrinks s (i .if1 .left) (c .byte-at .ensures) (n .shrink-number .ensures) .some)
+split-pointer-requires c κs = removed c .last .some
 
 array-read-remove-unit : tie.Need-array-read-remove-unit
-array-read-remove-unit c =
-    let p = c .before .before .before in
-    let b = p .before in
-    let i = b .before .before in
-    let n = i .before in
-    let k = n .before .before in
-    let s = k .before .before .before .args .s .now in
-    let h = shrinks s (i .if1 .left) (b .byte-at .ensures) (n .shrink-number .ensures) in
-    omega (arith, c .wide .ensures .0, p .split-pointer .ensures .1, last-unit (sized s (k .survey-of .ensures .tested) (h .sound)) (b .byte-at .ensures) (h .some) .1)
+array-read-remove-unit c = let n = c .before .before .before in omega (arith, c .wide .ensures .0, n .split-pointer .ensures .1, removed (n .before) .last .few)
 
 array-read-remove-unit-2 : tie.Need-array-read-remove-unit-2
-array-read-remove-unit-2 c =
-    let b = c .before .before .before .before .before in
-    let i = b .before .before in
-    let n = i .before in
-    let k = n .before .before in
-    let s = k .before .before .before .args .s .now in
-    let h = shrinks s (i .if1 .left) (b .byte-at .ensures) (n .shrink-number .ensures) in
-    omega (arith, c .wide2 .ensures .0, last-unit (sized s (k .survey-of .ensures .tested) (h .sound)) (b .byte-at .ensures) (h .some) .1)
+array-read-remove-unit-2 c = omega (arith, c .wide2 .ensures .0, removed (c .before .before .before .before .before) .last .few)
 
 remove-unit-requires : tie.Need-remove-unit-requires
 remove-unit-requires c κs =
-    let w = c .before in
-    let p = w .before .before .before in
-    let b = p .before in
-    let i = b .before .before in
-    let n = i .before in
-    let k = n .before .before in
-    let s = k .before .before .before .args .s .now in
-    removes (k .survey-of .ensures) (shrinks s (i .if1 .left) (b .byte-at .ensures) (n .shrink-number .ensures)) (b .byte-at .ensures) (p .split-pointer .ensures) (w .wide .ensures .0) (c .wide2 .ensures .0)
+    let n = c .before .before .before .before in
+    removes (removed (n .before)) (n .split-pointer .ensures) (c .before .wide .ensures .0) (c .wide2 .ensures .0)
 
 returns-2 : tie.Need-returns-2
 unfolding grantedIn
 returns-2 c =
     let u = c .before .before in
-    let b = u .before .before .before .before .before .before in
-    let i = b .before .before in
-    let n = i .before in
-    let k = n .before .before in
-    let s = k .before .before .before .args .s .now in
-    granted s of-shrink (k .survey-of .ensures .tested) (n .shrink-number .ensures) (i .if1 .left)
-    (u .remove-unit .ensures ∙ ap (λ m. bytes (shrunk (view s) m)) (pred-of (b .byte-at .result) ∙ ap pred (b .byte-at .ensures ∙ units-of s)))
+    let m = u .before .before .before .before .before .before in
+    granted (store m) of-shrink (survey m .survey-of .ensures .tested) (m .before .before .before .shrink-number .ensures) (m .before .before .if1 .left)
+    (u .remove-unit .ensures ∙ ap (λ k. bytes (shrunk (view (store m)) k)) (pred-of (m .byte-at .result) ∙ ap pred (m .byte-at .ensures ∙ units-of (store m))))
 
 pub shrink-spec : {M : Type 1} → statement M
 shrink-spec =
