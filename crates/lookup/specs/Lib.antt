@@ -1,6 +1,10 @@
 pub mod UnitCases
 pub mod Sized
+pub mod SizedLaws
 pub mod States
 pub mod Keys
+pub mod KeyLaws
 pub mod Groups
+pub mod GroupLaws
 pub mod Slots
+pub mod SlotLaws

@@ -1,20 +1,18 @@
 -- The check units that grow, shrink and repair make anew hold the check records of the slots that the call leaves, whatever the store. Assumes nothing.
-use Prim.Native.Nat.{ℕ, pred, _+_, _*_, _/_, _%_, _≤_, _<_}
+use Prim.Native.Nat.{ℕ, pred, _+_, _*_, _/_, _%_, _<_}
 use mathlib.Core.Path.{_≡_, refl, sym, _∙_}
 use mathlib.Core.List.{List}
-use mathlib.Core.Bool.{Bool, true, false, _||_}
+use mathlib.Core.Bool.{true}
 use native.Mathlib.Omega.{arith}
-use lib.Dec.{eqb}
-use borrow.Author.Tests.{eq-eqb, eqb-true, ltb-false, leb-false, not-false}
-use Rattle.buffer.specs.Choice.{pick}
-use Rattle.buffer.specs.ChoiceLaws.{by-test, pick-true}
+use borrow.Author.Tests.{eq-eqb, ltb-false, leb-false, not-false}
+use Rattle.buffer.specs.ChoiceLaws.{pick-true}
 use Rattle.buffer.specs.TestLaws.{and-true}
 use Rattle.group.specs.CheckRecordLaws.{checkRecord-ext}
 use Rattle.model.specs.Units.{touched}
 use Rattle.model.specs.Layout.{Store, bytes, view, unitsIn}
 use Rattle.model.specs.LayoutLaws.{Shaped, Same, view-bytes, view-shaped}
 use Rattle.model.specs.Sound.{sound}
-use Rattle.model.specs.SoundSays.{ranged, units-some, units-few, Stateful, check-states}
+use Rattle.model.specs.SoundSays.{ranged, units-some, units-few, states-low}
 use Rattle.model.specs.Numbers.{Call, repair, grow, shrink, refusalsIn, numberIn}
 use Rattle.model.specs.RowLaws.{Free}
 use Rattle.model.specs.Changes.{repaired, grown, shrunk}
@@ -32,14 +30,6 @@ seen-holds t h c l f r m =
     let s : Same (view (bytes t)) t = view-bytes t h in
     let n : r < t .size = omega (arith, s .size) in
     s .check c r l n ∙ f r n ∙ sym (checkRecord-ext (c % 3) _ _ (λ p q. s .slot (4 * (c / 3) + p) r (omega arith) n))
-
--- a state that a unit may have
-state-most : (p : Bool) (n : ℕ) → Stateful p n → n ≤ 2
-unfolding pick
-state-most true n e =
-    by-test (λ (t : Bool). (t || eqb n 2) ≡ true → n ≤ 2) (eqb n 1)
-    (λ q _. omega (arith, eqb-true n 1 q)) (λ _ z. omega (arith, eqb-true n 2 z)) e
-state-most false n e = omega (arith, eqb-true n 0 e)
 
 -- ---- a granted call
 
@@ -68,11 +58,6 @@ module _ (s : List ℕ) (ok : sound s ≡ true) where
 
   itself : Alike (view s) (view s)
   itself = alike-refl (view s) shaped
-
-  states-low : (c : ℕ) → c < 12 → view s .cstate c ≤ 2
-  states-low c l =
-      let k : 3 * (c / 3) + c % 3 ≡ c = omega arith in
-      rw k at (state-most _ (view s .cstate (3 * (c / 3) + c % 3)) (check-states s ok (c / 3) (c % 3) (omega arith) (omega arith)))
 
 -- ---- what each call makes anew
 

@@ -28,8 +28,9 @@ use Rattle.model.specs.StoreLaws.{same-long, chunks-shaped, chunks-size, chunks
 use Rattle.model.specs.Reads.{beyondIn, servesIn, holds, firstCheck, listedKey, wholeSlot}
 use Rattle.lookup.specs.Sized.{Sized}
 use Rattle.lookup.specs.Keys.{keysAt}
-use Rattle.lookup.specs.Groups.{beyond-states, four-states, group-four, recoverable-known}
-use Rattle.lookup.specs.Slots.{Recipe, body-rebuilt}
+use Rattle.lookup.specs.GroupLaws.{beyond-states, four-states, group-four, recoverable-known}
+use Rattle.lookup.specs.Slots.{Recipe}
+use Rattle.lookup.specs.SlotLaws.{body-rebuilt}
 
 -- ---- the header of a store
 header-read : (t : Store) → Shaped t → part 0 36 (bytes t) ≡ header t

@@ -19,7 +19,8 @@ use Rattle.model.specs.LayoutLaws.{Shaped, Same, bytes-ext, bytes-view, view-sh
 use Rattle.model.specs.StoreLaws.{size-of, chunks-ext, chunks-none, chunks-shaped}
 use Rattle.model.specs.Reads.{servesIn, firstCheck, wholeSlot}
 use Rattle.lookup.specs.Groups.{Recoverable}
-use Rattle.lookup.specs.Slots.{Recipe, length-whole}
+use Rattle.lookup.specs.Slots.{Recipe}
+use Rattle.lookup.specs.SlotLaws.{length-whole}
 use Rattle.repairing.specs.Groups.{Repairable}
 use Rattle.repairing.specs.Steps.{unitRebuilt, unitsRebuilt}
 use Rattle.repairing.proofs.Renewed.{renewed, renewed-none, renewed-more, renewed-own, renewed-off, length-renewed, renewed-by}

@@ -22,7 +22,7 @@ use Rattle.group.specs.ParityLaws.{parity-ext}
 use Rattle.group.specs.CheckRecord.{checkRecord}
 use Rattle.group.specs.CheckRecordLaws.{length-key}
 use Rattle.group.specs.Four.{fourBodies}
-use Rattle.lookup.specs.Slots.{drop-part}
+use Rattle.lookup.specs.SlotLaws.{drop-part}
 use Rattle.model.specs.Layout.{Store, bytes, view, slotAt, checkAt}
 use Rattle.model.specs.Places.{CheckIn, data-units, check-units}
 use Rattle.model.specs.Parts.{withChecks}

@@ -27,10 +27,12 @@ use Rattle.model.specs.Changes.{raised}
 use Rattle.model.specs.RowLaws.{row-pair, first-free}
 use Rattle.model.specs.PerformLaws.{none-holds}
 use Rattle.model.specs.SoundSays.{zeroed-says, clauses}
-use Rattle.soundness.specs.Survey.{Surveyed, outs-counted, fill-listed}
-use Rattle.lookup.specs.Sized.{Sized, sound-sized}
-use Rattle.lookup.specs.Keys.{own-fill}
-use Rattle.lookup.specs.Groups.{none-out}
+use Rattle.soundness.specs.Survey.{Surveyed}
+use Rattle.soundness.specs.SurveyLaws.{outs-counted, fill-listed}
+use Rattle.lookup.specs.Sized.{Sized}
+use Rattle.lookup.specs.SizedLaws.{sound-sized}
+use Rattle.lookup.specs.KeyLaws.{own-fill}
+use Rattle.lookup.specs.GroupLaws.{none-out}
 use Rattle.splitting.specs.Steps.{Split, Blank, pairOut, pairCrowded}
 use Rattle.splitting.proofs.StepLaws.{or-first, or-second}
 

@@ -13,10 +13,11 @@ use Rattle.model.specs.Layout.{view, keyOf}
 use Rattle.model.specs.Reads.{homeIn, outsIn, fillIn}
 use Rattle.model.specs.Numbers.{firstOf}
 use Rattle.model.specs.StoreLaws.{units-of}
-use Rattle.soundness.specs.Survey.{Surveyed, found-sound, fill-listed, fill-most, outs-counted}
-use Rattle.lookup.specs.Sized.{sound-sized}
-use Rattle.lookup.specs.Keys.{rank-in, own-fill}
-use Rattle.lookup.specs.Groups.{none-out}
+use Rattle.soundness.specs.Survey.{Surveyed}
+use Rattle.soundness.specs.SurveyLaws.{found-sound, fill-listed, fill-most, outs-counted}
+use Rattle.lookup.specs.SizedLaws.{sound-sized}
+use Rattle.lookup.specs.KeyLaws.{rank-in, own-fill}
+use Rattle.lookup.specs.GroupLaws.{none-out}
 use Rattle.writing.specs.Homes.{openingRows, Located, Homed}
 
 -- a key that is refused

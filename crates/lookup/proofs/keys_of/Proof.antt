@@ -2,7 +2,7 @@
 use mathlib.Core.Path.{sym, _∙_}
 use borrow.Author.Needs.{needs}
 use Rattle.lookup.specs.States.{state-byte}
-use Rattle.lookup.specs.Keys.{lists-own, lists-out}
+use Rattle.lookup.specs.KeyLaws.{lists-own, lists-out}
 use Rattle.lookup.proofs.keys_of.Statement.{statement}
 use Rattle.lookup.proofs.keys_of.Tie as tie
 

@@ -3,8 +3,8 @@ use mathlib.Core.Path.{sym, _∙_}
 use native.Mathlib.Omega.{arith}
 use borrow.Author.Needs.{needs}
 use borrow.Author.Tests.{not-true, not-false}
-use Rattle.soundness.specs.Survey.{found-sound, outs-counted}
-use Rattle.lookup.specs.Sized.{sound-sized}
+use Rattle.soundness.specs.SurveyLaws.{found-sound, outs-counted}
+use Rattle.lookup.specs.SizedLaws.{sound-sized}
 use Rattle.reading.proofs.Verdicts.{not-counted, safe-store, whole-learned, fills-total, list-unsound, list-lost, list-short, counted}
 use Rattle.reading.proofs.count_records.Statement.{statement}
 use Rattle.reading.proofs.count_records.Tie as tie

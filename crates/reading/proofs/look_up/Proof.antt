@@ -4,9 +4,9 @@ use mathlib.Core.Path.{sym, _∙_}
 use native.Mathlib.Omega.{arith}
 use borrow.Author.Needs.{needs}
 use borrow.Author.Tests.{not-true, not-false}
-use Rattle.lookup.specs.Groups.{recoverable-known}
-use Rattle.soundness.specs.Survey.{found-sound}
-use Rattle.lookup.specs.Sized.{sound-sized}
+use Rattle.lookup.specs.GroupLaws.{recoverable-known}
+use Rattle.soundness.specs.SurveyLaws.{found-sound}
+use Rattle.lookup.specs.SizedLaws.{sound-sized}
 use Rattle.reading.proofs.Verdicts.{refusal, home-is, no-key, no-room, unsound, lost, absent, present, safe-unit, safe-fill, outs-read, safe-first-check}
 use Rattle.reading.proofs.look_up.Statement.{statement}
 use Rattle.reading.proofs.look_up.Tie as tie

@@ -8,8 +8,8 @@ use borrow.Author.Tests.{ltb-false}
 use Rattle.buffer.specs.Choice.{pick}
 use Rattle.model.specs.Numbers.{firstOf, refusalsIn}
 use Rattle.model.specs.StoreLaws.{units-of}
-use Rattle.soundness.specs.Survey.{found-sound, outs-counted}
-use Rattle.lookup.specs.Sized.{sound-sized}
+use Rattle.soundness.specs.SurveyLaws.{found-sound, outs-counted}
+use Rattle.lookup.specs.SizedLaws.{sound-sized}
 use borrow.Author.Needs.{needs}
 use Rattle.repairing.proofs.repair_number.Statement.{statement}
 use Rattle.repairing.proofs.repair_number.Tie as tie

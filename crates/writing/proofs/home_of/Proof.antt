@@ -7,8 +7,8 @@ use borrow.Author.Tests.{not-false}
 use borrow.Author.Needs.{needs}
 use Rattle.buffer.specs.Choice.{pick}
 use Rattle.model.specs.Numbers.{firstOf}
-use Rattle.soundness.specs.Survey.{found-sound, fill-most}
-use Rattle.lookup.specs.Sized.{sound-sized}
+use Rattle.soundness.specs.SurveyLaws.{found-sound, fill-most}
+use Rattle.lookup.specs.SizedLaws.{sound-sized}
 use Rattle.writing.specs.Homes.{openingRows}
 use Rattle.writing.proofs.Homes.{home-unit, homeless, outs-read, located}
 use Rattle.writing.proofs.home_of.Statement.{statement}
