@@ -92,7 +92,8 @@ unit-within b w n =
     (λ w. w < 28 → storeBytes b ≤ n → (unitAt b w ≤ unitAt b (w + 1)) × (unitAt b (w + 1) ≤ n))
     w
     (λ k l h. rw (data-at b w (omega arith), data-at b (w + 1) (omega arith)) (omega arith, omega (arith, ranks-within data-units b w 0 b n k (omega arith) h)))
-    (λ c l h. rw (nth-check b (16 + c) c (omega arith), nth-check b (16 + c + 1) (c + 1) (omega arith)) (omega arith, omega (arith, ranks-within check-units b c 0 b n (omega arith) (omega arith) h)))
+    (λ c l h. rw (nth-check b (16 + c) c (omega arith), nth-check b (16 + c + 1) (c + 1) (omega arith))
+    (omega arith, omega (arith, ranks-within check-units b c 0 b n (omega arith) (omega arith) h)))
 
 -- from the code's facts: the unit's bytes stand from `from` to `to`
 module _ (s₀ s′ z : List ℕ) (b from to at : ℕ) (long : Long s₀) (eb : b ≡ byte s₀ 5) (cleared : z ≡ zeros (length (part from (to - from) s₀))) where

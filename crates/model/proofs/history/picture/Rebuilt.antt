@@ -97,7 +97,8 @@ module _ (l : Ledger) (rest : List ℕ) (h : Valid l) where
 
       body-rebuilt : (p : ℕ) → p < 4 → rebuilt (servesIn v g) (holds v g r) p ≡ recordAt l (4 * g + p) r .body
       unfolding bodies
-      body-rebuilt p a = rebuilds bodyBytes (servesIn v g) (holds v g r) bodies (λ q i. h .good (4 * g + q) r .body) holds-data holds-check (four-serve v g low near) p a
+      body-rebuilt p a =
+          rebuilds bodyBytes (servesIn v g) (holds v g r) bodies (λ q i. h .good (4 * g + q) r .body) holds-data holds-check (four-serve v g low near) p a
 
   -- ---- a unit that can be read
 
