@@ -1,19 +1,22 @@
 -- Laws of what the calls read in a store: a unit has no more records than ranks, each rank before their number has a key, and a unit that is not
--- out lists its own keys and has its slots as they stand. Assumes nothing.
-use Prim.Native.Nat.{ℕ, _≤_, _<_}
+-- out lists its own keys; a group that is not beyond recovery has four members in service, a check unit among them where a data unit is out.
+-- Assumes nothing.
+use Prim.Native.Nat.{ℕ, _≤_, _<_, _+_, _*_}
 use mathlib.Core.Path.{_≡_, ap, _∙_}
 use mathlib.Core.Logic.{_≢_}
-use mathlib.Core.Bool.{false}
+use mathlib.Core.Bool.{false, true, not}
 use lib.Dec.{eqb}
 use lib.ListN.{take}
 use borrow.Author.Tests.{eqb-false}
 use Rattle.buffer.specs.ChoiceLaws.{pick-false}
-use Rattle.buffer.specs.Range.{first}
-use Rattle.buffer.specs.RangeLaws.{first-ext, first-le, first-misses}
+use Rattle.buffer.specs.Range.{first, count}
+use Rattle.buffer.specs.RangeLaws.{first-ext, first-le, first-misses, count-ext, count-append, count-not, count-pos}
 use Rattle.group.specs.Widths.{keyBytes}
 use Rattle.model.specs.Layout.{Store, keyOf}
 use Rattle.model.specs.LayoutLaws.{key-first}
-use Rattle.model.specs.Reads.{fillIn, rankIn, listedKey, listedFill, listedRank, wholeSlot}
+use Rattle.model.specs.Reads.{fillIn, rankIn, listedKey, listedFill, listedRank, wholeSlot, beyondIn, servesIn}
+use Rattle.group.specs.MembersLaws.{enough, serves-data, serves-check}
+use native.Mathlib.Omega.{arith}
 
 module _ (v : Store) (u : ℕ) where
   pub fill-le : fillIn v u ≤ v .size
@@ -52,3 +55,18 @@ module _ (v : Store) (u : ℕ) where
     pub whole-own : (r : ℕ) → wholeSlot v u r ≡ v .slot u r
     unfolding wholeSlot
     whole-own r = pick-false kept _ (v .slot u r)
+
+-- ---- a group that is not beyond recovery
+module _ (v : Store) (g : ℕ) (low : (j : ℕ) → j < 3 → v .cstate (3 * g + j) ≤ 2) (near : beyondIn v g ≡ false) where
+  pub four-serve : 4 ≤ count 7 (servesIn v g)
+  unfolding servesIn beyondIn
+  four-serve = enough (λ p. v .dstate (4 * g + p)) (λ j. v .cstate (3 * g + j)) low near
+
+  pub check-serves : (p : ℕ) → p < 4 → eqb (v .dstate (4 * g + p)) 2 ≡ true → 0 < count 3 (λ j. eqb (v .cstate (3 * g + j)) 1)
+  unfolding servesIn
+  check-serves p l e =
+      let d : ℕ → ℕ = λ p. v .dstate (4 * g + p) in
+      let c : ℕ → ℕ = λ j. v .cstate (3 * g + j) in
+      let places : count 4 (servesIn v g) ≡ count 4 (λ p. not (eqb (d p) 2)) = count-ext 4 _ _ (serves-data d c) in
+      let checks : count 3 (λ j. servesIn v g (4 + j)) ≡ count 3 (λ j. eqb (c j) 1) = count-ext 3 _ _ (λ j m. serves-check d c j) in
+      omega (arith, four-serve, count-append 4 3 (servesIn v g), count-not 4 (λ p. eqb (d p) 2), count-pos 4 (λ p. eqb (d p) 2) p l e)

@@ -1,5 +1,5 @@
 -- What the test of soundness says of a store, clause by clause, as facts. Assumes nothing.
-use Prim.Native.Nat.{ℕ, _+_, _*_, _/_, _≤_, _<_}
+use Prim.Native.Nat.{ℕ, _+_, _*_, _/_, _≤_, _<_, _%_}
 use mathlib.Core.Path.{_≡_, refl, sym, _∙_}
 use mathlib.Core.List.{List}
 use mathlib.Core.Bool.{Bool, true, false, not, _&&_, _||_}
@@ -7,7 +7,7 @@ use lib.Dec.{eqb, ltb}
 use lib.ListN.{length}
 use borrow.Author.Tests.{eqb-true, leb-true}
 use Rattle.buffer.specs.Choice.{pick}
-use Rattle.buffer.specs.ChoiceLaws.{pick-true, pick-false}
+use Rattle.buffer.specs.ChoiceLaws.{pick-true, pick-false, by-test}
 use Rattle.buffer.specs.TestLaws.{not-both, and-first, and-second, or-other}
 use Rattle.buffer.specs.Range.{all}
 use Rattle.buffer.specs.RangeLaws.{all-true}
@@ -19,6 +19,7 @@ use Rattle.model.specs.StoreLaws.{units-of}
 use Rattle.model.specs.Reads.{fillIn, listedKey, listedFill}
 use Rattle.model.specs.Sound.{same, ranges, unitsPlaced, checksIn, checksAllowed, groupsPlaced, zeroed, keysKnown, keysPlaced, listsAgree, sound}
 use Rattle.model.specs.SoundLaws.{same-true}
+use native.Mathlib.Omega.{arith}
 
 and-both : (s t : Bool) → (s && t) ≡ true → (s ≡ true) × (t ≡ true)
 and-both s t e = (and-first s t e, and-second s t e)
@@ -88,6 +89,13 @@ in-range s h =
 abbrev pub Stateful : Bool → ℕ → Type 0
 Stateful p n = pick p (eqb n 1 || eqb n 2) (eqb n 0) ≡ true
 
+state-most : (p : Bool) (n : ℕ) → Stateful p n → n ≤ 2
+unfolding pick
+state-most true n e =
+    by-test (λ (t : Bool). (t || eqb n 2) ≡ true → n ≤ 2) (eqb n 1)
+    (λ q _. omega (arith, eqb-true n 1 q)) (λ _ z. omega (arith, eqb-true n 2 z)) e
+state-most false n e = omega (arith, eqb-true n 0 e)
+
 module _ (s : List ℕ) (h : sound s ≡ true) where
   abbrev v : Store
   v = view s
@@ -143,6 +151,11 @@ module _ (s : List ℕ) (h : sound s ≡ true) where
 
   pub check-states : (g j : ℕ) → g < 4 → j < 3 → Stateful (ltb j (checksIn v g)) (v .cstate (3 * g + j))
   check-states g j l m = all-true 3 (place-test g) (and-second (number-test g) (all 3 (place-test g)) (group-test g l)) j m
+
+  pub states-low : (c : ℕ) → c < 12 → view s .cstate c ≤ 2
+  states-low c l =
+      let k : 3 * (c / 3) + c % 3 ≡ c = omega arith in
+      rw k at (state-most _ (v .cstate (3 * (c / 3) + c % 3)) (check-states (c / 3) (c % 3) (omega arith) (omega arith)))
 
   -- ---- zeros
 

@@ -23,7 +23,7 @@ use Rattle.model.specs.LayoutLaws as layout
 use Rattle.model.specs.LayoutLaws.{Shaped, chunked, stateBytes, bytes-view, view-shaped, length-states, length-bytes, byte-front}
 
 -- ---- other chunks in a region
-pub chunks-none : (k : Region) (s : Store) → withChunks k s (chunksIn k s) ≡ s
+chunks-none : (k : Region) (s : Store) → withChunks k s (chunksIn k s) ≡ s
 unfolding withSlots withChecks
 chunks-none data-units s = refl
 chunks-none check-units s = refl
@@ -62,6 +62,11 @@ chunks-ext k s f g h =
     chunks-apart k s f
     ∙ ap (λ t. layout.before k s ++ (t ++ layout.behind k s)) (table-ext (units k) (s .size) f g h)
     ∙ sym (chunks-apart k s g)
+
+-- bytes are those of their parts, with the chunks that they have
+pub chunks-same : (k : Region) (x : List ℕ) (f : ℕ → ℕ → List ℕ) → Long x → ((u r : ℕ) → u < units k → r < view x .size → chunksIn k (view x) u r ≡ f u r)
+    → x ≡ bytes (withChunks k (view x) f)
+chunks-same k x f l h = sym (bytes-view x l) ∙ ap bytes (sym (chunks-none k (view x))) ∙ chunks-ext k (view x) _ f h
 
 -- ---- replaced in the bytes of a store
 -- the state of unit u, among the states of n units behind x and before y

@@ -28,8 +28,9 @@ use Rattle.model.specs.StoreLaws.{same-long, chunks-shaped, chunks-size, chunks
 use Rattle.model.specs.Reads.{beyondIn, servesIn, holds, firstCheck, listedKey, wholeSlot}
 use Rattle.lookup.specs.Sized.{Sized}
 use Rattle.lookup.specs.Keys.{keysAt}
-use Rattle.lookup.specs.Groups.{beyond-states, four-states, group-four, recoverable-known}
-use Rattle.lookup.specs.Slots.{Recipe, body-rebuilt}
+use Rattle.lookup.specs.GroupLaws.{beyond-states, four-states, group-four, recoverable-known}
+use Rattle.lookup.specs.Slots.{Recipe}
+use Rattle.lookup.specs.SlotLaws.{body-rebuilt}
 
 -- ---- the header of a store
 header-read : (t : Store) → Shaped t → part 0 36 (bytes t) ≡ header t
@@ -107,7 +108,8 @@ module _ {s₀ s : List ℕ} {f : ℕ → ℕ → List ℕ} (w : Rewritten s₀ 
   check-kept c r l m = rewritten-seen .check c r l (rw (chunks-size data-units (view s₀) f) m) ∙ unfold withSlots in refl
 
   slot-kept : (u r : ℕ) → u < 16 → r < view s₀ .size → (view s₀ .dstate u ≡ 2 → ⊥) → view s .slot u r ≡ view s₀ .slot u r
-  slot-kept u r l m h = rewritten-seen .slot u r l (rw (chunks-size data-units (view s₀) f) m) ∙ ap (λ k. k u r) (chunks-there data-units (view s₀) f) ∙ w .kept u r l m h
+  slot-kept u r l m h =
+      rewritten-seen .slot u r l (rw (chunks-size data-units (view s₀) f) m) ∙ ap (λ k. k u r) (chunks-there data-units (view s₀) f) ∙ w .kept u r l m h
 
   held-kept : (g r m : ℕ) → g < 4 → r < view s₀ .size → m < 7 → servesIn (view s₀) g m ≡ true → holds (view s) g r m ≡ holds (view s₀) g r m
   unfolding holds servesIn

@@ -20,7 +20,7 @@ use Rattle.model.specs.Layout.{Store, bytes, view, slotAt, checkAt}
 use Rattle.model.specs.Places.{data-units, check-units}
 use Rattle.model.specs.LayoutLaws.{bytes-view, view-shaped, rank-within, ranks-within}
 use Rattle.model.specs.StoreLaws.{size-of, splice-unit}
-use Rattle.lookup.specs.Slots.{drop-part}
+use Rattle.lookup.specs.SlotLaws.{drop-part}
 use Rattle.repairing.specs.Groups.{Group, CheckPlace}
 use Rattle.repairing.specs.Steps.{slotsOf, unitMade}
 use Rattle.repairing.proofs.Ranks.{Writing, writing-start, writing-turn, writing-end}

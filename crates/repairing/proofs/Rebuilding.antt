@@ -19,7 +19,8 @@ use Rattle.model.specs.RunLaws.{run, length-run}
 use Rattle.model.specs.StoreLaws.{size-of, splice-ranks, splice-unit}
 use Rattle.model.specs.Reads.{wholeSlot}
 use Rattle.lookup.specs.Keys.{keysAt}
-use Rattle.lookup.specs.Slots.{Recipe, length-whole}
+use Rattle.lookup.specs.Slots.{Recipe}
+use Rattle.lookup.specs.SlotLaws.{length-whole}
 use Rattle.repairing.specs.Steps.{unitRebuilt}
 use Rattle.repairing.proofs.Ranks.{Writing, writing-start, writing-turn, writing-end}
 use Rattle.repairing.proofs.Kept.{Rewritten, byte-kept, keys-kept, recipe-kept, whole-kept}

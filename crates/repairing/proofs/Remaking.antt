@@ -17,8 +17,8 @@ use Rattle.group.specs.CheckRecordLaws.{checkRecord-ext, length-checkRecord}
 use Rattle.model.specs.Layout.{Store, bytes, view}
 use Rattle.model.specs.Places.{check-units}
 use Rattle.model.specs.Parts.{withChecks}
-use Rattle.model.specs.LayoutLaws.{Shaped, Same, bytes-ext, bytes-view, view-shaped, view-bytes}
-use Rattle.model.specs.StoreLaws.{cstate-at, long-at, same-long, chunks-ext, chunks-none, chunks-shaped, chunks-size}
+use Rattle.model.specs.LayoutLaws.{Shaped, Same, bytes-ext, view-shaped, view-bytes}
+use Rattle.model.specs.StoreLaws.{cstate-at, long-at, same-long, chunks-ext, chunks-same, chunks-shaped, chunks-size}
 use Rattle.repairing.specs.Groups.{Group}
 use Rattle.repairing.specs.Steps.{slotsOf, unitMade, unitsMade}
 use Rattle.repairing.proofs.Renewed.{renewed, renewed-none, renewed-more, renewed-off, length-renewed, renewed-by}
@@ -66,12 +66,17 @@ module _ {s₀ : List ℕ} {g : ℕ} (h : Group s₀ g) where
 
   remade : {s : List ℕ} {t : ℕ} → t ≤ 3 → s ≡ bytes (withChecks v (so-far v g t)) → Remaking s₀ g s t
   remade {s} {t} l e =
-      record { within = l; long = ap length e ∙ same-long _ s₀ (shaped t) (h .long) (chunks-size check-units v (so-far v g t)) (unfold withChecks in refl); state = e }
+      record {
+        within = l;
+        long = ap length e
+            ∙ same-long _ s₀ (shaped t) (h .long) (chunks-size check-units v (so-far v g t)) (unfold withChecks in refl);
+        state = e;
+      }
 
   pub remaking-start : Remaking s₀ g s₀ 0
   remaking-start =
       remade (omega arith)
-      (sym (bytes-view s₀ (h .long)) ∙ ap bytes (sym (chunks-none check-units v)) ∙ chunks-ext check-units v (v .check) (so-far v g 0) (λ c r a b. renewed-none (wholeCheck v g) (v .check) (3 * g) c r))
+      (chunks-same check-units s₀ (so-far v g 0) (h .long) (λ c r a b. renewed-none (wholeCheck v g) (v .check) (3 * g) c r))
 
   module _ {s : List ℕ} {t : ℕ} (m : Remaking s₀ g s t) (lt : t < 3) where
     abbrev i : ℕ

@@ -15,11 +15,12 @@ use Rattle.group.specs.Members.{firstFour}
 use Rattle.model.specs.Layout.{Store, bytes, view}
 use Rattle.model.specs.Places.{data-units}
 use Rattle.model.specs.Parts.{withSlots}
-use Rattle.model.specs.LayoutLaws.{Shaped, Same, bytes-ext, bytes-view, view-shaped}
-use Rattle.model.specs.StoreLaws.{size-of, chunks-ext, chunks-none, chunks-shaped}
+use Rattle.model.specs.LayoutLaws.{Shaped, Same, bytes-ext, view-shaped}
+use Rattle.model.specs.StoreLaws.{size-of, chunks-ext, chunks-same, chunks-shaped}
 use Rattle.model.specs.Reads.{servesIn, firstCheck, wholeSlot}
 use Rattle.lookup.specs.Groups.{Recoverable}
-use Rattle.lookup.specs.Slots.{Recipe, length-whole}
+use Rattle.lookup.specs.Slots.{Recipe}
+use Rattle.lookup.specs.SlotLaws.{length-whole}
 use Rattle.repairing.specs.Groups.{Repairable}
 use Rattle.repairing.specs.Steps.{unitRebuilt, unitsRebuilt}
 use Rattle.repairing.proofs.Renewed.{renewed, renewed-none, renewed-more, renewed-own, renewed-off, length-renewed, renewed-by}
@@ -59,7 +60,8 @@ module _ {s₀ : List ℕ} {g : ℕ} (h : Repairable s₀ g) where
 
   pub restored-shaped : Shaped (unitsRebuilt (view s₀) g)
   unfolding unitsRebuilt
-  restored-shaped = chunks-shaped data-units v _ (view-shaped s₀ (h .sized .long)) (λ u r a b. ap length (sym (so-far-all v g u r)) ∙ wide 4 (omega arith) u r a b)
+  restored-shaped =
+      chunks-shaped data-units v _ (view-shaped s₀ (h .sized .long)) (λ u r a b. ap length (sym (so-far-all v g u r)) ∙ wide 4 (omega arith) u r a b)
 
   rewritten : {s : List ℕ} (t : ℕ) → t ≤ 4 → s ≡ bytes (withSlots v (so-far v g t)) → Rewritten s₀ s (so-far v g t)
   rewritten {s} t l e =
@@ -71,7 +73,7 @@ module _ {s₀ : List ℕ} {g : ℕ} (h : Repairable s₀ g) where
   pub restoring-start : Restoring s₀ g s₀ 0
   restoring-start =
       restored (omega arith)
-      (sym (bytes-view s₀ (h .sized .long)) ∙ ap bytes (sym (chunks-none data-units v)) ∙ chunks-ext data-units v (v .slot) (so-far v g 0) (λ u r a b. renewed-none (wholeSlot v) (v .slot) (4 * g) u r))
+      (chunks-same data-units s₀ (so-far v g 0) (h .sized .long) (λ u r a b. renewed-none (wholeSlot v) (v .slot) (4 * g) u r))
 
   module _ {s : List ℕ} {t u : ℕ} (m : Restoring s₀ g s t) (lt : t < 4) (eu : u ≡ 4 * g + t) where
     low : u < 16

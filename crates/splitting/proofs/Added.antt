@@ -68,7 +68,8 @@ module _ {s s₁ : List ℕ} {n m : ℕ} (sp : Split s n m) (e₁ : s₁ ≡ byt
   pub dealt-holds : Holds s s₁ (withSlots (view s) (dealt (view s) m))
   dealt-holds =
       let h : Shaped (view s) = view-shaped s (sp .sized .long) in
-      let shaped : Shaped (withSlots (view s) (dealt (view s) m)) = chunks-shaped data-units (view s) _ h (dealt-long (view s) m h (omega (arith, sp .from, sp .apart, sp .unit))) in
+      let shaped : Shaped (withSlots (view s) (dealt (view s) m)) =
+      chunks-shaped data-units (view s) _ h (dealt-long (view s) m h (omega (arith, sp .from, sp .apart, sp .unit))) in
       unfold withSlots in record { shaped = shaped; size = refl; rest = refl; state = e₁ }
 
   module _ {s₂ : List ℕ} (e₂ : s₂ ≡ bytes (marked (view s₁) (m + 1) m 1)) where

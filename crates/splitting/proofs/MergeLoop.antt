@@ -15,9 +15,9 @@ use Rattle.group.specs.Widths.{slotBytes}
 use Rattle.model.specs.Layout.{Store, bytes, view, slotAt}
 use Rattle.model.specs.Places.{SlotIn, data-units}
 use Rattle.model.specs.Parts.{withSlots}
-use Rattle.model.specs.LayoutLaws.{Shaped, bytes-ext, view-bytes, view-shaped, bytes-view}
+use Rattle.model.specs.LayoutLaws.{Shaped, bytes-ext, view-bytes, view-shaped}
 use Rattle.model.specs.RunLaws.{upd2}
-use Rattle.model.specs.StoreLaws.{size-of, size-at, chunk-put, chunks-again, chunks-ext, chunks-none, chunks-shaped, chunks-there}
+use Rattle.model.specs.StoreLaws.{size-of, size-at, chunk-put, chunks-again, chunks-ext, chunks-same, chunks-shaped, chunks-there}
 use Rattle.model.specs.Reads.{fillIn}
 use Rattle.model.specs.Changes.{rows, recordsIn, merged}
 use Rattle.splitting.specs.Steps.{Split, cleared}
@@ -107,7 +107,7 @@ module _ (s₀ : List ℕ) (n m count more : ℕ) (sp : Split s₀ n m) (ec : co
   pub merging-start : Merging s₀ n m more s₀ 0
   merging-start =
       merged-so-far s₀ 0 (omega arith)
-      (sym (bytes-view s₀ (sp .sized .long)) ∙ ap bytes (sym (chunks-none data-units (view s₀))) ∙ chunks-ext data-units (view s₀) (view s₀ .slot) _ (λ u r a b. merging-none (view s₀) n m apart u r))
+      (chunks-same data-units s₀ _ (sp .sized .long) (λ u r a b. merging-none (view s₀) n m apart u r))
 
   module _ {s : List ℕ} {t : ℕ} (d : Merging s₀ n m more s t) (ht : t < more) where
     next : view s .slot m t ≡ view s₀ .slot m t
@@ -124,7 +124,8 @@ module _ (s₀ : List ℕ) (n m count more : ℕ) (sp : Split s₀ n m) (ec : co
         let h : Holds s₀ s (withSlots (view s₀) (merging (view s₀) n m t)) = d .holds in
         rw (add-one t)
         (merged-so-far s′ (suc t) ht
-        (chunk-put data-units _ (h .shaped) s (h .state) (byte s 5) (size-at _ (h .shaped) s (h .state)) s′ (view s₀ .slot m t) (slotAt (byte s 5) n (count + t)) n (count + t) refl (omega (arith, sp .apart, sp .unit)) (omega (arith, d .five))
+        (chunk-put data-units _ (h .shaped) s (h .state) (byte s 5) (size-at _ (h .shaped) s (h .state)) s′ (view s₀ .slot m t)
+        (slotAt (byte s 5) n (count + t)) n (count + t) refl (omega (arith, sp .apart, sp .unit)) (omega (arith, d .five))
         (e ∙ ap (λ x. splice (slotAt (byte s 5) n (count + t)) slotBytes x s) next)
         ∙ ap bytes (chunks-again data-units (view s₀) (merging (view s₀) n m t) n (count + t) (view s₀ .slot m t))
         ∙ rw ec (chunks-ext data-units (view s₀) _ _ (λ u r a b. merging-more (view s₀) n m apart t u r))))

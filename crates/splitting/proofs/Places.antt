@@ -21,7 +21,7 @@ use Rattle.model.specs.Places.{Long, data-units, check-units}
 use Rattle.model.specs.Parts.{withFront, withCstates, withChecks}
 use Rattle.model.specs.LayoutLaws.{Shaped, Same, bytes-ext, bytes-view, view-shaped, ranks-within}
 use Rattle.model.specs.RunLaws.{run}
-use Rattle.model.specs.StoreLaws.{size-of, front-set, dstate-set, cstate-set, chunks-clear, chunks-ext, chunks-none}
+use Rattle.model.specs.StoreLaws.{size-of, front-set, dstate-set, cstate-set, chunks-clear, chunks-ext, chunks-same}
 use Rattle.splitting.specs.Steps.{cleared, marked, levelled, wiped, madeRecord, remade, isUnit, inGroup, ofFirst, ofBoth}
 use Rattle.splitting.proofs.Holding.{Change, holds-start, holds-step}
 
@@ -202,7 +202,7 @@ module _ (p : ℕ → Bool) (none : (c : ℕ) → p c ≡ false) (s : List ℕ) 
   pub wiped-none : s ≡ bytes (wiped p (view s))
   unfolding wiped
   wiped-none =
-      sym (bytes-view s l) ∙ ap bytes (sym (chunks-none check-units (view s))) ∙ chunks-ext check-units (view s) (view s .check) _ (λ c r a b. sym (pick-false (none c) _ _))
+      chunks-same check-units s _ l (λ c r a b. sym (pick-false (none c) _ _))
 
 -- the group of unit u, where u is its first, and where it isn't
 module _ (u : ℕ) where

@@ -22,13 +22,13 @@ use Rattle.group.specs.ParityLaws.{parity-ext}
 use Rattle.group.specs.CheckRecord.{checkRecord}
 use Rattle.group.specs.CheckRecordLaws.{length-key}
 use Rattle.group.specs.Four.{fourBodies}
-use Rattle.lookup.specs.Slots.{drop-part}
+use Rattle.lookup.specs.SlotLaws.{drop-part}
 use Rattle.model.specs.Layout.{Store, bytes, view, slotAt, checkAt}
 use Rattle.model.specs.Places.{CheckIn, data-units, check-units}
 use Rattle.model.specs.Parts.{withChecks}
 use Rattle.model.specs.LayoutLaws.{Same, bytes-ext, bytes-view, view-shaped, place-end, rank-within}
 use Rattle.model.specs.RunLaws.{upd2}
-use Rattle.model.specs.StoreLaws.{size-of, slot-lent, chunk-put, chunks-ext, chunks-none}
+use Rattle.model.specs.StoreLaws.{size-of, slot-lent, chunk-put, chunks-ext, chunks-same}
 use Rattle.splitting.specs.Steps.{RankIn, madeRecord, putCheck, rankMade, inGroup}
 use Rattle.splitting.proofs.Holding.{Holds, Change, holds-start, holds-step, holds-five, holds-long}
 use Rattle.splitting.proofs.StepLaws.{checks-change, made-long, made-same}
@@ -103,7 +103,8 @@ module _ (s : List ℕ) (c r : ℕ) (keys x : List ℕ) (h : CheckIn s c r) wher
   unfolding putCheck upd2
   put-serving b at on lk eb ea =
       splice-next at keysBytes bodyBytes keys x s (omega (arith, check-room)) lk
-      ∙ chunk-put check-units (view s) (view-shaped s (h .long)) s (sym (bytes-view s (h .long))) b (eb ∙ size-of s) _ (keys ++ x) at c r ea (h .unit) (omega (arith, h .rank)) refl
+      ∙ chunk-put check-units (view s) (view-shaped s (h .long)) s (sym (bytes-view s (h .long))) b (eb ∙ size-of s) _ (keys ++ x) at c r ea (h .unit)
+      (omega (arith, h .rank)) refl
       ∙ chunks-ext check-units (view s) _ _ (λ d q a k. ap (λ t. pick t (keys ++ x) (view s .check d q)) (
       and-ext (eqb d c) (eqb q r) (eqb q r && eqb (view s .cstate d) 1) (λ e. sym (ap (λ t. eqb q r && t) (eq-eqb _ 1 (ap (λ k. view s .cstate k) (eqb-true d c e) ∙ sym (state-of s c) ∙ on)) ∙ and-true (eqb q r)))))
     where
@@ -113,9 +114,7 @@ module _ (s : List ℕ) (c r : ℕ) (keys x : List ℕ) (h : CheckIn s c r) wher
   pub put-nothing : (byte s (24 + c) ≡ 1 → ⊥) → s ≡ bytes (putCheck c r (keys ++ x) (view s))
   unfolding putCheck
   put-nothing off =
-      sym (bytes-view s (h .long))
-      ∙ ap bytes (sym (chunks-none check-units (view s)))
-      ∙ chunks-ext check-units (view s) (view s .check) _ (λ d q a k. sym (pick-false (
+      chunks-same check-units s _ (h .long) (λ d q a k. sym (pick-false (
       and-ext (eqb d c) (eqb q r && eqb (view s .cstate d) 1) false (λ e. ap (λ t. eqb q r && t) (ne-eqb _ 1 (λ one. off (state-of s c ∙ ap (λ k. view s .cstate k) (sym (eqb-true d c e)) ∙ one))) ∙ and-false (eqb q r))
       ∙ and-false (eqb d c)) _ _))
 

@@ -91,7 +91,8 @@ module _ {s s₁ : List ℕ} {n m : ℕ} (sp : Split s n m) (e₁ : s₁ ≡ byt
   pub merged-holds : Holds s s₁ (withSlots (view s) (merged (view s) m))
   merged-holds =
       let h : Shaped (view s) = view-shaped s (sp .sized .long) in
-      let shaped : Shaped (withSlots (view s) (merged (view s) m)) = chunks-shaped data-units (view s) _ h (merged-long (view s) m h (omega (arith, sp .from, sp .apart, sp .unit)) (sp .unit)) in
+      let shaped : Shaped (withSlots (view s) (merged (view s) m)) =
+      chunks-shaped data-units (view s) _ h (merged-long (view s) m h (omega (arith, sp .from, sp .apart, sp .unit)) (sp .unit)) in
       unfold withSlots in record { shaped = shaped; size = refl; rest = refl; state = e₁ }
 
   module _ {s₂ : List ℕ} (e₂ : s₂ ≡ bytes (marked (view s₁) m m 0)) where

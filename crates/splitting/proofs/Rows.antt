@@ -27,8 +27,10 @@ use Rattle.model.specs.Changes.{raised}
 use Rattle.model.specs.RowLaws.{row-pair, first-free}
 use Rattle.model.specs.PerformLaws.{none-holds}
 use Rattle.model.specs.SoundSays.{zeroed-says, clauses}
-use Rattle.soundness.specs.Survey.{Surveyed, found-sized, outs-read, own-fill-read}
-use Rattle.lookup.specs.Sized.{Sized, sound-sized}
+use Rattle.soundness.specs.Survey.{Surveyed}
+use Rattle.soundness.specs.SurveyLaws.{found-sized, outs-read, own-fill-read}
+use Rattle.lookup.specs.Sized.{Sized}
+use Rattle.lookup.specs.SizedLaws.{sound-sized}
 use Rattle.splitting.specs.Steps.{Split, Blank, pairOut, pairCrowded}
 use Rattle.splitting.proofs.StepLaws.{or-first, or-second}
 

@@ -21,9 +21,10 @@ use Rattle.group.specs.CheckRecordLaws.{length-key, length-patched}
 use Rattle.model.specs.Layout.{Store, bytes, view, slotAt, checkAt}
 use Rattle.model.specs.Places.{SlotIn, data-units, check-units}
 use Rattle.model.specs.Parts.{withSlots, withChecks}
-use Rattle.model.specs.LayoutLaws.{Shaped, Same, bytes-ext, bytes-view, view-shaped}
+use Rattle.model.specs.LayoutLaws.{Shaped, Same, bytes-ext, view-shaped}
 use Rattle.model.specs.RunLaws.{upd2}
-use Rattle.model.specs.StoreLaws.{size-of, cstate-at, same-long, chunk-at, chunk-put, chunks-again, chunks-ext, chunks-none, chunks-shaped, chunks-size, chunks-there}
+use Rattle.model.specs.StoreLaws.{size-of, cstate-at, same-long, chunk-at, chunk-put, chunks-again, chunks-ext, chunks-same, chunks-shaped, chunks-size}
+use Rattle.model.specs.StoreLaws.{chunks-there}
 use Rattle.model.specs.Changes.{written}
 use Rattle.model.specs.ChangeLaws.{length-change}
 use Rattle.writing.specs.Following.{followed}
@@ -128,7 +129,7 @@ module _ (s₀ : List ℕ) (u r : ℕ) (key change : List ℕ) (slot : SlotIn s�
   following-start = record {
     within = omega arith;
     long = refl;
-    state = sym (bytes-view s₀ (slot .long)) ∙ ap bytes (sym (chunks-none check-units v)) ∙ chunks-ext check-units v (v .check) (followed 0 v u r key change) (λ c q a b. followed-none v u r key change c q);
+    state = chunks-same check-units s₀ (followed 0 v u r key change) (slot .long) (λ c q a b. followed-none v u r key change c q);
   }
 
   follows : (s : List ℕ) (j : ℕ) → j ≤ 3 → s ≡ bytes (after s₀ u r key change j) → Following s₀ u r key change s j
@@ -152,7 +153,8 @@ module _ (s₀ : List ℕ) (u r : ℕ) (key change : List ℕ) (slot : SlotIn s�
     following-off n =
         follows s (j + 1) (omega arith)
         (w .state
-        ∙ chunks-ext check-units v (followed j v u r key change) (followed (suc j) v u r key change) (λ c q a b. followed-off v u r key change j c q (λ e. n (state-read ∙ e)))
+        ∙ chunks-ext check-units v (followed j v u r key change) (followed (suc j) v u r key change)
+        (λ c q a b. followed-off v u r key change j c q (λ e. n (state-read ∙ e)))
         ∙ ap (λ k. bytes (after s₀ u r key change k)) (sym (add-one j)))
 
     pub following-on : (b at : ℕ) (s′ : List ℕ) → byte s (24 + i) ≡ 1 → b ≡ byte s₀ 5 → at ≡ checkAt b i r
@@ -161,7 +163,9 @@ module _ (s₀ : List ℕ) (u r : ℕ) (key change : List ℕ) (slot : SlotIn s�
         let eb′ : b ≡ after s₀ u r key change j .size = eb ∙ size-of s₀ ∙ sym (after-size j) in
         let hr : r < b = rw eb (slot .rank) in
         let old : part at checkBytes s ≡ v .check i r =
-        chunk-at check-units (after s₀ u r key change j) (after-shaped j) s (w .state) b eb′ at i r ea below hr ∙ ap (λ f. f i r) (chunks-there check-units v (followed j v u r key change)) ∙ followed-later v u r key change j i r (omega arith) in
+        chunk-at check-units (after s₀ u r key change j) (after-shaped j) s (w .state) b eb′ at i r ea below hr
+        ∙ ap (λ f. f i r) (chunks-there check-units v (followed j v u r key change))
+        ∙ followed-later v u r key change j i r (omega arith) in
         follows s′ (j + 1) (omega arith)
         (chunk-put check-units (after s₀ u r key change j) (after-shaped j) s (w .state) b eb′ s′ _ at i r ea below hr es
         ∙ ap bytes (chunks-again check-units v (followed j v u r key change) i r (patched j (u % 4) key change (part at checkBytes s)))
@@ -195,6 +199,7 @@ followed-written s₀ s s′ x key change u r b at slot hx eb ea ek ec e es =
     let hr : r < view s₀ .size = rw (← size-of s₀) (slot .rank) in
     let lk : length key ≡ keyBytes = ap length ek ∙ length-key bodyBytes x hx in
     let lc : length change ≡ bodyBytes = ap length ec ∙ length-change (view s₀ .slot u r) x (view-shaped s₀ (slot .long) .slot u r (slot .unit) hr) hx in
-    chunk-put data-units (after s₀ u r key change 3) (after-shaped s₀ u r key change slot lk lc 3) s e b (eb ∙ size-of s₀ ∙ sym (after-size s₀ u r key change slot lk lc 3)) s′ x at u r ea (slot .unit) (rw eb (slot .rank)) es
+    chunk-put data-units (after s₀ u r key change 3) (after-shaped s₀ u r key change slot lk lc 3) s e b
+    (eb ∙ size-of s₀ ∙ sym (after-size s₀ u r key change slot lk lc 3)) s′ x at u r ea (slot .unit) (rw eb (slot .rank)) es
     ∙ ap₂ (λ k d. bytes (withSlots (after s₀ u r k d 3) (upd2 (after s₀ u r k d 3 .slot) u r x))) ek ec
     ∙ bytes-ext _ (written (view s₀) u r x) (all-there (view s₀) u r x)

@@ -20,7 +20,8 @@ use Rattle.model.specs.PerformLaws.{Plain, of-teach, of-correct, of-erase, refu
 use Rattle.model.specs.RowLaws.{Free, first-free, free-first, front-holds, front-free}
 use Rattle.model.specs.StoreLaws.{size-of}
 use Rattle.model.specs.Sound.{sound}
-use Rattle.lookup.specs.Sized.{Sized, sound-sized}
+use Rattle.lookup.specs.Sized.{Sized}
+use Rattle.lookup.specs.SizedLaws.{sound-sized}
 use Rattle.writing.specs.Homes.{openingRows, Located, Homed}
 
 -- a store that was tested

@@ -15,9 +15,9 @@ use Rattle.buffer.specs.SpliceLaws.{length-part}
 use Rattle.buffer.specs.Table.{upd}
 use Rattle.group.specs.Widths.{slotBytes, checkBytes}
 use Rattle.model.specs.Layout.{Store, bytes, view, storeBytes, slotAt, checkAt}
-use Rattle.model.specs.Places.{Long, data-units, check-units}
-use Rattle.model.specs.Parts.{withDstates, withCstates, withSlots, withChecks}
-use Rattle.model.specs.LayoutLaws.{Shaped, Same, bytes-ext, bytes-view, view-shaped, ranks-within}
+use Rattle.model.specs.Places.{Long, data-units, check-units, Region, units, width, chunkAt}
+use Rattle.model.specs.Parts.{withDstates, withCstates, withSlots, withChecks, chunksIn, withChunks}
+use Rattle.model.specs.LayoutLaws.{Shaped, Same, bytes-ext, bytes-view, view-shaped, ranks-within, chunked}
 use Rattle.model.specs.RunLaws.{run, run-unit, length-run}
 use Rattle.model.specs.StoreLaws.{size-of, dstate-set, cstate-set, chunks-clear, chunks-shaped}
 use Rattle.model.specs.Changes.{unitLost}
@@ -92,7 +92,8 @@ unit-within b w n =
     (λ w. w < 28 → storeBytes b ≤ n → (unitAt b w ≤ unitAt b (w + 1)) × (unitAt b (w + 1) ≤ n))
     w
     (λ k l h. rw (data-at b w (omega arith), data-at b (w + 1) (omega arith)) (omega arith, omega (arith, ranks-within data-units b w 0 b n k (omega arith) h)))
-    (λ c l h. rw (nth-check b (16 + c) c (omega arith), nth-check b (16 + c + 1) (c + 1) (omega arith)) (omega arith, omega (arith, ranks-within check-units b c 0 b n (omega arith) (omega arith) h)))
+    (λ c l h. rw (nth-check b (16 + c) c (omega arith), nth-check b (16 + c + 1) (c + 1) (omega arith))
+    (omega arith, omega (arith, ranks-within check-units b c 0 b n (omega arith) (omega arith) h)))
 
 -- from the code's facts: the unit's bytes stand from `from` to `to`
 module _ (s₀ s′ z : List ℕ) (b from to at : ℕ) (long : Long s₀) (eb : b ≡ byte s₀ 5) (cleared : z ≡ zeros (length (part from (to - from) s₀))) where
@@ -105,27 +106,32 @@ module _ (s₀ s′ z : List ℕ) (b from to at : ℕ) (long : Long s₀) (eb : 
   within : (n : ℕ) → to - from ≡ n → from + n ≤ length s₀ → s ≡ splice from n (zeros n) s₀
   within n e l = rw (cleared, e, length-part from n s₀ l)
 
+  -- the store with the ranks of unit u of a region cleared
+  abbrev emptied : Region → ℕ → Store
+  emptied k u = withChunks k (view s₀) (run (chunksIn k (view s₀)) u 0 b (λ _. zeros (width k)))
+
+  emptied-shaped : (k : Region) (u : ℕ) → Shaped (emptied k u)
+  emptied-shaped k u =
+      let h : Shaped (view s₀) = view-shaped s₀ long in
+      chunks-shaped k (view s₀) _ h (λ w r a l. length-run (chunksIn k (view s₀)) u 0 b (λ _. zeros (width k)) (width k) w r (length-zeros (width k))
+      (chunked k h w r a l))
+
+  emptied-is : (k : Region) (u : ℕ) → u < units k → from ≡ chunkAt k b u 0 → to ≡ chunkAt k b (u + 1) 0 → s ≡ bytes (emptied k u)
+  emptied-is k u hu ef et =
+      let n : to - from ≡ width k * b = omega arith in
+      let room : from + width k * b ≤ length s₀ = rw ef (ranks-within k b u 0 b (length s₀) hu (omega arith) (rw eb long)) in
+      chunks-clear k (view s₀) (view-shaped s₀ long) s₀ (sym (bytes-view s₀ long)) b size s from (width k * b) u 0 b ef refl hu (omega arith)
+      (within (width k * b) n room)
+
   lost-data : (u : ℕ) → u < 16 → from ≡ slotAt b u 0 → to ≡ slotAt b (u + 1) 0 → at ≡ 8 + u → s′ ≡ set s at 2 → s′ ≡ bytes (unitLost (view s₀) u)
   lost-data u hu ef et ea es =
-      let n : to - from ≡ slotBytes * b = omega arith in
-      let h : Shaped (view s₀) = view-shaped s₀ long in
-      let room : from + slotBytes * b ≤ length s₀ = rw ef (ranks-within data-units b u 0 b (length s₀) hu (omega arith) (rw eb long)) in
-      let t : Store = withSlots (view s₀) (run (view s₀ .slot) u 0 b (λ _. zeros slotBytes)) in
-      let shaped : Shaped (withSlots (view s₀) (run (view s₀ .slot) u 0 b (λ _. zeros slotBytes))) =
-      chunks-shaped data-units (view s₀) _ h (λ w r a l. length-run (view s₀ .slot) u 0 b (λ _. zeros slotBytes) slotBytes w r (length-zeros slotBytes) (h .slot w r a l)) in
-      let state = chunks-clear data-units (view s₀) h s₀ (sym (bytes-view s₀ long)) b size s from (slotBytes * b) u 0 b ef refl hu (omega arith) (within (slotBytes * b) n room) in
-      dstate-set t shaped s state s′ at u 2 ea hu es ∙ bytes-ext _ (unitLost (view s₀) u) (lost-slots (view s₀) u b hu size)
+      dstate-set (emptied data-units u) (emptied-shaped data-units u) s (emptied-is data-units u hu ef et) s′ at u 2 ea hu es
+      ∙ bytes-ext _ (unitLost (view s₀) u) (lost-slots (view s₀) u b hu size)
 
   lost-check : (c : ℕ) → c < 12 → from ≡ checkAt b c 0 → to ≡ checkAt b (c + 1) 0 → at ≡ 24 + c → s′ ≡ set s at 2 → s′ ≡ bytes (unitLost (view s₀) (16 + c))
   lost-check c hc ef et ea es =
-      let n : to - from ≡ checkBytes * b = omega arith in
-      let h : Shaped (view s₀) = view-shaped s₀ long in
-      let room : from + checkBytes * b ≤ length s₀ = rw ef (ranks-within check-units b c 0 b (length s₀) hc (omega arith) (rw eb long)) in
-      let t : Store = withChecks (view s₀) (run (view s₀ .check) c 0 b (λ _. zeros checkBytes)) in
-      let shaped : Shaped (withChecks (view s₀) (run (view s₀ .check) c 0 b (λ _. zeros checkBytes))) =
-      chunks-shaped check-units (view s₀) _ h (λ w r a l. length-run (view s₀ .check) c 0 b (λ _. zeros checkBytes) checkBytes w r (length-zeros checkBytes) (h .check w r a l)) in
-      let state = chunks-clear check-units (view s₀) h s₀ (sym (bytes-view s₀ long)) b size s from (checkBytes * b) c 0 b ef refl hc (omega arith) (within (checkBytes * b) n room) in
-      cstate-set t shaped s state s′ at c 2 ea hc es ∙ bytes-ext _ (unitLost (view s₀) (16 + c)) (lost-checks (view s₀) c b size)
+      cstate-set (emptied check-units c) (emptied-shaped check-units c) s (emptied-is check-units c hc ef et) s′ at c 2 ea hc es
+      ∙ bytes-ext _ (unitLost (view s₀) (16 + c)) (lost-checks (view s₀) c b size)
 
   pub lost-unit : (w : ℕ) → w < 28 → from ≡ unitAt b w → to ≡ unitAt b (w + 1) → at ≡ 8 + w → s′ ≡ set s at 2 → s′ ≡ bytes (unitLost (view s₀) w)
   lost-unit w =

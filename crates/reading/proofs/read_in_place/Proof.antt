@@ -9,7 +9,7 @@ use Rattle.buffer.specs.ByteLaws.{length-zeros}
 use Rattle.group.specs.Widths.{bodyBytes}
 use Rattle.model.specs.Layout.{slotAt}
 use Rattle.model.specs.Perform.{placeIn}
-use Rattle.lookup.specs.Sized.{slot-fits}
+use Rattle.lookup.specs.SizedLaws.{slot-fits}
 use Rattle.lookup.specs.States.{state-byte}
 use Rattle.reading.specs.Rows.{read-rows}
 use Rattle.reading.proofs.Answers.{nowhere, out-unit, stands, part-empty, part-body, start-empty, start-body, lent-part}

@@ -32,7 +32,11 @@ part-copy-end c =
     let l = c .before .before .before .before .before .before in
     let e = l .before .before .before in
     let n = length (e .args .s .now) in
-    omega (arith, rank-within data-units (getD (e .args .s .now) 5 0) (e .args .u) (l .loop .r) n (e .pre .0 .unit .unit) (search needs) (e .pre .0 .unit .sized .long))
+    omega (
+      arith,
+      rank-within data-units (getD (e .args .s .now) 5 0) (e .args .u) (l .loop .r) n (e .pre .0 .unit .unit) (search needs)
+          (e .pre .0 .unit .sized .long),
+    )
 
 loop-again : tie.Need-loop-again Inv-loop μ-loop
 unfolding part splice

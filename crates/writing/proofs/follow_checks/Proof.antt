@@ -29,7 +29,11 @@ part-follow-end c =
     let l = c .before .before .before .before .before in
     let e = l .before .before .before in
     let a = e .args in
-    omega (arith, rank-within check-units (getD (a .s .now) 5 0) (3 * (a .u / 4) + l .loop .j) (a .r) (length (a .s .now)) (omega arith) (e .pre .0 .rank) (e .pre .0 .long))
+    omega (
+      arith,
+      rank-within check-units (getD (a .s .now) 5 0) (3 * (a .u / 4) + l .loop .j) (a .r) (length (a .s .now)) (omega arith) (e .pre .0 .rank)
+          (e .pre .0 .long),
+    )
 
 follow-requires : tie.Need-follow-requires Inv-loop μ-loop
 follow-requires c κs = (search needs, search needs, search needs, search needs)

@@ -2,7 +2,7 @@
 use Prim.Native.Nat.{ℕ, _+_, _*_, _-_, _/_, _%_, _≤_, _<_}
 use mathlib.Core.Path.{_≡_, refl, sym, ap, _∙_}
 use mathlib.Core.List.{List, _++_}
-use mathlib.Core.Bool.{Bool, true, false, not, _&&_}
+use mathlib.Core.Bool.{Bool, true, false, _&&_}
 use native.Mathlib.Omega.{arith}
 use lib.Dec.{eqb, ltb}
 use lib.ListN.{length, take, drop, getD, length-append, length-drop}
@@ -11,15 +11,14 @@ use borrow.Author.Tests.{eqb-true, eqb-false, ltb-true, ltb-false}
 use Rattle.buffer.specs.Choice.{pick}
 use Rattle.buffer.specs.ChoiceLaws.{by-pick, by-test, pick-true, pick-false}
 use Rattle.buffer.specs.TestLaws.{not-both}
-use Rattle.buffer.specs.Range.{count, first}
-use Rattle.buffer.specs.RangeLaws.{count-ext, count-append, count-not, count-pos, first-found}
+use Rattle.buffer.specs.RangeLaws.{first-found}
 use Rattle.buffer.specs.Bytes.{zeros, part}
 use Rattle.buffer.specs.ByteLaws.{be32-left}
 use Rattle.buffer.specs.SpliceLaws.{length-part}
 use Rattle.buffer.specs.TableLaws.{tab-ext}
 use Rattle.group.specs.Widths.{keyBytes, bodyBytes, keysBytes, slotBytes}
 use Rattle.group.specs.Members.{firstFour}
-use Rattle.group.specs.MembersLaws.{Members, serves-data, serves-check, enough, first-four}
+use Rattle.group.specs.MembersLaws.{Members, first-four}
 use Rattle.group.specs.Rebuilding.{rebuilt}
 use Rattle.group.specs.WeighedLaws.{length-weighed}
 use Rattle.group.specs.CheckRecord.{checkRecord}
@@ -27,6 +26,7 @@ use Rattle.group.specs.CheckRecordLaws.{length-body, length-checkRecord, checkR
 use Rattle.model.specs.Layout.{Store, keyOf}
 use Rattle.model.specs.LayoutLaws.{Shaped}
 use Rattle.model.specs.Reads.{beyondIn, servesIn, holds, firstCheck, listedKey, wholeSlot}
+use Rattle.model.specs.ReadLaws.{four-serve, check-serves}
 use Rattle.model.specs.Changes.{repaired}
 use Rattle.model.proofs.history.alike.Alike.{LikeSlot, LikeCheck, Alike, pick-both, no-slot, left-shaped, right-shaped, beyond-alike, Served}
 use Rattle.model.proofs.history.alike.Alike.{first-check-low, listed-alike}
@@ -45,26 +45,6 @@ anew-like j f g h = record {
 -- ---- the group g of one store, which is not beyond recovery
 
 module _ (v : Store) (h : Shaped v) (g : ℕ) (hg : g < 4) (low : (j : ℕ) → j < 3 → v .cstate (3 * g + j) ≤ 2) (nb : beyondIn v g ≡ false) where
-  four-serve : 4 ≤ count 7 (servesIn v g)
-  unfolding servesIn beyondIn
-  four-serve = enough (λ p. v .dstate (4 * g + p)) (λ j. v .cstate (3 * g + j)) low nb
-
-  -- with a data unit out, a check unit is in service
-  one-serves : (p : ℕ) → p < 4 → eqb (v .dstate (4 * g + p)) 2 ≡ true → first 3 (λ j. eqb (v .cstate (3 * g + j)) 1) < 3
-  unfolding servesIn
-  one-serves p l e =
-      let d : ℕ → ℕ = λ p. v .dstate (4 * g + p) in
-      let c : ℕ → ℕ = λ j. v .cstate (3 * g + j) in
-      first-found 3 (λ j. eqb (v .cstate (3 * g + j)) 1) (omega (
-        arith,
-        four-serve,
-        count-append 4 3 (servesIn v g),
-        count-ext 4 (servesIn v g) (λ p. not (eqb (v .dstate (4 * g + p)) 2)) (serves-data d c),
-        count-ext 3 (λ j. servesIn v g (4 + j)) (λ j. eqb (v .cstate (3 * g + j)) 1) (λ j m. serves-check d c j),
-        count-not 4 (λ p. eqb (v .dstate (4 * g + p)) 2),
-        count-pos 4 (λ p. eqb (v .dstate (4 * g + p)) 2) p l e,
-      ))
-
   module _ (r : ℕ) (hr : r < v .size) where
     length-held : (m : ℕ) → m < 7 → length (holds v g r m) ≡ bodyBytes
     unfolding holds
@@ -76,7 +56,7 @@ module _ (v : Store) (h : Shaped v) (g : ℕ) (hg : g < 4) (low : (j : ℕ) → 
     length-rebuilt : (p : ℕ) → length (rebuilt (servesIn v g) (holds v g r) p) ≡ bodyBytes
     unfolding rebuilt
     length-rebuilt p =
-        let four : Members (servesIn v g) (firstFour (servesIn v g)) = first-four (servesIn v g) four-serve in
+        let four : Members (servesIn v g) (firstFour (servesIn v g)) = first-four (servesIn v g) (four-serve v g low nb) in
         length-weighed bodyBytes _ (λ i. holds v g r (getD (firstFour (servesIn v g)) i 0))
         (λ i l. length-held (getD (firstFour (servesIn v g)) i 0) (four .low i l))
 
@@ -113,7 +93,7 @@ module _ (v w : Store) (a : Alike v w) (g : ℕ) (hg : g < 4) (low : (c : ℕ) �
   served : (u : ℕ) → u / 4 ≡ g → eqb (v .dstate u) 2 ≡ true → Served v w a (u / 4)
   served u d e =
       let k : 4 * g + u % 4 ≡ u = omega arith in
-      rw d (one-serves v (left-shaped v w a) g hg left-low nb (u % 4) (omega arith) (ap (λ (n : ℕ). eqb (v .dstate n) 2) k ∙ e))
+      rw d (first-found 3 _ (check-serves v g left-low nb (u % 4) (omega arith) (ap (λ (n : ℕ). eqb (v .dstate n) 2) k ∙ e)))
 
   module _ (u r : ℕ) (hu : u < 16) (hr : r < v .size) (d : u / 4 ≡ g) where
     keys-same : listedKey v u r ≡ listedKey w u r

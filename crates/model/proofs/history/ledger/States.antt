@@ -1,5 +1,5 @@
 -- The state of a unit in a ledger, and what it says: in place, in service, out. Assumes nothing.
-use Prim.Native.Nat.{ℕ, zero, suc, _+_, _*_, _-_, _/_, _%_, _≤_, _<_}
+use Prim.Native.Nat.{ℕ, _+_, _*_, _-_, _/_, _%_, _≤_, _<_}
 use mathlib.Core.Path.{_≡_, refl, ap, _∙_}
 use mathlib.Core.Bool.{Bool, true, false, _&&_, not}
 use native.Mathlib.Omega.{arith}
@@ -11,12 +11,6 @@ use Rattle.buffer.specs.RangeLaws.{count-zero}
 use Rattle.buffer.specs.TestLaws.{not-both}
 use Rattle.model.specs.SoundSays.{Stateful}
 use Rattle.model.specs.history.Ledger.{Ledger, placed, isOut, state, outsOf}
-
--- two tests of which just one holds where a third does, counted
-count-both : (n : ℕ) (f g h : ℕ → Bool) → ((k : ℕ) → _≡_ {A = ℕ} (pick (f k) 1 0 + pick (g k) 1 0) (pick (h k) 1 0)) → count n f + count n g ≡ count n h
-unfolding count
-count-both zero f g h e = refl
-count-both (suc n) f g h e = omega (arith, count-both n f g h e, e n)
 
 module _ (l : Ledger) where
   -- a unit is out, in service, or not in place: whether it is in place, whether it is marked out, and its state
@@ -76,13 +70,6 @@ module _ (l : Ledger) where
   pub check-state : (c : ℕ) → state l (16 + c) ≡ pick (ltb (c % 3) (l .checks (c / 3))) (pick (l .out (16 + c)) 2 1) 0
   unfolding state
   check-state c = rw (placed-check c)
-
-  -- of n units, those in service and those out are those in place
-  pub serving-count : (n : ℕ) (w : ℕ → ℕ) → count n (λ j. eqb (state l (w j)) 1) + count n (λ j. isOut l (w j)) ≡ count n (λ j. placed l (w j))
-  unfolding isOut pick
-  serving-count n w =
-      count-both n (λ j. eqb (state l (w j)) 1) (λ j. isOut l (w j)) (λ j. placed l (w j)) (λ j.
-      by-state (λ p o n. _≡_ {A = ℕ} (pick (eqb n 1) 1 0 + pick (p && o) 1 0) (pick p 1 0)) (w j) refl refl (λ o. refl))
 
   -- a group with no unit out: no data unit, and no check unit
   none-data : (g : ℕ) → ltb 0 (outsOf l g) ≡ false → count 4 (λ p. isOut l (4 * g + p)) ≡ 0

@@ -11,21 +11,20 @@ use borrow.Author.Tests.{eqb-true, ltb-true, ltb-false, lt-ltb, le-ltb, not-true
 use Rattle.buffer.specs.Choice.{pick}
 use Rattle.buffer.specs.ChoiceLaws.{by-test, by-pick, pick-true, pick-false}
 use Rattle.buffer.specs.TestLaws.{not-both}
-use Rattle.buffer.specs.Range.{count}
-use Rattle.buffer.specs.RangeLaws.{count-ext, count-pos}
 use Rattle.buffer.specs.Bytes.{bytes32, zeros}
 use Rattle.group.specs.Widths.{keyBytes, bodyBytes, slotBytes, keysBytes}
-use Rattle.group.specs.MembersLaws.{serves-data, serves-check, enough}
+use Rattle.group.specs.MembersLaws.{serves-data, serves-check}
 use Rattle.group.specs.Parity.{parity}
 use Rattle.group.specs.Rebuilding.{rebuilt}
 use Rattle.group.specs.RebuildingLaws.{rebuilds}
 use Rattle.model.specs.Layout.{Store, view, keyOf}
 use Rattle.model.specs.LayoutLaws.{Same}
 use Rattle.model.specs.Reads.{beyondIn, servesIn, holds, listedKey, wholeSlot}
-use Rattle.model.specs.history.Ledger.{Ledger, empty, recordAt, placed, isOut, state, outsOf, beyondOf}
+use Rattle.model.specs.ReadLaws.{four-serve, check-serves}
+use Rattle.model.specs.history.Ledger.{Ledger, empty, recordAt, isOut, state, beyondOf}
 use Rattle.model.specs.history.Picture.{recordBytes, image, picture}
 use Rattle.model.proofs.history.ledger.Valid.{Valid}
-use Rattle.model.proofs.history.ledger.States.{state-le, serving-count}
+use Rattle.model.proofs.history.ledger.States.{state-le}
 use Rattle.model.proofs.history.picture.Records.{key-bytes, drop-record, parity-over, empty-bytes}
 use Rattle.model.proofs.history.picture.Picture.{seen}
 use Rattle.model.proofs.history.picture.Seen.{past, slot-kept, cstate-is, dstate-out, beyond-seen}
@@ -64,25 +63,16 @@ module _ (l : Ledger) (rest : List ℕ) (h : Valid l) where
     serving-check j a =
         serves-check (λ p. v .dstate (4 * g + p)) (λ j. v .cstate (3 * g + j)) j ∙ ap (λ (n : ℕ). eqb n 1) (cstate-is l rest h (3 * g + j) (omega arith))
 
-    four-serve : 4 ≤ count 7 (servesIn v g)
-    unfolding servesIn beyondIn
-    four-serve =
-        enough (λ p. v .dstate (4 * g + p)) (λ j. v .cstate (3 * g + j))
-        (λ j a. rw (cstate-is l rest h (3 * g + j) (omega arith)) (state-le l (16 + (3 * g + j))))
-        (beyond-seen l rest h g hg ∙ nb)
+    low : (j : ℕ) → j < 3 → v .cstate (3 * g + j) ≤ 2
+    low j a = rw (cstate-is l rest h (3 * g + j) (omega arith)) (state-le l (16 + (3 * g + j)))
+
+    near : beyondIn v g ≡ false
+    near = beyond-seen l rest h g hg ∙ nb
 
     one-serves : (u : ℕ) → u / 4 ≡ g → isOut l u ≡ true → Kept l rest h g
-    unfolding beyondOf outsOf
     one-serves u b e =
-        let d : 4 * g + u % 4 ≡ u = omega arith in
-        omega (
-          arith,
-          count-ext 3 (λ j. eqb (v .cstate (3 * g + j)) 1) (λ j. eqb (state l (16 + (3 * g + j))) 1)
-              (λ j q. ap (λ (n : ℕ). eqb n 1) (cstate-is l rest h (3 * g + j) (omega arith))),
-          count-pos 4 (λ p. isOut l (4 * g + p)) (u % 4) (omega arith) (ap (isOut l) d ∙ e),
-          serving-count l 3 (λ j. 16 + (3 * g + j)),
-          ltb-false (count 3 (λ j. placed l (16 + (3 * g + j)))) (outsOf l g) nb,
-        )
+        let d : u ≡ 4 * g + u % 4 = omega arith in
+        check-serves v g low near (u % 4) (omega arith) (rw d at (dstate-out l rest h u (omega arith) ∙ e))
 
     module _ (r : ℕ) (hr : r < l .size) where
       bodies : ℕ → List ℕ
@@ -107,7 +97,8 @@ module _ (l : Ledger) (rest : List ℕ) (h : Valid l) where
 
       body-rebuilt : (p : ℕ) → p < 4 → rebuilt (servesIn v g) (holds v g r) p ≡ recordAt l (4 * g + p) r .body
       unfolding bodies
-      body-rebuilt p a = rebuilds bodyBytes (servesIn v g) (holds v g r) bodies (λ q i. h .good (4 * g + q) r .body) holds-data holds-check four-serve p a
+      body-rebuilt p a =
+          rebuilds bodyBytes (servesIn v g) (holds v g r) bodies (λ q i. h .good (4 * g + q) r .body) holds-data holds-check (four-serve v g low near) p a
 
   -- ---- a unit that can be read
 
