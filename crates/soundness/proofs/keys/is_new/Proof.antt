@@ -25,10 +25,14 @@ key-requires c κs = c .before .before .before .pre .fits (c .before .loop .q) (
 
 returns : tie.Need-returns Inv-loop μ-loop
 unfolding isNew
-returns c = passing-fail (c .before .before .before .loop .inv) (c .before .before .loop-test .taken) (ap not (is-eq (c .before .key .ensures) refl (c .if1 .taken)))
+returns c =
+    let turn = c .before .before in
+    passing-fail (turn .before .loop .inv) (turn .loop-test .taken) (ap not (is-eq (c .before .key .ensures) refl (c .if1 .taken)))
 
 loop-again : tie.Need-loop-again Inv-loop μ-loop
-loop-again c = passing-turn (c .before .before .before .loop .inv) (c .before .before .loop-test .taken) (ap not (is-ne (c .before .key .ensures) refl (c .if1 .left)))
+loop-again c =
+    let turn = c .before .before in
+    passing-turn (turn .before .loop .inv) (turn .loop-test .taken) (ap not (is-ne (c .before .key .ensures) refl (c .if1 .left)))
 
 returns-2 : tie.Need-returns-2 Inv-loop μ-loop
 unfolding isNew

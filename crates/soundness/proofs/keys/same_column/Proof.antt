@@ -26,10 +26,14 @@ key-requires-2 c κs = c .before .before .before .before .pre .1 .fits (c .befor
 
 returns : tie.Need-returns Inv-loop μ-loop
 unfolding sameKeys
-returns c = passing-fail (c .before .before .before .before .loop .inv) (c .before .before .before .loop-test .taken) (is-ne (c .before .before .key .ensures) (c .before .key2 .ensures) (c .if1 .taken))
+returns c =
+    let turn = c .before .before .before in
+    passing-fail (turn .before .loop .inv) (turn .loop-test .taken) (is-ne (c .before .before .key .ensures) (c .before .key2 .ensures) (c .if1 .taken))
 
 loop-again : tie.Need-loop-again Inv-loop μ-loop
-loop-again c = passing-turn (c .before .before .before .before .loop .inv) (c .before .before .before .loop-test .taken) (is-eq (c .before .before .key .ensures) (c .before .key2 .ensures) (c .if1 .left))
+loop-again c =
+    let turn = c .before .before .before in
+    passing-turn (turn .before .loop .inv) (turn .loop-test .taken) (is-eq (c .before .before .key .ensures) (c .before .key2 .ensures) (c .if1 .left))
 
 returns-2 : tie.Need-returns-2 Inv-loop μ-loop
 unfolding sameKeys

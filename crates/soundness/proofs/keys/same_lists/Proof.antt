@@ -1,8 +1,8 @@
 -- `soundness::keys::same_lists` meets its contract. Assumes nothing.
 use Prim.Native.Nat.{_+_, _*_, _-_}
-use mathlib.Core.Bool.{_&&_}
+use mathlib.Core.Bool.{_&&_, and-false}
 use borrow.Author.Needs.{needs}
-use Rattle.buffer.specs.TestLaws.{is-no, is-yes, and-true, and-false-first, and-false-second}
+use Rattle.buffer.specs.TestLaws.{is-no, is-yes, and-true, and-false-first}
 use Rattle.buffer.specs.LoopTests.{Passing, passing-start, passing-turn, passing-fail, passing-end}
 use Rattle.soundness.specs.Keys.{samePair, sameLists}
 use Rattle.soundness.proofs.keys.same_lists.Statement.{statement}
@@ -19,14 +19,23 @@ loop-holds c = passing-start
 
 returns : tie.Need-returns Inv-loop μ-loop
 unfolding sameLists
-returns c = passing-fail (c .before .before .before .loop .inv) (c .before .before .loop-test .taken) (and-false-first (is-no (c .before .same-pair .ensures) (c .if1 .taken)) _)
+returns c =
+    let turn = c .before .before in
+    passing-fail (turn .before .loop .inv) (turn .loop-test .taken) (and-false-first (is-no (c .before .same-pair .ensures) (c .if1 .taken)) _)
 
 returns-2 : tie.Need-returns-2 Inv-loop μ-loop
 unfolding sameLists
-returns-2 c = passing-fail (c .before .before .before .before .before .loop .inv) (c .before .before .before .before .loop-test .taken) (and-false-second (samePair (c .before .before .before .before .before .before .before .args .s .now) (c .before .before .before .before .before .before .before .args .x + 32 * c .before .before .before .before .before .loop .r) (c .before .before .before .before .before .before .before .args .y + 32 * c .before .before .before .before .before .loop .r)) (is-no (c .before .same-pair2 .ensures) (c .if2 .taken)))
+returns-2 c =
+    let first = c .before .before .before in
+    let turn = first .before in
+    passing-fail (turn .before .loop .inv) (turn .loop-test .taken) (simp (is-no (c .before .same-pair2 .ensures) (c .if2 .taken), and-false))
 
 loop-again : tie.Need-loop-again Inv-loop μ-loop
-loop-again c = passing-turn (c .before .before .before .before .before .loop .inv) (c .before .before .before .before .loop-test .taken) (and-true (is-yes (c .before .before .before .same-pair .ensures) (c .before .before .if1 .left)) (is-yes (c .before .same-pair2 .ensures) (c .if2 .left)))
+loop-again c =
+    let first = c .before .before .before in
+    let turn = first .before in
+    let both = and-true (is-yes (first .same-pair .ensures) (c .before .before .if1 .left)) (is-yes (c .before .same-pair2 .ensures) (c .if2 .left)) in
+    passing-turn (turn .before .loop .inv) (turn .loop-test .taken) both
 
 returns-3 : tie.Need-returns-3 Inv-loop μ-loop
 unfolding sameLists

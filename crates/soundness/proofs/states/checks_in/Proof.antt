@@ -22,10 +22,16 @@ loop-holds c = missing-start
 
 returns : tie.Need-returns Inv-loop μ-loop
 unfolding checksIn view
-returns c = (missing-found (c .before .before .before .before .loop .inv) (c .before .before .before .loop-test .taken) (is-eq (ap (λ i. byte (c .before .before .before .before .before .before .args .s .now) (24 + i)) (c .before .before .wide .ensures .0)) refl (c .if1 .taken)), search needs)
+returns c =
+    let turn = c .before .before .before in
+    let state = ap (λ i. byte (turn .before .before .before .args .s .now) (24 + i)) (c .before .before .wide .ensures .0) in
+    (missing-found (turn .before .loop .inv) (turn .loop-test .taken) (is-eq state refl (c .if1 .taken)), search needs)
 
 loop-again : tie.Need-loop-again Inv-loop μ-loop
-loop-again c = missing-turn (c .before .before .before .before .loop .inv) (c .before .before .before .loop-test .taken) (is-ne (ap (λ i. byte (c .before .before .before .before .before .before .args .s .now) (24 + i)) (c .before .before .wide .ensures .0)) refl (c .if1 .left))
+loop-again c =
+    let turn = c .before .before .before in
+    let state = ap (λ i. byte (turn .before .before .before .args .s .now) (24 + i)) (c .before .before .wide .ensures .0) in
+    missing-turn (turn .before .loop .inv) (turn .loop-test .taken) (is-ne state refl (c .if1 .left))
 
 returns-2 : tie.Need-returns-2 Inv-loop μ-loop
 unfolding checksIn view

@@ -20,10 +20,18 @@ loop-holds : tie.Need-loop-holds Inv-loop μ-loop
 loop-holds c = passing-start
 
 returns : tie.Need-returns Inv-loop μ-loop
-returns c = passing-fail (c .before .before .before .before .before .loop .inv) (c .before .before .before .before .loop-test .taken) (is-no (c .before .is-placed .ensures ∙ ap (λ i. placed (ltb (c .before .before .before .before .before .loop .j) (c .before .before .before .before .before .before .before .args .n)) (byte (c .before .before .before .before .before .before .before .args .s .now) (24 + i))) (c .before .before .before .wide .ensures .0)) (c .if1 .taken))
+returns c =
+    let turn = c .before .before .before .before in
+    let a = turn .before .before .before .args in
+    let state = ap (λ i. placed (ltb (turn .before .loop .j) (a .n)) (byte (a .s .now) (24 + i))) (c .before .before .before .wide .ensures .0) in
+    passing-fail (turn .before .loop .inv) (turn .loop-test .taken) (is-no (c .before .is-placed .ensures ∙ state) (c .if1 .taken))
 
 loop-again : tie.Need-loop-again Inv-loop μ-loop
-loop-again c = passing-turn (c .before .before .before .before .before .loop .inv) (c .before .before .before .before .loop-test .taken) (is-yes (c .before .is-placed .ensures ∙ ap (λ i. placed (ltb (c .before .before .before .before .before .loop .j) (c .before .before .before .before .before .before .before .args .n)) (byte (c .before .before .before .before .before .before .before .args .s .now) (24 + i))) (c .before .before .before .wide .ensures .0)) (c .if1 .left))
+loop-again c =
+    let turn = c .before .before .before .before in
+    let a = turn .before .before .before .args in
+    let state = ap (λ i. placed (ltb (turn .before .loop .j) (a .n)) (byte (a .s .now) (24 + i))) (c .before .before .before .wide .ensures .0) in
+    passing-turn (turn .before .loop .inv) (turn .loop-test .taken) (is-yes (c .before .is-placed .ensures ∙ state) (c .if1 .left))
 
 returns-2 : tie.Need-returns-2 Inv-loop μ-loop
 returns-2 c = passing-end (c .before .loop .inv) (c .loop-test .left)
