@@ -1,11 +1,12 @@
 /*
- * Times the store's calls over the static library, each against a copy of the store's bytes and
- * against the test of soundness, in one run; and a plain test of soundness beside the library's.
+ * Times the store's calls over the static library, a copy of the store's bytes, and two soundness
+ * tests in C beside the library's, all in one run; prints a table with a row for each size of store.
  * Read in place is a read without the copy. Build and run it with bench/run.
  */
 #define _POSIX_C_SOURCE 199309L
 #include "lhrs.h"
 #include "plain.h"
+#include "tuned.h"
 
 #include <stdio.h>
 #include <stdlib.h>
@@ -20,6 +21,7 @@
 
 /* A laid out store with all units about three quarters full. */
 struct hall {
+    uint32_t slots;
     uint32_t units;
     size_t length;
     uint32_t keys[MAX_SLOTS]; /* those of unit 0 */
@@ -46,6 +48,7 @@ static void require(uint8_t number, uint8_t expected, const char *what)
 /* Lays out, raises to the level, and grows; the first group gets all its check units. */
 static void build(struct hall *hall, uint32_t slots, uint32_t units, uint32_t level)
 {
+    hall->slots = slots;
     hall->units = units;
     hall->length = LHRS_LENGTH(slots);
     hall->turn = 0;
@@ -66,17 +69,23 @@ static void fill_body(uint8_t body[LHRS_BODY], uint32_t seed)
     }
 }
 
-/* Teaches ascending keys until each unit has so many. */
-static void fill(struct hall *hall, uint32_t records)
+/* Teaches the keys 1, 1 + step, .. until each unit has so many; with a step other than 1 some units
+   get up to two less. */
+static void fill(struct hall *hall, uint32_t records, uint32_t step)
 {
     uint32_t counts[MAX_UNITS] = {0};
     uint32_t left = records * hall->units;
     uint32_t key = 1;
-    for (; left > 0; key++) {
+    for (; left > 0; key += step) {
         uint8_t body[LHRS_BODY];
         uint32_t unit = plain_unit(hall->units, key);
         if (counts[unit] == records)
             continue;
+        if (step != 1 && counts[unit] == records - unit % 3) {
+            counts[unit] = records;
+            left -= unit % 3;
+            continue;
+        }
         fill_body(body, key);
         require(lhrs_teach(hall->bytes, hall->length, key, body, sizeof body), 0, "teach");
         if (unit == 0)
@@ -88,38 +97,112 @@ static void fill(struct hall *hall, uint32_t records)
     for (uint32_t i = 0; i < records; i++)
         fill_body(hall->bodies[i], ~i);
     while (plain_unit(hall->units, key) != 0)
-        key++;
+        key += step;
     hall->absent = key;
 }
 
-/* The plain test agrees with the library's on a store and on its damaged copies. */
-static void compare_tests(const struct hall *hall)
+/* The tests in C say of a store what the library says; the verdict. */
+static int same_verdict(const struct hall *hall)
+{
+    uint8_t out[LHRS_BODY];
+    int sound = lhrs_read(hall->bytes, hall->length, hall->absent, out, sizeof out) != 1;
+    require((uint8_t)plain_sound(hall->bytes, hall->length), (uint8_t)sound, "plain test");
+    require((uint8_t)tuned_sound(hall->bytes, hall->length), (uint8_t)sound, "tuned test");
+    return sound;
+}
+
+/* Bytes changed one by one. */
+static void damage_bytes(const struct hall *hall)
 {
     static struct hall damaged;
-    uint8_t out[LHRS_BODY];
     size_t step = hall->length / 1024 + 1;
     damaged = *hall;
     for (size_t i = 0; i < hall->length; i += step) {
         for (unsigned flip = 0; flip < 4; flip++) {
             damaged.bytes[i] = (uint8_t)(hall->bytes[i] ^ flip);
-            int sound = lhrs_read(damaged.bytes, hall->length, hall->absent, out, sizeof out) != 1;
-            require((uint8_t)plain_sound(damaged.bytes, hall->length), (uint8_t)sound, "plain test");
+            same_verdict(&damaged);
         }
         damaged.bytes[i] = hall->bytes[i];
     }
 }
 
+/* Where the key of a rank stands: in the unit, and in check unit j of its group. */
+static uint8_t *own_key(struct hall *hall, uint32_t unit, uint32_t rank)
+{
+    return hall->bytes + 36 + (unit * hall->slots + rank) * LHRS_RECORD;
+}
+
+static uint8_t *listed_key(struct hall *hall, uint32_t unit, uint32_t rank, uint32_t j)
+{
+    uint32_t check = unit / 4 * 3 + j;
+    return own_key(hall, MAX_UNITS, 0) + (check * hall->slots + rank) * 32 + unit % 4 * 4;
+}
+
+/* Gives a rank another key, in its unit and in all lists that are in service. */
+static void set_key(struct hall *hall, uint32_t unit, uint32_t rank, const uint8_t key[4])
+{
+    if (LHRS_STATE(hall->bytes, unit) == LHRS_STATE_IN_SERVICE)
+        memcpy(own_key(hall, unit, rank), key, 4);
+    for (uint32_t j = 0; j < 3; j++)
+        if (LHRS_STATE(hall->bytes, LHRS_CHECK_UNIT(unit / 4, j)) == LHRS_STATE_IN_SERVICE)
+            memcpy(listed_key(hall, unit, rank, j), key, 4);
+}
+
+/* Keys that are there twice, of another unit, missing, or behind an empty slot. */
+static void damage_keys(const struct hall *hall)
+{
+    static struct hall damaged;
+    for (uint32_t unit = 0; unit < hall->units; unit++) {
+        for (uint32_t rank = 0; rank < hall->slots; rank += 1 + hall->slots / 8) {
+            damaged = *hall;
+            for (uint32_t from = 0; from < hall->slots; from += 1 + hall->slots / 4) {
+                uint8_t key[4];
+                memcpy(key, own_key(&damaged, unit, from), sizeof key);
+                set_key(&damaged, unit, rank, key);
+                same_verdict(&damaged);
+                key[3] ^= 1;
+                set_key(&damaged, unit, rank, key);
+                same_verdict(&damaged);
+                key[1] ^= 1;
+                key[3] ^= 1;
+                set_key(&damaged, unit, rank, key);
+                same_verdict(&damaged);
+            }
+        }
+    }
+}
+
+/* The tests in C agree with the library's on a store, with units out, and damaged. */
+static void compare_tests(const struct hall *hall)
+{
+    static const uint32_t out[][4] = {{0, 0, 0, 0}, {16, 0, 0, 0}, {1, 17, 2, 0}, {16, 17, 18, 3}};
+    static struct hall losing;
+    damage_bytes(hall);
+    damage_keys(hall);
+    for (size_t i = 0; i < sizeof out / sizeof out[0]; i++) {
+        losing = *hall;
+        for (size_t j = 0; j < 4; j++)
+            (void)lhrs_out(losing.bytes, losing.length, out[i][j]);
+        require((uint8_t)same_verdict(&losing), 1, "soundness with units out");
+        damage_keys(&losing);
+    }
+}
+
 static void prepare(uint32_t slots, uint32_t units, uint32_t level)
 {
+    static struct hall scattered; /* keys and counts without a pattern */
     uint32_t records = slots * 3 / 4;
+    build(&scattered, slots, units, level);
+    fill(&scattered, records, 2654435761u);
+    compare_tests(&scattered);
     build(&whole, slots, units, level);
-    fill(&whole, records);
+    fill(&whole, records, 1);
     compare_tests(&whole);
     lost = whole;
     require(lhrs_out(lost.bytes, lost.length, 0), 0, "out");
-    compare_tests(&lost);
+    damage_bytes(&lost);
     build(&growing, slots, units < 16 ? units : 15, level);
-    fill(&growing, records);
+    fill(&growing, records, 1);
 }
 
 /* The keys of unit 0 in turn: the place of the next one. */
@@ -148,6 +231,11 @@ static void read_absent(void)
 static void test_plainly(void)
 {
     require((uint8_t)plain_sound(whole.bytes, whole.length), 1, "plain test");
+}
+
+static void test_tuned(void)
+{
+    require((uint8_t)tuned_sound(whole.bytes, whole.length), 1, "tuned test");
 }
 
 static void erase_and_teach(void)
@@ -221,12 +309,16 @@ struct operation {
     void (*run)(void);
 };
 
+/* The soundness test is timed by a read of a key that is not there. */
+enum { COPY, TUNED, TEST, FIRST_OTHER };
+
 static const struct operation operations[] = {
-    {"memcpy of the store", copy_store},
-    {"soundness (read, key absent)", read_absent},
-    {"plain soundness test in C", test_plainly},
-    {"erase + teach", erase_and_teach},
+    [COPY] = {"memcpy", copy_store},
+    [TUNED] = {"tuned C", test_tuned},
+    [TEST] = {"test", read_absent},
+    {"plain C", test_plainly},
     {"correct", correct_one},
+    {"erase + teach", erase_and_teach},
     {"read", read_one},
     {"read, unit out", read_lost},
     {"list", list_all},
@@ -276,26 +368,41 @@ static void measure(double least[OPERATIONS])
     }
 }
 
-static void report(uint32_t slots, uint32_t units, uint32_t level)
+static void print_head(void)
+{
+    printf("|  b |  M | K | memcpy, ns | tuned C, ns | test, ns | test / memcpy | test / tuned C |");
+    for (size_t i = FIRST_OTHER; i < OPERATIONS; i++)
+        printf(" %s |", operations[i].name);
+    printf("\n|");
+    for (size_t i = 0; i < 8 + OPERATIONS - FIRST_OTHER; i++)
+        printf("---|");
+    putchar('\n');
+}
+
+static void print_row(uint32_t slots, uint32_t units, uint32_t level)
 {
     double least[OPERATIONS];
     prepare(slots, units, level);
     measure(least);
-    printf("\nb = %2u, M = %2u, K = %u%24s%12s%12s\n", (unsigned)slots, (unsigned)units,
-           (unsigned)level, "ns", "/ memcpy", "/ soundness");
-    for (size_t i = 0; i < OPERATIONS; i++)
-        printf("  %-30s%12.0f%12.2f%12.2f\n", operations[i].name, least[i], least[i] / least[0],
-               least[i] / least[1]);
+    printf("| %2u | %2u | %u |", (unsigned)slots, (unsigned)units, (unsigned)level);
+    printf(" %10.0f | %11.0f | %8.0f |", least[COPY], least[TUNED], least[TEST]);
+    printf(" %13.2f | %14.2f |", least[TEST] / least[COPY], least[TEST] / least[TUNED]);
+    for (size_t i = FIRST_OTHER; i < OPERATIONS; i++)
+        printf(" %*.2f |", (int)strlen(operations[i].name), least[i] / least[TEST]);
+    putchar('\n');
+    fflush(stdout);
 }
 
 int main(void)
 {
     static const uint32_t slots[] = {4, 64}, units[] = {1, 4, 16}, levels[] = {1, 3};
-    puts("Least of 60 interleaved batches. A line with + is two calls together.");
-    puts("At M = 16, grow + shrink goes from 15 units to 16 and back.");
+    puts("Least of 60 interleaved batches. The test is the library's soundness test; the columns "
+         "from plain C on\nare ratios to it. A column with + is two calls together. At M = 16, "
+         "grow + shrink goes from 15 units\nto 16 and back.\n");
+    print_head();
     for (int s = 0; s < 2; s++)
         for (int u = 0; u < 3; u++)
             for (int l = 0; l < 2; l++)
-                report(slots[s], units[u], levels[l]);
+                print_row(slots[s], units[u], levels[l]);
     return EXIT_SUCCESS;
 }

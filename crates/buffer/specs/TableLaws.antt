@@ -142,14 +142,14 @@ splice-chunk n w f h i z l =
     ∙ splice-tab n w f h i 0 w z l (omega arith)
     ∙ ap (λ x. tab n (upd f i x)) (splice-whole w z (f i) (omega (arith, h i l)))
 
--- a list cut into chunks
-cut-front : (n w : ℕ) (s : List ℕ) → tab n (λ k. part (w * k) w s) ≡ part 0 (w * n) s
+-- a part cut into chunks, and a whole list
+pub tab-cut : (n w at : ℕ) (s : List ℕ) → tab n (λ k. part (at + w * k) w s) ≡ part at (w * n) s
 unfolding tab part
-cut-front zero w s = rw mul-zero
-cut-front (suc n) w s = rw (cut-front n w s, mul-suc) (ap (λ j. part 0 (w * n) s ++ part j w s) (sym (zero-add (w * n))) ∙ part-append 0 (w * n) w s)
+tab-cut zero w at s = rw mul-zero
+tab-cut (suc n) w at s = rw (tab-cut n w at s, mul-suc) (part-append at (w * n) w s)
 
 pub tab-parts : (n w : ℕ) (s : List ℕ) → length s ≡ w * n → tab n (λ k. part (w * k) w s) ≡ s
-tab-parts n w s e = cut-front n w s ∙ part-whole (w * n) s (omega arith)
+tab-parts n w s e = tab-ext n _ _ (λ k l. ap (λ j. part j w s) (sym (zero-add (w * k)))) ∙ tab-cut n w 0 s ∙ part-whole (w * n) s (omega arith)
 
 -- zeros, and single bytes
 pub tab-zeros : (n w : ℕ) → tab n (λ _. zeros w) ≡ zeros (w * n)

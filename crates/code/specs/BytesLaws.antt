@@ -11,7 +11,7 @@ use lib.Dec.{lit<}
 use lib.ListN.{length, getD, length-map}
 use Rattle.field.specs.ByteLaws.{scale-one, scale-zero}
 use Rattle.code.specs.Matrix.{matrix, entry, encode, within, different}
-use Rattle.code.specs.MatrixLaws.{column}
+use Rattle.code.specs.Columns.{column}
 use Rattle.code.specs.Lists.{four, each-four, within-at, getD-map}
 use Rattle.code.specs.Fixing.{fixes}
 use Rattle.code.specs.Weights.{weightsOf, mixed, data-of}

@@ -1,12 +1,16 @@
--- Four different columns of the matrix, of all seventeen: the side condition of what is said of any four columns. Assumes nothing.
+-- A column of the matrix, and four different ones of all seventeen: the side condition of what is said of any four columns. Assumes nothing.
 use mathlib.Core.Path.{_≡_}
 use mathlib.Core.Bool.{true}
-use mathlib.Core.List.{List}
+use mathlib.Core.List.{List, [], _∷_}
 use Prim.Native.Nat.{ℕ, _<_}
 use native.Mathlib.Omega.{arith}
 use lib.ListN.{length, getD}
-use Rattle.code.specs.Matrix.{within, different}
+use Rattle.code.specs.Matrix.{entry, within, different}
 use Rattle.code.specs.Lists.{within-at}
+
+-- the four entries of a column
+abbrev pub column : ℕ → List ℕ
+column c = entry 0 c ∷ entry 1 c ∷ entry 2 c ∷ entry 3 c ∷ []
 
 pub record FourColumns (cs : List ℕ) : Type 0 where
   pub long : length cs ≡ 4

@@ -16,7 +16,8 @@ use Rattle.field.specs.Gf16Laws.{tested}
 use Rattle.field.specs.Byte.{scale}
 use Rattle.field.specs.ByteLaws.{scale-bound, xor-bytes, low-lt}
 use Rattle.code.specs.Matrix.{encode, within}
-use Rattle.code.specs.MatrixLaws.{column, column-within}
+use Rattle.code.specs.Columns.{column}
+use Rattle.code.specs.MatrixLaws.{column-within}
 use Rattle.code.specs.Lists.{four, within-head, within-tail, within-cons, within-map}
 use Rattle.code.specs.Weights.{combination, mixed}
 use Rattle.code.specs.WeightsLaws.{combination-bound}

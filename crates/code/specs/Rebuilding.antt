@@ -9,8 +9,8 @@ use lib.ListN.{length}
 use Rattle.algebra.specs.Every.{yes-true}
 use Rattle.code.specs.Matrix.{encode, within, different, accepted, Rebuilds}
 use Rattle.code.specs.Lists.{both-first, both-second, within-map, getD-map}
-use Rattle.code.specs.Columns.{FourColumns}
-use Rattle.code.specs.MatrixLaws.{column, column-within}
+use Rattle.code.specs.Columns.{column, FourColumns}
+use Rattle.code.specs.MatrixLaws.{column-within}
 use Rattle.code.specs.Fixing.{fixes}
 use Rattle.code.specs.Weights.{data-of}
 use Rattle.code.specs.WeightsLaws.{combination-bound, data-within, rebuilt-has}

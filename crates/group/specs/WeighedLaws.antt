@@ -17,13 +17,13 @@ use Rattle.buffer.specs.Loops.{entries}
 use Rattle.buffer.specs.RangeLaws.{below-four, entries-of}
 use Rattle.code.specs.Scaling.{scale}
 use Rattle.code.specs.Matrix.{entry, within}
-use Rattle.code.specs.MatrixLaws.{column, column-within}
+use Rattle.code.specs.Columns.{column}
+use Rattle.code.specs.MatrixLaws.{column-within}
 use Rattle.code.specs.Lists.{four, within-four}
 use Rattle.code.specs.Weights.{mixed}
 use Rattle.code.specs.Bytes.{encode-bytes}
 use Rattle.code.specs.Halves.{mixed-bound, encode-mixed}
-use Rattle.group.specs.Body.{scaleBody}
-use Rattle.group.specs.Body.{IsBody, Bodies}
+use Rattle.group.specs.Body.{IsBody, Bodies, scaleBody}
 use Rattle.group.specs.BodyLaws.{length-scale, byte-scale}
 use Rattle.group.specs.Parity.{bodyAt}
 use Rattle.group.specs.ParityLaws.{sum4-ext, length-sum4, byte-sum4}

@@ -7,7 +7,7 @@ ghost use mathlib.Core.Bool.{true};
 ghost use Prim.Native.Nat.{_+_, _≤_, _<_};
 ghost use lib.ListN.{length};
 ghost use Rattle.buffer.specs.Bytes.{byte};
-ghost use Rattle.code.specs.Scaling.{products};
+ghost use Rattle.code.specs.Products.{products};
 ghost use Rattle.code.specs.Scaling.{scale};
 ghost use Rattle.code.specs.Matrix.{within};
 ghost use lib.Dec.{ltb};

@@ -5,7 +5,7 @@ ghost use Prim.Native.Nat.{_<_};
 ghost use lib.Bits.{bitXor};
 ghost use lib.ListN.{length};
 ghost use Rattle.code.specs.Scaling.{scale};
-ghost use Rattle.code.specs.Scaling.{products};
+ghost use Rattle.code.specs.Products.{products};
 ghost use Rattle.group.specs.Widths.{bodyBytes};
 ghost use Rattle.group.specs.Parity.{coefficient, parity};
 ghost use Rattle.group.specs.Four.{fourBodies};

@@ -1,7 +1,11 @@
 pub mod UnitCases
 pub mod Sized
+pub mod SizedLaws
 pub mod States
 pub mod Parts
 pub mod Keys
+pub mod KeyLaws
 pub mod Groups
+pub mod GroupLaws
 pub mod Slots
+pub mod SlotLaws

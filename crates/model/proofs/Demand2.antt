@@ -20,12 +20,12 @@ use Rattle.model.specs.history.Picture.{checkOver, picture}
 use Rattle.model.specs.history.Answers.{final}
 use Rattle.model.specs.history.Typed.{AllTyped}
 use Rattle.model.specs.history.Claims.{left}
-use Rattle.model.proofs.history.Picture.{Valid}
-use Rattle.model.proofs.history.Seen.{size-seen, cstate-is}
-use Rattle.model.proofs.history.Listed.{check-kept}
-use Rattle.model.proofs.history.Opened.{opened-valid}
-use Rattle.model.proofs.history.History.{run}
-use Rattle.model.proofs.history.Demand3.{outlives}
+use Rattle.model.proofs.history.ledger.Valid.{Valid}
+use Rattle.model.proofs.history.picture.Seen.{size-seen, cstate-is}
+use Rattle.model.proofs.history.picture.Listed.{check-kept}
+use Rattle.model.proofs.history.calls.Opened.{opened-valid}
+use Rattle.model.proofs.history.claims.History.{run}
+use Rattle.model.proofs.history.claims.Demand3.{outlives}
 use Rattle.model.proofs.Hashing.{linear-hashing}
 use Rattle.model.proofs.MadeAnew.{made-anew}
 use Rattle.model.proofs.Recovered.{recovered}

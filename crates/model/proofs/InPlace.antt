@@ -2,7 +2,7 @@
 -- is empty, exactly where that read would refuse or the key's unit is out. Assumes nothing.
 use Prim.Native.Nat.{ℕ, suc, _+_, _*_, _≤_, _<_}
 use mathlib.Core.Path.{_≡_, refl, sym, ap, _∙_}
-use mathlib.Core.List.{List}
+use mathlib.Core.List.{List, []}
 use mathlib.Core.Bool.{Bool, true, false, not, _&&_}
 use native.Mathlib.Omega.{arith}
 use native.Mathlib.Nat.{mul-le-mul-right}
@@ -11,19 +11,18 @@ use lib.ListN.{length, drop}
 use lib.Seq.{take-all}
 use borrow.Author.Tests.{eqb-true, eq-eqb, ne-eqb, leb-false, not-true, not-false}
 use Rattle.buffer.specs.Choice.{pick}
-use Rattle.buffer.specs.ChoiceLaws.{by-test, pick-true, pick-false}
+use Rattle.buffer.specs.ChoiceLaws.{pick-true, pick-false, by-pick}
 use Rattle.buffer.specs.TestLaws.{and-true, and-first, and-second}
-use Rattle.buffer.specs.Range.{first}
-use Rattle.buffer.specs.RangeLaws.{first-ext, first-le}
 use Rattle.buffer.specs.Bytes.{byte, zeros, part}
 use Rattle.buffer.specs.ByteLaws.{length-zeros}
 use Rattle.buffer.specs.SpliceLaws.{length-part, part-part}
 use Rattle.group.specs.Widths.{keyBytes, bodyBytes, slotBytes}
 use Rattle.group.specs.CheckRecordLaws.{length-body}
 use Rattle.model.specs.UnitLaws.{unit-below}
-use Rattle.model.specs.Layout.{Store, view, slotAt, unitsIn, keyOf}
-use Rattle.model.specs.LayoutLaws.{view-shaped, key-first}
-use Rattle.model.specs.Reads.{homeIn, fillIn, rankIn, listedKey, listedFill, listedRank, wholeSlot, bodyIn}
+use Rattle.model.specs.Layout.{Store, view, slotAt, unitsIn}
+use Rattle.model.specs.LayoutLaws.{view-shaped}
+use Rattle.model.specs.Reads.{homeIn, rankIn, listedFill, listedRank, wholeSlot, bodyIn}
+use Rattle.model.specs.ReadLaws.{fill-le, own-fill, own-rank}
 use Rattle.model.specs.Sound.{sound}
 use Rattle.model.specs.SoundSays.{ranged, units-some, units-few}
 use Rattle.model.specs.Numbers.{read, readInPlace, refusalsIn, numberIn}
@@ -78,26 +77,8 @@ module _ (s : List ℕ) (k : ℕ) (zero : numberIn s (read k (zeros bodyBytes)) 
     abbrev u : ℕ
     u = homeIn (view s) k
 
-    own-key : (r : ℕ) → keyOf (listedKey v u r) ≡ keyOf (v .slot u r)
-    unfolding listedKey
-    own-key r = ap keyOf (pick-false kept _ _) ∙ key-first (v .slot u r)
-
-    own-fill : listedFill v u ≡ fillIn v u
-    unfolding listedFill fillIn
-    own-fill = first-ext (v .size) (λ r. eqb (keyOf (listedKey v u r)) 0) (λ r. eqb (keyOf (v .slot u r)) 0) (λ r a. ap (λ (n : ℕ). eqb n 0) (own-key r))
-
-    own-rank : listedRank v u k ≡ rankIn v u k
-    unfolding listedRank rankIn
-    own-rank =
-        ap (λ (n : ℕ). first n (λ r. eqb (keyOf (listedKey v u r)) k)) own-fill
-        ∙ first-ext (fillIn v u) (λ r. eqb (keyOf (listedKey v u r)) k) (λ r. eqb (keyOf (v .slot u r)) k) (λ r a. ap (λ (n : ℕ). eqb n k) (own-key r))
-
-    fill-most : fillIn v u ≤ v .size
-    unfolding fillIn
-    fill-most = first-le (v .size) (λ r. eqb (keyOf (v .slot u r)) 0)
-
     in-unit : rankIn v u k < v .size
-    in-unit = omega (arith, found, own-rank, own-fill, fill-most)
+    in-unit = omega (arith, found, own-rank v u kept k, own-fill v u kept, fill-le v u)
 
     body-length : length (part (slotAt (v .size) u (rankIn v u k) + keyBytes) bodyBytes s) ≡ bodyBytes
     body-length = length-part (slotAt (v .size) u (rankIn v u k) + keyBytes) bodyBytes s (inside s is-sound u (rankIn v u k) (home-low s is-sound k) in-unit)
@@ -110,16 +91,9 @@ module _ (s : List ℕ) (k : ℕ) (zero : numberIn s (read k (zeros bodyBytes)) 
         let long : length slot ≡ slotBytes = view-shaped s (ranged s is-sound .long) .slot u (rankIn v u k) (home-low s is-sound k) in-unit in
         slot-body s u (rankIn v u k)
         ∙ take-all bodyBytes (drop keyBytes slot) (omega (arith, length-body bodyBytes slot long))
-        ∙ sym (ap (λ (r : ℕ). drop keyBytes (wholeSlot v u r)) own-rank ∙ ap (drop keyBytes) (pick-false kept _ slot))
-
-    part-there : givenIn s (readInPlace k) ≡ bodyIn v k
-    unfolding givenIn placeIn
-    part-there = ap (λ (p : Place). part (p .at) (p .size) s) (pick-true (and-true (eq-eqb (numberIn s (read k (zeros bodyBytes))) 0 zero) (ap not kept)) _ _) ∙ body-there
+        ∙ sym (ap (λ (r : ℕ). drop keyBytes (wholeSlot v u r)) (own-rank v u kept k) ∙ ap (drop keyBytes) (pick-false kept _ slot))
 
 -- ---- the part
-
-abbrev partAt : List ℕ → Place → List ℕ
-partAt s p = part (p .at) (p .size) s
 
 module _ (s : List ℕ) (k : ℕ) where
   -- read is granted, and the unit is not out
@@ -129,21 +103,22 @@ module _ (s : List ℕ) (k : ℕ) where
   abbrev serves : Bool
   serves = not (eqb (view s .dstate (homeIn (view s) k)) 2)
 
-  abbrev test : Bool
-  test = grants && serves
-
-  part-length : length (givenIn s (readInPlace k)) ≡ pick test bodyBytes 0
+  pub place-given : (eqb (numberIn s (read k (zeros bodyBytes))) 0 && not (eqb (view s .dstate (homeIn (view s) k)) 2)) ≡ true
+      → givenIn s (readInPlace k) ≡ part (slotAt (view s .size) (homeIn (view s) k) (rankIn (view s) (homeIn (view s) k) k) + keyBytes) bodyBytes s
   unfolding givenIn placeIn
+  place-given e = ap (λ (p : Place). part (p .at) (p .size) s) (pick-true e _ _)
+
+  pub place-none : (eqb (numberIn s (read k (zeros bodyBytes))) 0 && not (eqb (view s .dstate (homeIn (view s) k)) 2)) ≡ false → givenIn s (readInPlace k) ≡ []
+  unfolding givenIn placeIn
+  place-none e = ap (λ (p : Place). part (p .at) (p .size) s) (pick-false e _ _) ∙ part-none s
+
+  part-length : length (givenIn s (readInPlace k)) ≡ pick (grants && serves) bodyBytes 0
   part-length =
-      by-test (λ (t : Bool). test ≡ t
-      → length (partAt s (pick t (record { at = slotAt (view s .size) (homeIn (view s) k) (rankIn (view s) (homeIn (view s) k) k) + keyBytes; size = bodyBytes }) (record { at = 0; size = 0 }))) ≡ pick t bodyBytes 0)
-      test
-      (λ _ e.
-      ap (λ (p : Place). length (partAt s p)) (pick-true refl _ _)
-      ∙ body-length s k (eqb-true (numberIn s (read k (zeros bodyBytes))) 0 (and-first grants serves e)) (not-true (eqb (view s .dstate (homeIn (view s) k)) 2) (and-second grants serves e))
-      ∙ sym (pick-true refl bodyBytes 0))
-      (λ _ e. ap (λ (p : Place). length (partAt s p)) (pick-false refl _ _) ∙ ap length (part-none s) ∙ sym (pick-false refl bodyBytes 0))
-      refl
+      by-pick (λ (n : ℕ). length (givenIn s (readInPlace k)) ≡ n) (grants && serves) bodyBytes 0
+      (λ e.
+      let zero : numberIn s (read k (zeros bodyBytes)) ≡ 0 = eqb-true (numberIn s (read k (zeros bodyBytes))) 0 (and-first grants serves e) in
+      ap length (place-given e) ∙ body-length s k zero (not-true (eqb (view s .dstate (homeIn (view s) k)) 2) (and-second grants serves e)))
+      (λ e. ap length (place-none e))
 
   -- read into any buffer that fits
   as-zeros : (out : List ℕ) → length out ≡ bodyBytes → numberIn s (read k out) ≡ numberIn s (read k (zeros bodyBytes))
@@ -157,5 +132,8 @@ module _ (s : List ℕ) (k : ℕ) where
   in-place = record {
     untouched = in-place-store s k;
     exactly = λ out fits. rw (as-zeros out fits) part-length;
-    same = λ out fits zero kept. part-there s k (sym (as-zeros out fits) ∙ zero) (ne-eqb (view s .dstate (homeIn (view s) k)) 2 kept) ∙ sym (read-gives out);
+    same = λ out fits zero kept.
+        let granted : numberIn s (read k (zeros bodyBytes)) ≡ 0 = sym (as-zeros out fits) ∙ zero in
+        let stays : eqb (view s .dstate (homeIn (view s) k)) 2 ≡ false = ne-eqb (view s .dstate (homeIn (view s) k)) 2 kept in
+        place-given (and-true (eq-eqb _ 0 granted) (ap not stays)) ∙ body-there s k granted stays ∙ sym (read-gives out);
   }

@@ -20,8 +20,8 @@ use Rattle.model.specs.RowLaws.{Free}
 use Rattle.model.specs.Perform.{grantedIn, afterIn, perform}
 use Rattle.model.specs.PerformLaws.{none-holds}
 use Rattle.model.specs.MadeAnew.{leftBy}
-use Rattle.model.proofs.history.Alike.{Alike, alike-refl, left-shaped}
-use Rattle.model.proofs.history.AlikeRepaired.{repaired-alike}
+use Rattle.model.proofs.history.alike.Alike.{Alike, alike-refl, left-shaped}
+use Rattle.model.proofs.history.alike.Repaired.{repaired-alike}
 
 -- a state that a unit may have
 state-most : (p : Bool) (n : ℕ) → Stateful p n → n ≤ 2

@@ -17,9 +17,9 @@ use Rattle.model.specs.Changes.{repaired, grown, shrunk}
 use Rattle.model.specs.Numbers.{repair, grow, shrink, refusalsIn}
 use Rattle.model.specs.Perform.{grantedIn}
 use Rattle.model.specs.MadeAnew.{HoldsCheckRecords, leftBy, MadeAnew}
-use Rattle.model.proofs.history.Alike.{left-shaped}
-use Rattle.model.proofs.history.AlikeNumbers.{split-inside, split-before}
-use Rattle.model.proofs.history.AlikeDealt.{grown-shaped, shrunk-alike}
+use Rattle.model.proofs.history.alike.Alike.{left-shaped}
+use Rattle.model.proofs.history.alike.Numbers.{split-inside, split-before}
+use Rattle.model.proofs.history.alike.Dealt.{grown-shaped, shrunk-alike}
 use Rattle.model.proofs.Left.{itself, free, left-same, repair-left}
 
 -- what check unit c holds, in stores whose parts are the same

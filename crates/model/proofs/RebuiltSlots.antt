@@ -8,7 +8,7 @@ use native.Mathlib.Omega.{arith}
 use lib.Dec.{eqb, ltb}
 use lib.ListN.{length, take, drop, getD, length-append, length-drop, take-append-drop}
 use lib.Seq.{getD-drop}
-use borrow.Author.Tests.{eq-eqb, ltb-true, ltb-false, lt-ltb}
+use borrow.Author.Tests.{ne-eqb, eq-eqb, ltb-true, ltb-false, lt-ltb}
 use Rattle.buffer.specs.Choice.{pick}
 use Rattle.buffer.specs.ChoiceLaws.{by-test, by-pick, pick-true, pick-false}
 use Rattle.buffer.specs.TestLaws.{and-false-second}
@@ -27,7 +27,7 @@ use Rattle.model.specs.ReadLaws.{listed-some}
 use Rattle.model.specs.Sound.{sound}
 use Rattle.model.specs.Recovered.{HeldBodies}
 use Rattle.model.specs.history.Typed.{Bytes}
-use Rattle.model.proofs.history.LedgerOf.{bytes-part}
+use Rattle.model.proofs.history.alike.LedgerOf.{bytes-part}
 use Rattle.model.proofs.Left.{shaped, states-low}
 
 -- what stands behind the first k bytes is a body
@@ -132,7 +132,7 @@ module _ {s : List ℕ} {r : ℕ} (u : ℕ) (h : Rebuildable s (u / 4) r) where
     body-long = bodies-held h .bodies (u % 4) (omega arith) .size
 
     pub whole-out : wholeSlot w u r ≡ key ++ body
-    whole-out = whole-slot ∙ pick-false (and-false-second (eqb (w .dstate u) 2) (listed-some w u r l)) (zeros slotBytes) (key ++ body)
+    whole-out = whole-slot ∙ pick-false (and-false-second (eqb (w .dstate u) 2) (ne-eqb _ 0 (listed-some w u r l))) (zeros slotBytes) (key ++ body)
 
     pub whole-long : length (wholeSlot w u r) ≡ slotBytes
     whole-long = ap length whole-out ∙ length-append key body ∙ omega (arith, key-long, body-long)

@@ -23,7 +23,7 @@ use Rattle.group.specs.Rebuilding.{rebuilt}
 use Rattle.model.specs.Layout.{Store, view, keyOf}
 use Rattle.model.specs.Reads.{homeIn, beyondIn, servesIn, holds, listedKey, listedFill, listedRank}
 use Rattle.model.specs.Reads.{wholeSlot, bodyIn, lostIn, totalIn, listingIn}
-use Rattle.model.specs.ReadLaws.{listed-most, whole-own}
+use Rattle.model.specs.ReadLaws.{listed-le, whole-own}
 use Rattle.model.specs.Sound.{sound}
 use Rattle.model.specs.Changes.{repaired}
 use Rattle.model.specs.Numbers.{read, list, repair, refusalsIn, numberIn}
@@ -100,7 +100,7 @@ module _ (s : List ℕ) (b : Bytes s) (k : ℕ) (out : List ℕ) (zero : numberI
         ok = sure;
         group = omega (arith, home-low s sure k);
         near = rw (eq-eqb (view s .dstate home) 2 lost) at (f .1 .1 .1 .0);
-        rank = omega (arith, present, listed-most (view s) home);
+        rank = omega (arith, present, listed-le (view s) home);
       }
 
   body-read : bodyIn (view s) k ≡ body home read-rebuildable
@@ -141,14 +141,14 @@ module _ (s : List ℕ) (b : Bytes s) (out : List ℕ) (zero : numberIn s (list 
         ok = list-sound;
         group = omega arith;
         near = rw (eq-eqb (t .dstate u) 2 e) at (count-zero 16 f (omega arith) u l);
-        rank = omega (arith, listed-most t u);
+        rank = omega (arith, listed-le t u);
       }
 
   slot-long : (u r : ℕ) → u < 16 → r < listedFill t u → length (wholeSlot t u r) ≡ slotBytes
   slot-long u r l m =
       by-test (λ _. length (wholeSlot t u r) ≡ slotBytes) (eqb (t .dstate u) 2)
       (λ e. let lost : t .dstate u ≡ 2 = eqb-true (t .dstate u) 2 e in whole-long u (list-rebuildable u r l m lost) lost m)
-      (λ e. ap length (whole-own t u r e) ∙ shaped s list-sound .slot u r l (omega (arith, listed-most t u)))
+      (λ e. ap length (whole-own t u e r) ∙ shaped s list-sound .slot u r l (omega (arith, listed-le t u)))
 
   listing-long : length (listingIn t) ≡ slotBytes * totalIn t
   unfolding listingIn totalIn
@@ -173,7 +173,7 @@ module _ (s : List ℕ) (b : Bytes s) (out : List ℕ) (zero : numberIn s (list 
     written = listingIn t ++ rest;
     answered = list-answer;
     long = length-append (listingIn t) rest ∙ simp length-drop (omega (arith, listing-long, room));
-    own = λ u r l m e. record-at u r l m ∙ whole-own t u r (ne-eqb (t .dstate u) 2 e);
+    own = λ u r l m e. record-at u r l m ∙ whole-own t u (ne-eqb (t .dstate u) 2 e) r;
     rebuilt = λ u r l m e. let h : Rebuildable s (u / 4) r = list-rebuildable u r l m e in (_, bodies-held h, record-at u r l m ∙ whole-out u h e m);
     behind = drop-at (listingIn t) rest (slotBytes * totalIn t) listing-long;
   }

@@ -32,7 +32,7 @@ refused-output : (n : ℕ) (y out : List ℕ) → n ≢ 0 → output n y out ≡
 unfolding output
 refused-output n y out e = pick-false (ne-eqb n 0 e) (y ++ drop (length y) out) out
 
-refused-reply : (s : List ℕ) (c : Call) (n : ℕ) (y : List ℕ) (m : ℕ) → numberIn s c ≡ n → n ≢ 0 → reply c n y m ≡ refusal c n
+pub refused-reply : (s : List ℕ) (c : Call) (n : ℕ) (y : List ℕ) (m : ℕ) → numberIn s c ≡ n → n ≢ 0 → reply c n y m ≡ refusal c n
 unfolding reply refusal numberIn refusalsIn firstOf
 refused-reply s (teach k x) n y m e z = refl
 refused-reply s (correct k x) n y m e z = refl

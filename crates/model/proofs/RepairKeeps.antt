@@ -62,7 +62,7 @@ module _ (s : List ℕ) (g : ℕ) where
     unfolding repaired
     slot-after u r l m e =
         h .slot u r l m
-        ∙ by-pick (λ x. x ≡ v .slot u r) (eqb (u / 4) g) (wholeSlot v u r) (v .slot u r) (λ _. whole-own v u r (ap (λ n. eqb n 2) e)) (λ _. refl)
+        ∙ by-pick (λ x. x ≡ v .slot u r) (eqb (u / 4) g) (wholeSlot v u r) (v .slot u r) (λ _. whole-own v u (ap (λ n. eqb n 2) e) r) (λ _. refl)
 
     check-after : (c r : ℕ) → c < 12 → r < v .size → v .cstate c ≡ 1 → after .check c r ≡ v .check c r
     unfolding repaired
@@ -109,7 +109,7 @@ module _ (s : List ℕ) (g : ℕ) where
       size = refl;
       dstate = λ u l. kept (eqb (u / 4) g) (eqb (v .dstate u) 2) 1 (v .dstate u) (data-in u);
       cstate = λ c l. kept (eqb (c / 3) g) (eqb (v .cstate c) 2) 1 (v .cstate c) (check-in c);
-      slot = λ u r l m. by-pick (λ x. x ≡ v .slot u r) (eqb (u / 4) g) (wholeSlot v u r) (v .slot u r) (λ e. whole-own v u r (data-in u e)) (λ _. refl);
+      slot = λ u r l m. by-pick (λ x. x ≡ v .slot u r) (eqb (u / 4) g) (wholeSlot v u r) (v .slot u r) (λ e. whole-own v u (data-in u e) r) (λ _. refl);
       check = λ c r l m. kept (eqb (c / 3) g) (eqb (v .cstate c) 2) _ (v .check c r) (check-in c);
       rest = refl;
     }

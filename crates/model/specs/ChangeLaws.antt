@@ -17,15 +17,18 @@ use Rattle.model.specs.LayoutLaws.{Shaped, Same, bytes-ext, view-bytes}
 use Rattle.model.specs.Changes.{written}
 
 -- ---- a change of the bytes of t is that change of t, if the change doesn't tell stores apart whose parts are the same
-pub on-bytes : (f : Store → Store) (t : Store) (s : List ℕ) → Shaped t → s ≡ bytes t → (Same (view (bytes t)) t → Same (f (view (bytes t))) (f t)) → bytes (f (view s)) ≡ bytes (f t)
+pub on-bytes : (f : Store → Store) (t : Store) (s : List ℕ) → Shaped t → s ≡ bytes t → (Same (view (bytes t)) t → Same (f (view (bytes t))) (f t))
+    → bytes (f (view s)) ≡ bytes (f t)
 on-bytes f t s h e k = ap (λ x. bytes (f (view x))) e ∙ bytes-ext (f (view (bytes t))) (f t) (k (view-bytes t h))
 
--- ---- a slot written
--- the change of its body
-pub length-change : (s : Store) (u r : ℕ) (x : List ℕ) → Shaped s → u < 16 → r < s .size → length x ≡ slotBytes
-    → length (addBody (drop keyBytes (s .slot u r)) (drop keyBytes x)) ≡ bodyBytes
-length-change s u r x h hu hr hx =
-    length-add bodyBytes (drop keyBytes (s .slot u r)) (drop keyBytes x) (length-body bodyBytes (s .slot u r) (h .slot u r hu hr)) (length-body bodyBytes x hx)
+-- ---- a slot x written over a slot s: the change of its body, and a check record c that follows it
+pub length-change : (s x : List ℕ) → length s ≡ slotBytes → length x ≡ slotBytes → length (addBody (drop keyBytes s) (drop keyBytes x)) ≡ bodyBytes
+length-change s x hs hx = length-add bodyBytes (drop keyBytes s) (drop keyBytes x) (length-body bodyBytes s hs) (length-body bodyBytes x hx)
+
+pub length-follow : (j p : ℕ) (s x c : List ℕ) → p < 4 → length s ≡ slotBytes → length x ≡ slotBytes → length c ≡ checkBytes
+    → length (patched j p (take keyBytes x) (addBody (drop keyBytes s) (drop keyBytes x)) c) ≡ checkBytes
+length-follow j p s x c hp hs hx hc =
+    length-patched bodyBytes j p (take keyBytes x) (addBody (drop keyBytes s) (drop keyBytes x)) c hp (length-key bodyBytes x hx) (length-change s x hs hx) hc
 
 module _ (s : Store) (u r : ℕ) (x : List ℕ) where
   pub written-size : written s u r x .size ≡ s .size
@@ -44,18 +47,7 @@ module _ (s : Store) (u r : ℕ) (x : List ℕ) where
         (eqb (c / 3) (u / 4) && eqb q r && eqb (s .cstate c) 1)
         (patched (c % 3) (u % 4) (take keyBytes x) (addBody (drop keyBytes (s .slot u r)) (drop keyBytes x)) (s .check c q))
         (s .check c q)
-        (λ _.
-        length-patched
-        bodyBytes
-        (c % 3)
-        (u % 4)
-        (take keyBytes x)
-        (addBody (drop keyBytes (s .slot u r)) (drop keyBytes x))
-        (s .check c q)
-        (omega arith)
-        (length-key bodyBytes x hx)
-        (length-change s u r x h hu hr hx)
-        (h .check c q a b))
+        (λ _. length-follow (c % 3) (u % 4) (s .slot u r) x (s .check c q) (omega arith) (h .slot u r hu hr) hx (h .check c q a b))
         (λ _. h .check c q a b);
   }
 

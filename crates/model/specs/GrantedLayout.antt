@@ -6,8 +6,8 @@ use lib.Dec.{ltb}
 use lib.ListN.{length}
 use borrow.Author.Tests.{ltb-false}
 use Rattle.model.specs.Layout.{storeBytes}
-use Rattle.model.specs.Perform.{layOutNumber}
 use Rattle.model.specs.RowLaws.{Free, first-free}
+use Rattle.model.specs.Perform.{layOutNumber}
 
 pub record Granted (s : List ℕ) (b : ℕ) : Type 0 where
   pub least : 1 ≤ b

@@ -30,7 +30,7 @@ pub record Store : Type 0 where
 
 -- a store of these parts, in this order
 abbrev pub store : List ℕ → (ℕ → ℕ) → (ℕ → ℕ) → ℕ → (ℕ → ℕ → List ℕ) → (ℕ → ℕ → List ℕ) → List ℕ → Store
-store front dstate cstate size slot check rest = record { front = front; dstate = dstate; cstate = cstate; size = size; slot = slot; check = check; rest = rest }
+store front d c size slot check rest = record { front = front; dstate = d; cstate = c; size = size; slot = slot; check = check; rest = rest }
 
 -- its bytes
 unfoldable pub bytes : Store → List ℕ

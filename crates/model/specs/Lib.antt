@@ -1,10 +1,13 @@
 pub mod Units
 pub mod UnitLaws
 pub mod Layout
-pub mod LayoutLaws
-pub mod StoreLaws
+pub mod Places
+pub mod Parts
 pub mod RunLaws
 pub mod RunTurns
+pub mod UnitTableLaws
+pub mod LayoutLaws
+pub mod StoreLaws
 pub mod Reads
 pub mod ReadLaws
 pub mod Sound

@@ -21,8 +21,10 @@ HoldsCheckRecords t c = (r : ℕ) → r < t .size → t .check c r ≡ checkReco
 
 pub record MadeAnew (s : List ℕ) : Type 0 where
   -- unit M is added: the check units in service of its group, and of that of the unit it is split from
-  pub by-grow : numberIn s grow ≡ 0 → (c : ℕ) → c < 12 → touched (unitsIn (view s)) (c / 3) ≡ true → leftBy s grow .cstate c ≡ 1 → HoldsCheckRecords (leftBy s grow) c
+  pub by-grow : numberIn s grow ≡ 0 → (c : ℕ) → c < 12 → touched (unitsIn (view s)) (c / 3) ≡ true → leftBy s grow .cstate c ≡ 1
+      → HoldsCheckRecords (leftBy s grow) c
   -- unit M - 1 is removed: the same two groups
-  pub by-shrink : numberIn s shrink ≡ 0 → (c : ℕ) → c < 12 → touched (pred (unitsIn (view s))) (c / 3) ≡ true → leftBy s shrink .cstate c ≡ 1 → HoldsCheckRecords (leftBy s shrink) c
+  pub by-shrink : numberIn s shrink ≡ 0 → (c : ℕ) → c < 12 → touched (pred (unitsIn (view s))) (c / 3) ≡ true → leftBy s shrink .cstate c ≡ 1
+      → HoldsCheckRecords (leftBy s shrink) c
   -- the check units of group g that were out
   pub by-repair : (g : ℕ) → numberIn s (repair g) ≡ 0 → (c : ℕ) → c < 12 → c / 3 ≡ g → view s .cstate c ≡ 2 → HoldsCheckRecords (leftBy s (repair g)) c

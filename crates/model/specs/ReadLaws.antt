@@ -1,24 +1,72 @@
--- Laws of what the calls read from a store, whatever the store: the keys listed for a unit, and a slot of a unit that is not out. Assumes nothing.
-use Prim.Native.Nat.{ℕ, _≤_, _<_}
-use mathlib.Core.Path.{_≡_}
-use mathlib.Core.Bool.{false}
+-- Laws of what the calls read in a store: a unit has no more records than ranks, each rank before their number has a key, and a unit that is not
+-- out lists its own keys; a group that is not beyond recovery has four members in service, a check unit among them where a data unit is out.
+-- Assumes nothing.
+use Prim.Native.Nat.{ℕ, _≤_, _<_, _+_, _*_}
+use mathlib.Core.Path.{_≡_, ap, _∙_}
+use mathlib.Core.Logic.{_≢_}
+use mathlib.Core.Bool.{false, true, not}
 use lib.Dec.{eqb}
+use lib.ListN.{take}
+use borrow.Author.Tests.{eqb-false}
 use Rattle.buffer.specs.ChoiceLaws.{pick-false}
-use Rattle.buffer.specs.RangeLaws.{first-le, first-misses}
+use Rattle.buffer.specs.Range.{first, count}
+use Rattle.buffer.specs.RangeLaws.{first-ext, first-le, first-misses, count-ext, count-append, count-not, count-pos}
+use Rattle.group.specs.Widths.{keyBytes}
 use Rattle.model.specs.Layout.{Store, keyOf}
-use Rattle.model.specs.Reads.{listedKey, listedFill, wholeSlot}
+use Rattle.model.specs.LayoutLaws.{key-first}
+use Rattle.model.specs.Reads.{fillIn, rankIn, listedKey, listedFill, listedRank, wholeSlot, beyondIn, servesIn}
+use Rattle.group.specs.MembersLaws.{enough, serves-data, serves-check}
+use native.Mathlib.Omega.{arith}
 
--- the keys of a unit up to its last record are not 0
-pub listed-some : (v : Store) (u r : ℕ) → r < listedFill v u → eqb (keyOf (listedKey v u r)) 0 ≡ false
-unfolding listedFill
-listed-some v u r l = first-misses (v .size) (λ r. eqb (keyOf (listedKey v u r)) 0) r l
+module _ (v : Store) (u : ℕ) where
+  pub fill-le : fillIn v u ≤ v .size
+  unfolding fillIn
+  fill-le = first-le (v .size) (λ r. eqb (keyOf (v .slot u r)) 0)
 
--- a unit has no more records than ranks
-pub listed-most : (v : Store) (u : ℕ) → listedFill v u ≤ v .size
-unfolding listedFill
-listed-most v u = first-le (v .size) (λ r. eqb (keyOf (listedKey v u r)) 0)
+  pub listed-le : listedFill v u ≤ v .size
+  unfolding listedFill
+  listed-le = first-le (v .size) (λ r. eqb (keyOf (listedKey v u r)) 0)
 
--- a slot of a unit that is not out is as it stands
-pub whole-own : (v : Store) (u r : ℕ) → eqb (v .dstate u) 2 ≡ false → wholeSlot v u r ≡ v .slot u r
-unfolding wholeSlot
-whole-own v u r e = pick-false e _ (v .slot u r)
+  pub fill-key : (r : ℕ) → r < fillIn v u → keyOf (v .slot u r) ≢ 0
+  unfolding fillIn
+  fill-key r l = eqb-false (keyOf (v .slot u r)) 0 (first-misses (v .size) (λ q. eqb (keyOf (v .slot u q)) 0) r l)
+
+  pub listed-some : (r : ℕ) → r < listedFill v u → keyOf (listedKey v u r) ≢ 0
+  unfolding listedFill
+  listed-some r l = eqb-false (keyOf (listedKey v u r)) 0 (first-misses (v .size) (λ q. eqb (keyOf (listedKey v u q)) 0) r l)
+
+  module _ (kept : eqb (v .dstate u) 2 ≡ false) where
+    pub own-bytes : (r : ℕ) → listedKey v u r ≡ take keyBytes (v .slot u r)
+    unfolding listedKey
+    own-bytes r = pick-false kept _ (take keyBytes (v .slot u r))
+
+    pub own-key : (r : ℕ) → keyOf (listedKey v u r) ≡ keyOf (v .slot u r)
+    own-key r = ap keyOf (own-bytes r) ∙ key-first (v .slot u r)
+
+    pub own-fill : listedFill v u ≡ fillIn v u
+    unfolding listedFill fillIn
+    own-fill = first-ext (v .size) _ _ (λ r a. ap (λ (n : ℕ). eqb n 0) (own-key r))
+
+    pub own-rank : (k : ℕ) → listedRank v u k ≡ rankIn v u k
+    unfolding listedRank rankIn
+    own-rank k =
+        ap (λ (n : ℕ). first n (λ r. eqb (keyOf (listedKey v u r)) k)) own-fill ∙ first-ext (fillIn v u) _ _ (λ r a. ap (λ (n : ℕ). eqb n k) (own-key r))
+
+    pub whole-own : (r : ℕ) → wholeSlot v u r ≡ v .slot u r
+    unfolding wholeSlot
+    whole-own r = pick-false kept _ (v .slot u r)
+
+-- ---- a group that is not beyond recovery
+module _ (v : Store) (g : ℕ) (low : (j : ℕ) → j < 3 → v .cstate (3 * g + j) ≤ 2) (near : beyondIn v g ≡ false) where
+  pub four-serve : 4 ≤ count 7 (servesIn v g)
+  unfolding servesIn beyondIn
+  four-serve = enough (λ p. v .dstate (4 * g + p)) (λ j. v .cstate (3 * g + j)) low near
+
+  pub check-serves : (p : ℕ) → p < 4 → eqb (v .dstate (4 * g + p)) 2 ≡ true → 0 < count 3 (λ j. eqb (v .cstate (3 * g + j)) 1)
+  unfolding servesIn
+  check-serves p l e =
+      let d : ℕ → ℕ = λ p. v .dstate (4 * g + p) in
+      let c : ℕ → ℕ = λ j. v .cstate (3 * g + j) in
+      let places : count 4 (servesIn v g) ≡ count 4 (λ p. not (eqb (d p) 2)) = count-ext 4 _ _ (serves-data d c) in
+      let checks : count 3 (λ j. servesIn v g (4 + j)) ≡ count 3 (λ j. eqb (c j) 1) = count-ext 3 _ _ (λ j m. serves-check d c j) in
+      omega (arith, four-serve, count-append 4 3 (servesIn v g), count-not 4 (λ p. eqb (d p) 2), count-pos 4 (λ p. eqb (d p) 2) p l e)

@@ -19,6 +19,10 @@ Agree [] (t ∷ ts) = ⊥
 Agree (s ∷ ss) [] = ⊥
 Agree (s ∷ ss) (t ∷ ts) = (s .1 ≡ t .1) × (s .0 ≡ t .0) × (t .0 ≡ false → Agree ss ts)
 
+-- one row of the two lists, and those behind it, P
+pub row : {n : ℕ} {s t : Bool} {P : Type 0} → s ≡ t → (t ≡ false → P) → (n ≡ n) × (s ≡ t) × (t ≡ false → P)
+row e h = (refl, e, h)
+
 -- none holds
 abbrev pub Free : List (Bool × ℕ) → Type 0
 Free [] = Unit {0}
@@ -71,7 +75,8 @@ first-low (t ∷ ts) h =
 pub front-holds : (ts us : List (Bool × ℕ)) → (firstOf ts ≡ 0 → ⊥) → firstOf (ts ++ us) ≡ firstOf ts
 unfolding firstOf
 front-holds [] us h = absurd (h refl)
-front-holds (t ∷ ts) us h = pick-ext (t .0) (t .1) (firstOf (ts ++ us)) (t .1) (firstOf ts) (λ e. refl) (λ e. front-holds ts us (λ z. h (pick-false e (t .1) (firstOf ts) ∙ z)))
+front-holds (t ∷ ts) us h =
+    pick-ext (t .0) (t .1) (firstOf (ts ++ us)) (t .1) (firstOf ts) (λ e. refl) (λ e. front-holds ts us (λ z. h (pick-false e (t .1) (firstOf ts) ∙ z)))
 
 pub front-free : (ts us : List (Bool × ℕ)) → Free ts → firstOf (ts ++ us) ≡ firstOf us
 unfolding firstOf

@@ -1,22 +1,22 @@
--- Parts of a table of units replaced: a run of chunks of one unit, one chunk, a whole unit. A table has n units of b chunks of w bytes; chunk r
--- of unit u starts at (u * b + r) * w. Assumes nothing.
+-- Chunks by unit and rank with some of one unit replaced: one of them, or a run of ranks; and a run replaced in the bytes of a unit's chunks.
+-- Assumes nothing.
 use Prim.Native.Nat.{ℕ, _+_, _*_, _-_, _≤_, _<_}
-use mathlib.Core.Path.{_≡_, refl, sym, ap, _∙_}
+use mathlib.Core.Path.{_≡_, sym, ap, _∙_}
 use mathlib.Core.List.{List, _++_}
-use mathlib.Core.Bool.{true, false, _&&_}
+use mathlib.Core.Bool.{true, _&&_}
 use mathlib.Core.Bool as bool
 use native.Mathlib.Omega.{arith}
-use native.Mathlib.Nat.{add-zero, mul-le-mul-left}
+use native.Mathlib.Nat.{add-zero}
 use lib.Dec.{eqb, ltb, leb}
 use lib.ListN.{length}
 use borrow.Author.Tests.{eqb-true, eq-eqb, lt-ltb, le-ltb, ltb-true, le-leb, lt-leb, leb-true}
 use Rattle.buffer.specs.Choice.{pick}
-use Rattle.buffer.specs.ChoiceLaws.{by-test, by-pick, pick-true, pick-false}
+use Rattle.buffer.specs.ChoiceLaws.{by-pick, pick-true, pick-false}
 use Rattle.buffer.specs.TestLaws.{and-true, and-first, and-second, and-false-first, and-false-second, and-ext, same-test}
 use Rattle.buffer.specs.Bytes.{splice}
 use Rattle.buffer.specs.SpliceLaws.{splice-left, splice-right, splice-whole}
-use Rattle.buffer.specs.Table.{tab, upd}
-use Rattle.buffer.specs.TableLaws.{Wide, tab-ext, tab-append, length-tab, splice-tab}
+use Rattle.buffer.specs.Table.{tab}
+use Rattle.buffer.specs.TableLaws.{Wide, tab-ext, tab-append, length-tab}
 
 -- f, a chunk for each unit and rank, with z at rank r of unit u
 unfoldable pub upd2 : (ℕ → ℕ → List ℕ) → ℕ → ℕ → List ℕ → ℕ → ℕ → List ℕ
@@ -55,7 +55,7 @@ run-unit f u b g v r h =
     ap (λ t. pick t (g r) (f v r)) (ap (λ t. eqb v u && t) whole ∙ bool.and-true (eqb v u))
 
 -- ---- the run replaced in one unit
-splice-chunks : (b w : ℕ) (f g : ℕ → List ℕ) → Wide b w f → (q m : ℕ) → q + m ≤ b
+pub splice-chunks : (b w : ℕ) (f g : ℕ → List ℕ) → Wide b w f → (q m : ℕ) → q + m ≤ b
     → splice (w * q) (w * m) (tab m (λ k. g (q + k))) (tab b f) ≡ tab b (λ r. pick (leb q r && ltb r (q + m)) (g r) (f r))
 splice-chunks b w f g h q m l =
     ap (λ n. splice (w * q) (w * m) new (tab n f)) whole
@@ -96,29 +96,3 @@ splice-chunks b w f g h q m l =
 
     behind : (i : ℕ) → i < k → f (q + (m + i)) ≡ over (q + (m + i))
     behind i d = sym (pick-false (and-false-second (leb q (q + (m + i))) (le-ltb (q + (m + i)) (q + m) (omega arith))) (g (q + (m + i))) (f (q + (m + i))))
-
--- ---- the run replaced in a table of units
-module _ (n b w : ℕ) (f : ℕ → ℕ → List ℕ) (h : (u r : ℕ) → u < n → r < b → length (f u r) ≡ w) where
-  run-in : (u q m : ℕ) (g : ℕ → List ℕ) (v : ℕ) → upd (λ v. tab b (f v)) u (tab b (λ r. pick (leb q r && ltb r (q + m)) (g r) (f u r))) v ≡ tab b (run f u q m g v)
-  unfolding upd run
-  run-in u q m g v =
-      by-test
-      (λ t. pick t (tab b (λ r. pick (leb q r && ltb r (q + m)) (g r) (f u r))) (tab b (f v)) ≡ tab b (λ r. pick (t && (leb q r && ltb r (q + m))) (g r) (f v r)))
-      (eqb v u)
-      (λ e.
-      pick-true refl (tab b (λ r. pick (leb q r && ltb r (q + m)) (g r) (f u r))) (tab b (f v))
-      ∙ ap (λ k. tab b (λ r. pick (leb q r && ltb r (q + m)) (g r) (f k r))) (sym (eqb-true v u e)))
-      (λ e.
-      pick-false refl (tab b (λ r. pick (leb q r && ltb r (q + m)) (g r) (f u r))) (tab b (f v))
-      ∙ tab-ext b (f v) (λ r. pick false (g r) (f v r)) (λ r d. sym (pick-false refl (g r) (f v r))))
-
-  pub splice-run : (u q m : ℕ) (g : ℕ → List ℕ) → u < n → q + m ≤ b
-      → splice ((u * b + q) * w) (w * m) (tab m (λ k. g (q + k))) (tab n (λ v. tab b (f v))) ≡ tab n (λ v. tab b (run f u q m g v))
-  splice-run u q m g a l =
-      let place : (u * b + q) * w ≡ w * b * u + w * q = omega arith in
-      let room : w * (q + m) ≤ w * b = mul-le-mul-left w l in
-      let new : List ℕ = tab m (λ k. g (q + k)) in
-      ap (λ o. splice o (w * m) new (tab n (λ v. tab b (f v)))) place
-      ∙ splice-tab n (w * b) (λ v. tab b (f v)) (λ v d. length-tab b w (f v) (λ r e. h v r d e)) u (w * q) (w * m) new a (omega arith)
-      ∙ ap (λ x. tab n (upd (λ v. tab b (f v)) u x)) (splice-chunks b w (f u) g (λ r e. h u r a e) q m l)
-      ∙ tab-ext n _ (λ v. tab b (run f u q m g v)) (λ v d. run-in u q m g v)

@@ -1,13 +1,13 @@
 -- What the test of soundness says of a store, clause by clause, as facts. Assumes nothing.
-use Prim.Native.Nat.{ℕ, _+_, _*_, _/_, _≤_, _<_}
+use Prim.Native.Nat.{ℕ, _+_, _*_, _/_, _≤_, _<_, _%_}
 use mathlib.Core.Path.{_≡_, refl, sym, _∙_}
 use mathlib.Core.List.{List}
 use mathlib.Core.Bool.{Bool, true, false, not, _&&_, _||_}
-use lib.Dec.{eqb, ltb, leb}
+use lib.Dec.{eqb, ltb}
 use lib.ListN.{length}
 use borrow.Author.Tests.{eqb-true, leb-true}
 use Rattle.buffer.specs.Choice.{pick}
-use Rattle.buffer.specs.ChoiceLaws.{pick-true, pick-false}
+use Rattle.buffer.specs.ChoiceLaws.{pick-true, pick-false, by-test}
 use Rattle.buffer.specs.TestLaws.{not-both, and-first, and-second, or-other}
 use Rattle.buffer.specs.Range.{all}
 use Rattle.buffer.specs.RangeLaws.{all-true}
@@ -19,6 +19,10 @@ use Rattle.model.specs.StoreLaws.{units-of}
 use Rattle.model.specs.Reads.{fillIn, listedKey, listedFill}
 use Rattle.model.specs.Sound.{same, ranges, unitsPlaced, checksIn, checksAllowed, groupsPlaced, zeroed, keysKnown, keysPlaced, listsAgree, sound}
 use Rattle.model.specs.SoundLaws.{same-true}
+use native.Mathlib.Omega.{arith}
+
+and-both : (s t : Bool) → (s && t) ≡ true → (s ≡ true) × (t ≡ true)
+and-both s t e = (and-first s t e, and-second s t e)
 
 unless-second : (s t : Bool) → (not s || t) ≡ true → s ≡ true → t ≡ true
 unless-second true t e f = e
@@ -61,37 +65,36 @@ pub record Ranged (s : List ℕ) : Type 0 where
 pub in-range : (s : List ℕ) → ranges s ≡ true → Ranged s
 unfolding ranges
 in-range s h =
-    let t0 = eqb (byte s 0) version in
-    let t1 = eqb (be32 s 1) (storeBytes (byte s 5)) in
-    let t2 = leb 1 (byte s 5) in
-    let t3 = leb (byte s 5) 64 in
-    let t4 = leb 1 (byte s 6) in
-    let t5 = leb (byte s 6) 16 in
-    let t6 = leb 1 (byte s 7) in
-    let t7 = leb (byte s 7) 3 in
-    let t8 = leb (storeBytes (byte s 5)) (length s) in
-    let e7 = and-first (t0 && t1 && t2 && t3 && t4 && t5 && t6 && t7) t8 h in
-    let e6 = and-first (t0 && t1 && t2 && t3 && t4 && t5 && t6) t7 e7 in
-    let e5 = and-first (t0 && t1 && t2 && t3 && t4 && t5) t6 e6 in
-    let e4 = and-first (t0 && t1 && t2 && t3 && t4) t5 e5 in
-    let e3 = and-first (t0 && t1 && t2 && t3) t4 e4 in
-    let e2 = and-first (t0 && t1 && t2) t3 e3 in
-    let e1 = and-first (t0 && t1) t2 e2 in
+    let p8 = and-both _ _ h in
+    let p7 = and-both _ _ (p8 .0) in
+    let p6 = and-both _ _ (p7 .0) in
+    let p5 = and-both _ _ (p6 .0) in
+    let p4 = and-both _ _ (p5 .0) in
+    let p3 = and-both _ _ (p4 .0) in
+    let p2 = and-both _ _ (p3 .0) in
+    let p1 = and-both _ _ (p2 .0) in
     record {
-      first = eqb-true (byte s 0) version (and-first t0 t1 e1);
-      spelled = eqb-true (be32 s 1) (storeBytes (byte s 5)) (and-second t0 t1 e1);
-      least = leb-true 1 (byte s 5) (and-second (t0 && t1) t2 e2);
-      most = leb-true (byte s 5) 64 (and-second (t0 && t1 && t2) t3 e3);
-      some = leb-true 1 (byte s 6) (and-second (t0 && t1 && t2 && t3) t4 e4);
-      few = leb-true (byte s 6) 16 (and-second (t0 && t1 && t2 && t3 && t4) t5 e5);
-      levelled = leb-true 1 (byte s 7) (and-second (t0 && t1 && t2 && t3 && t4 && t5) t6 e6);
-      topped = leb-true (byte s 7) 3 (and-second (t0 && t1 && t2 && t3 && t4 && t5 && t6) t7 e7);
-      long = leb-true (storeBytes (byte s 5)) (length s) (and-second (t0 && t1 && t2 && t3 && t4 && t5 && t6 && t7) t8 h);
+      first = eqb-true _ _ (p1 .0);
+      spelled = eqb-true _ _ (p1 .1);
+      least = leb-true _ _ (p2 .1);
+      most = leb-true _ _ (p3 .1);
+      some = leb-true _ _ (p4 .1);
+      few = leb-true _ _ (p5 .1);
+      levelled = leb-true _ _ (p6 .1);
+      topped = leb-true _ _ (p7 .1);
+      long = leb-true _ _ (p8 .1);
     }
 
 -- a state that a unit in place, or not in place, may have
 abbrev pub Stateful : Bool → ℕ → Type 0
 Stateful p n = pick p (eqb n 1 || eqb n 2) (eqb n 0) ≡ true
+
+state-most : (p : Bool) (n : ℕ) → Stateful p n → n ≤ 2
+unfolding pick
+state-most true n e =
+    by-test (λ (t : Bool). (t || eqb n 2) ≡ true → n ≤ 2) (eqb n 1)
+    (λ q _. omega (arith, eqb-true n 1 q)) (λ _ z. omega (arith, eqb-true n 2 z)) e
+state-most false n e = omega (arith, eqb-true n 0 e)
 
 module _ (s : List ℕ) (h : sound s ≡ true) where
   abbrev v : Store
@@ -110,18 +113,12 @@ module _ (s : List ℕ) (h : sound s ≡ true) where
   pub clauses : Clauses
   unfolding sound
   clauses =
-      let a = and-first (ranges s && unitsPlaced v && groupsPlaced v && zeroed v && keysPlaced v) (listsAgree v) h in
-      let b = and-first (ranges s && unitsPlaced v && groupsPlaced v && zeroed v) (keysPlaced v) a in
-      let c = and-first (ranges s && unitsPlaced v && groupsPlaced v) (zeroed v) b in
-      let d = and-first (ranges s && unitsPlaced v) (groupsPlaced v) c in
-      record {
-        ranges = and-first (ranges s) (unitsPlaced v) d;
-        units = and-second (ranges s) (unitsPlaced v) d;
-        groups = and-second (ranges s && unitsPlaced v) (groupsPlaced v) c;
-        zeros = and-second (ranges s && unitsPlaced v && groupsPlaced v) (zeroed v) b;
-        keys = and-second (ranges s && unitsPlaced v && groupsPlaced v && zeroed v) (keysPlaced v) a;
-        lists = and-second (ranges s && unitsPlaced v && groupsPlaced v && zeroed v && keysPlaced v) (listsAgree v) h;
-      }
+      let p5 = and-both _ _ h in
+      let p4 = and-both _ _ (p5 .0) in
+      let p3 = and-both _ _ (p4 .0) in
+      let p2 = and-both _ _ (p3 .0) in
+      let p1 = and-both _ _ (p2 .0) in
+      record { ranges = p1 .0; units = p1 .1; groups = p2 .1; zeros = p3 .1; keys = p4 .1; lists = p5 .1 }
 
   pub ranged : Ranged s
   ranged = in-range s (clauses .ranges)
@@ -155,6 +152,11 @@ module _ (s : List ℕ) (h : sound s ≡ true) where
   pub check-states : (g j : ℕ) → g < 4 → j < 3 → Stateful (ltb j (checksIn v g)) (v .cstate (3 * g + j))
   check-states g j l m = all-true 3 (place-test g) (and-second (number-test g) (all 3 (place-test g)) (group-test g l)) j m
 
+  pub states-low : (c : ℕ) → c < 12 → view s .cstate c ≤ 2
+  states-low c l =
+      let k : 3 * (c / 3) + c % 3 ≡ c = omega arith in
+      rw k at (state-most _ (v .cstate (3 * (c / 3) + c % 3)) (check-states (c / 3) (c % 3) (omega arith) (omega arith)))
+
   -- ---- zeros
 
   pub zero-slot : (u r : ℕ) → u < 16 → r < v .size → (eqb (v .dstate u) 1 && ltb r (fillIn v u)) ≡ false → v .slot u r ≡ zeros slotBytes
@@ -164,7 +166,8 @@ module _ (s : List ℕ) (h : sound s ≡ true) where
 
   pub zero-check : (c r : ℕ) → c < 12 → r < v .size → eqb (v .cstate c) 1 ≡ false → v .check c r ≡ zeros checkBytes
   zero-check c r l m e =
-      same-true (v .check c r) (zeros checkBytes) (or-other (eqb (v .cstate c) 1) (same (v .check c r) (zeros checkBytes)) e (zeroed-says v (clauses .zeros) .checks c r l m))
+      same-true (v .check c r) (zeros checkBytes)
+      (or-other (eqb (v .cstate c) 1) (same (v .check c r) (zeros checkBytes)) e (zeroed-says v (clauses .zeros) .checks c r l m))
 
   -- ---- keys of a unit that are known
 
@@ -184,7 +187,9 @@ module _ (s : List ℕ) (h : sound s ≡ true) where
     listed-own r m e = eqb-true (unitOf (unitsIn v) (keyOf (listedKey v u r))) u (and-first _ _ (listed-test r m e))
 
     pub listed-differ : (r q : ℕ) → r < q → q < v .size → ltb q (listedFill v u) ≡ true → not (eqb (keyOf (listedKey v u r)) (keyOf (listedKey v u q))) ≡ true
-    listed-differ r q l m e = all-true q (λ i. not (eqb (keyOf (listedKey v u i)) (keyOf (listedKey v u q)))) (and-second (eqb (unitOf (unitsIn v) (keyOf (listedKey v u q))) u) _ (listed-test q m e)) r l
+    listed-differ r q l m e =
+        all-true q (λ i. not (eqb (keyOf (listedKey v u i)) (keyOf (listedKey v u q))))
+        (and-second (eqb (unitOf (unitsIn v) (keyOf (listedKey v u q))) u) _ (listed-test q m e)) r l
 
     pub listed-past : (r : ℕ) → r < v .size → ltb r (listedFill v u) ≡ false → keyOf (listedKey v u r) ≡ 0
     listed-past r m e = eqb-true (keyOf (listedKey v u r)) 0 (sym (pick-false e _ (eqb (keyOf (listedKey v u r)) 0)) ∙ key-test r m)
@@ -193,4 +198,5 @@ module _ (s : List ℕ) (h : sound s ≡ true) where
   pub lists : (c : ℕ) → c < 12 → eqb (v .cstate c) 1 ≡ true → (r : ℕ) → r < v .size → (p : ℕ) → p < 4
       → keyOf (part (keyBytes * p) keyBytes (v .check c r)) ≡ keyOf (listedKey v (4 * (c / 3) + p) r)
   unfolding listsAgree
-  lists c l e r m p n = eqb-true _ _ (all-true 4 _ (all-true (v .size) _ (unless-second (eqb (v .cstate c) 1) _ (all-true 12 _ (clauses .lists) c l) e) r m) p n)
+  lists c l e r m p n =
+      eqb-true _ _ (all-true 4 _ (all-true (v .size) _ (unless-second (eqb (v .cstate c) 1) _ (all-true 12 _ (clauses .lists) c l) e) r m) p n)

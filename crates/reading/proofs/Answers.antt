@@ -12,7 +12,7 @@ use Rattle.buffer.specs.ChoiceLaws.{pick-true, pick-false}
 use Rattle.buffer.specs.TestLaws.{and-true, and-false-first, and-false-second}
 use Rattle.buffer.specs.Bytes.{byte, zeros, part}
 use Rattle.group.specs.Widths.{keyBytes, bodyBytes}
-use Rattle.lookup.specs.Keys.{own-rank}
+use Rattle.lookup.specs.KeyLaws.{own-rank}
 use Rattle.lookup.specs.Parts.{part-start}
 use Rattle.model.specs.Layout.{view, slotAt}
 use Rattle.model.specs.Reads.{homeIn, bodyIn, listedRank, wholeSlot, totalIn, listingIn}

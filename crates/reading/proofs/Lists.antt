@@ -10,9 +10,10 @@ use Rattle.buffer.specs.TableLaws.{Wide, length-tab, length-tab-sum, tab-room}
 use Rattle.group.specs.Widths.{slotBytes}
 use Rattle.model.specs.Layout.{view}
 use Rattle.model.specs.Reads.{firstCheck, listedFill, wholeSlot, totalIn, listingIn}
-use Rattle.lookup.specs.Keys.{listed-fill-small}
-use Rattle.lookup.specs.Groups.{Recoverable, Whole, whole-unit}
-use Rattle.lookup.specs.Slots.{length-whole}
+use Rattle.lookup.specs.KeyLaws.{listed-fill-small}
+use Rattle.lookup.specs.Groups.{Recoverable, Whole}
+use Rattle.lookup.specs.GroupLaws.{whole-unit}
+use Rattle.lookup.specs.SlotLaws.{length-whole}
 use Rattle.reading.specs.Listing.{Learned}
 
 -- the records of a unit

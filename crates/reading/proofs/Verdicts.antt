@@ -19,10 +19,12 @@ use Rattle.model.specs.Units.{unitOf}
 use Rattle.model.specs.Layout.{view, unitsIn}
 use Rattle.model.specs.Reads.{homeIn, outsIn, beyondIn, firstCheck, listedFill, listedRank, lostIn, totalIn}
 use Rattle.model.specs.Numbers.{firstOf}
-use Rattle.soundness.specs.Survey.{Surveyed, found-sized, fill-read, first-check-read}
+use Rattle.soundness.specs.Survey.{Surveyed}
+use Rattle.soundness.specs.SurveyLaws.{found-sized, fill-read, first-check-read}
 use Rattle.lookup.specs.Sized.{Sized}
-use Rattle.lookup.specs.Keys.{listed-fill-small}
-use Rattle.lookup.specs.Groups.{Recoverable, Whole, goneIn, recoverable-known, whole-unit, none-lost}
+use Rattle.lookup.specs.KeyLaws.{listed-fill-small}
+use Rattle.lookup.specs.Groups.{Recoverable, Whole, goneIn}
+use Rattle.lookup.specs.GroupLaws.{recoverable-known, whole-unit, none-lost}
 use Rattle.reading.specs.Rows.{readNumber, listNumber}
 use Rattle.reading.specs.Found.{Verdict}
 use Rattle.reading.specs.Listing.{Counted, Learned}

@@ -3,11 +3,11 @@
 use Prim.Native.Nat.{ℕ, _+_, _*_, _-_, _/_, _%_, _≤_, _<_}
 use mathlib.Core.Path.{_≡_, refl, sym, ap, ap₂, _∙_}
 use mathlib.Core.Bool.{true, not}
-use mathlib.Core.List.{List, [], _∷_, _++_, append-assoc}
+use mathlib.Core.List.{List, _++_}
 use native.Mathlib.Omega.{arith}
 use native.Mathlib.Nat.{zero-add}
 use lib.Dec.{eqb, ltb}
-use lib.ListN.{length, getD, drop, length-append}
+use lib.ListN.{length, getD, drop}
 use borrow.Author.Tests.{eq-eqb, ltb-true, ltb-false}
 use Rattle.buffer.specs.Choice.{pick}
 use Rattle.buffer.specs.ChoiceLaws.{pick-ext, pick-true}
@@ -16,32 +16,25 @@ use Rattle.buffer.specs.Bytes.{byte, zeros, part}
 use Rattle.buffer.specs.ByteLaws.{byte-part}
 use Rattle.buffer.specs.SpliceLaws.{part-seam, part-part}
 use Rattle.buffer.specs.RangeLaws.{first-ext}
-use Rattle.buffer.specs.Table.{tab}
 use Rattle.group.specs.Widths.{keyBytes, keysBytes, slotBytes}
 use Rattle.group.specs.Members.{serves, beyond, firstFour}
 use Rattle.group.specs.MembersLaws.{serves-data}
 use Rattle.group.specs.Rebuilding.{rebuilt}
 use Rattle.model.specs.Layout.{Store, bytes, view, checkAt, keyOf}
-use Rattle.model.specs.LayoutLaws.{Shaped, Same, Long, bytes-view, view-shaped, view-bytes, len-ds, len-cs}
-use Rattle.model.specs.StoreLaws.{slots-size, slots-slot, slots-shaped, same-long, withSlots}
+use Rattle.model.specs.Places.{Long, data-units}
+use Rattle.model.specs.Parts.{withSlots}
+use Rattle.model.specs.LayoutLaws.{Shaped, Same, bytes-view, view-shaped, view-bytes, header, apart, length-header}
+use Rattle.model.specs.StoreLaws.{same-long, chunks-shaped, chunks-size, chunks-there}
 use Rattle.model.specs.Reads.{beyondIn, servesIn, holds, firstCheck, listedKey, wholeSlot}
 use Rattle.lookup.specs.Sized.{Sized}
 use Rattle.lookup.specs.Keys.{keysAt}
-use Rattle.lookup.specs.Groups.{beyond-states, four-states, group-four, recoverable-known}
-use Rattle.lookup.specs.Slots.{Recipe, body-rebuilt}
+use Rattle.lookup.specs.GroupLaws.{beyond-states, four-states, group-four, recoverable-known}
+use Rattle.lookup.specs.Slots.{Recipe}
+use Rattle.lookup.specs.SlotLaws.{body-rebuilt}
 
 -- ---- the header of a store
-heading : Store → List ℕ
-heading t = t .front ++ (tab 16 (λ u. t .dstate u ∷ []) ++ tab 12 (λ c. t .cstate c ∷ []))
-
-heading-read : (t : Store) → Shaped t → part 0 36 (bytes t) ≡ heading t
-unfolding bytes heading
-heading-read t h =
-    let ds : List ℕ = tab 16 (λ u. t .dstate u ∷ []) in
-    let cs : List ℕ = tab 12 (λ c. t .cstate c ∷ []) in
-    let behind : List ℕ = tab 16 (λ u. tab (t .size) (t .slot u)) ++ (tab 12 (λ c. tab (t .size) (t .check c)) ++ t .rest) in
-    let apart : t .front ++ (ds ++ (cs ++ behind)) ≡ (t .front ++ (ds ++ cs)) ++ behind = simp append-assoc in
-    ap (part 0 36) apart ∙ part-seam 36 (t .front ++ (ds ++ cs)) behind (simp length-append (omega (arith, h .front, len-ds t h, len-cs t h)))
+header-read : (t : Store) → Shaped t → part 0 36 (bytes t) ≡ header t
+header-read t h = ap (part 0 36) (apart data-units t) ∙ part-seam 36 (header t) _ (length-header t h)
 
 -- ---- s is s₀ with these slots, which are the old ones in the units that are not out
 pub record Rewritten (s₀ s : List ℕ) (f : ℕ → ℕ → List ℕ) : Type 0 where
@@ -52,7 +45,7 @@ pub record Rewritten (s₀ s : List ℕ) (f : ℕ → ℕ → List ℕ) : Type 0
 
 module _ {s₀ s : List ℕ} {f : ℕ → ℕ → List ℕ} (w : Rewritten s₀ s f) where
   pub rewritten-shaped : Shaped (withSlots (view s₀) f)
-  rewritten-shaped = slots-shaped (view s₀) f (view-shaped s₀ (w .long)) (w .wide)
+  rewritten-shaped = chunks-shaped data-units (view s₀) f (view-shaped s₀ (w .long)) (w .wide)
 
   pub rewritten-seen : Same (view s) (withSlots (view s₀) f)
   rewritten-seen = rw (w .state) (view-bytes (withSlots (view s₀) f) rewritten-shaped)
@@ -62,19 +55,15 @@ module _ {s₀ s : List ℕ} {f : ℕ → ℕ → List ℕ} (w : Rewritten s₀ 
   rest-kept = refl
 
   pub long-kept : length s ≡ length s₀
-  long-kept = ap length (w .state) ∙ same-long (withSlots (view s₀) f) s₀ rewritten-shaped (w .long) (slots-size (view s₀) f) rest-kept
+  long-kept = ap length (w .state) ∙ same-long (withSlots (view s₀) f) s₀ rewritten-shaped (w .long) (chunks-size data-units (view s₀) f) rest-kept
 
   -- ---- the header
-  heading-kept : heading (withSlots (view s₀) f) ≡ heading (view s₀)
-  unfolding heading withSlots
-  heading-kept = refl
-
   head-kept : part 0 36 s ≡ part 0 36 s₀
+  unfolding withSlots
   head-kept =
       ap (part 0 36) (w .state)
-      ∙ heading-read (withSlots (view s₀) f) rewritten-shaped
-      ∙ heading-kept
-      ∙ sym (heading-read (view s₀) (view-shaped s₀ (w .long)))
+      ∙ header-read (withSlots (view s₀) f) rewritten-shaped
+      ∙ sym (header-read (view s₀) (view-shaped s₀ (w .long)))
       ∙ ap (part 0 36) (bytes-view s₀ (w .long))
 
   part-kept : (o n : ℕ) → o + n ≤ 36 → part o n s ≡ part o n s₀
@@ -116,10 +105,11 @@ module _ {s₀ s : List ℕ} {f : ℕ → ℕ → List ℕ} (w : Rewritten s₀ 
 
   -- ---- what the members in service hold
   check-kept : (c r : ℕ) → c < 12 → r < view s₀ .size → view s .check c r ≡ view s₀ .check c r
-  check-kept c r l m = rewritten-seen .check c r l (rw (slots-size (view s₀) f) m) ∙ unfold withSlots in refl
+  check-kept c r l m = rewritten-seen .check c r l (rw (chunks-size data-units (view s₀) f) m) ∙ unfold withSlots in refl
 
   slot-kept : (u r : ℕ) → u < 16 → r < view s₀ .size → (view s₀ .dstate u ≡ 2 → ⊥) → view s .slot u r ≡ view s₀ .slot u r
-  slot-kept u r l m h = rewritten-seen .slot u r l (rw (slots-size (view s₀) f) m) ∙ ap (λ k. k u r) (slots-slot (view s₀) f) ∙ w .kept u r l m h
+  slot-kept u r l m h =
+      rewritten-seen .slot u r l (rw (chunks-size data-units (view s₀) f) m) ∙ ap (λ k. k u r) (chunks-there data-units (view s₀) f) ∙ w .kept u r l m h
 
   held-kept : (g r m : ℕ) → g < 4 → r < view s₀ .size → m < 7 → servesIn (view s₀) g m ≡ true → holds (view s) g r m ≡ holds (view s₀) g r m
   unfolding holds servesIn

@@ -17,9 +17,10 @@ use Rattle.group.specs.CheckRecord.{checkRecord, patched}
 use Rattle.group.specs.CheckRecordLaws.{checkRecord-ext, length-checkRecord, length-key, length-body, length-patched}
 use Rattle.group.specs.MakingLaws.{patched-all}
 use Rattle.model.specs.Layout.{Store, bytes, view, slotAt, checkAt}
-use Rattle.model.specs.LayoutLaws.{bytes-view, view-shaped}
-use Rattle.model.specs.StoreLaws.{splice-check-unit, slot-within, checks-within, size-of}
-use Rattle.lookup.specs.Slots.{drop-part}
+use Rattle.model.specs.Places.{data-units, check-units}
+use Rattle.model.specs.LayoutLaws.{bytes-view, view-shaped, rank-within, ranks-within}
+use Rattle.model.specs.StoreLaws.{size-of, splice-unit}
+use Rattle.lookup.specs.SlotLaws.{drop-part}
 use Rattle.repairing.specs.Groups.{Group, CheckPlace}
 use Rattle.repairing.specs.Steps.{slotsOf, unitMade}
 use Rattle.repairing.proofs.Ranks.{Writing, writing-start, writing-turn, writing-end}
@@ -54,7 +55,7 @@ module _ {s : List ℕ} {g j r : ℕ} (h : CheckPlace s g j r) where
 
   -- the slots lie within the store
   pub slot-room : (p : ℕ) → p < 4 → slotAt (byte s 5) (4 * g + p) r + slotBytes ≤ length s
-  slot-room p l = let k = h .group in slot-within (byte s 5) (4 * g + p) r (length s) (omega arith) (h .rank) (h .long)
+  slot-room p l = let k = h .group in rank-within data-units (byte s 5) (4 * g + p) r (length s) (omega arith) (h .rank) (h .long)
 
   pub following-start : Following s g j r (zeros checkBytes) 0
   following-start = record { steps = stepping-start; long = length-zeros checkBytes }
@@ -86,7 +87,7 @@ module _ {s₀ : List ℕ} {g j : ℕ} (h : Group s₀ g) (hj : j < 3) where
   made r l = length-checkRecord bodyBytes j (slotsOf v g r) (slots-wide h r l)
 
   room : checkAt (v .size) (3 * g + j) 0 + checkBytes * v .size ≤ length s₀
-  room = checks-within (v .size) (3 * g + j) 0 (v .size) (length s₀) unit (omega arith) (rw (← size-of s₀) (h .long))
+  room = ranks-within check-units (v .size) (3 * g + j) 0 (v .size) (length s₀) unit (omega arith) (rw (← size-of s₀) (h .long))
 
   module _ {s : List ℕ} {t : ℕ} (m : Making s₀ g j s t) where
     -- the header and the data are as they were
@@ -116,7 +117,7 @@ module _ {s₀ : List ℕ} {g j : ℕ} (h : Group s₀ g) (hj : j < 3) where
     making-end l =
         writing-end made room m (rw (← size-of s₀) l)
         ∙ ap (splice (checkAt (v .size) (3 * g + j) 0) (checkBytes * v .size) (tab (v .size) (λ r. checkRecord j (slotsOf v g r)))) (sym (bytes-view s₀ (h .long)))
-        ∙ splice-check-unit v (view-shaped s₀ (h .long)) (3 * g + j) (λ r. checkRecord j (slotsOf v g r)) unit
+        ∙ splice-unit check-units v (view-shaped s₀ (h .long)) (3 * g + j) (λ r. checkRecord j (slotsOf v g r)) unit
 
   pub making-start : Making s₀ g j s₀ 0
   making-start = writing-start made room

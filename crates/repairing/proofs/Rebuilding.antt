@@ -13,12 +13,14 @@ use Rattle.buffer.specs.Table.{tab}
 use Rattle.buffer.specs.TableLaws.{Wide, tab-ext}
 use Rattle.group.specs.Widths.{slotBytes}
 use Rattle.model.specs.Layout.{Store, bytes, view, slotAt}
-use Rattle.model.specs.LayoutLaws.{Shaped, bytes-view, view-shaped}
+use Rattle.model.specs.Places.{data-units}
+use Rattle.model.specs.LayoutLaws.{Shaped, bytes-view, view-shaped, ranks-within}
 use Rattle.model.specs.RunLaws.{run, length-run}
-use Rattle.model.specs.StoreLaws.{splice-slots, splice-unit, slots-within, size-of}
+use Rattle.model.specs.StoreLaws.{size-of, splice-ranks, splice-unit}
 use Rattle.model.specs.Reads.{wholeSlot}
 use Rattle.lookup.specs.Keys.{keysAt}
-use Rattle.lookup.specs.Slots.{Recipe, length-whole}
+use Rattle.lookup.specs.Slots.{Recipe}
+use Rattle.lookup.specs.SlotLaws.{length-whole}
 use Rattle.repairing.specs.Steps.{unitRebuilt}
 use Rattle.repairing.proofs.Ranks.{Writing, writing-start, writing-turn, writing-end}
 use Rattle.repairing.proofs.Kept.{Rewritten, byte-kept, keys-kept, recipe-kept, whole-kept}
@@ -40,7 +42,7 @@ module _ {s₀ : List ℕ} {u : ℕ} {members weights : List ℕ} (recipe : Reci
   wide r l = length-whole (recipe .unit) r (rw (size-of s₀) l)
 
   room : slotAt (v .size) u 0 + slotBytes * v .size ≤ length s₀
-  room = slots-within (v .size) u 0 (v .size) (length s₀) (recipe .unit .unit) (omega arith) (rw (← size-of s₀) (recipe .unit .sized .long))
+  room = ranks-within data-units (v .size) u 0 (v .size) (length s₀) (recipe .unit .unit) (omega arith) (rw (← size-of s₀) (recipe .unit .sized .long))
 
   -- the other slots are as they were
   rewritten : {s : List ℕ} {t : ℕ} → Rebuilding s₀ u s t → Rewritten s₀ s (run (v .slot) u 0 t (wholeSlot v u))
@@ -54,7 +56,7 @@ module _ {s₀ : List ℕ} {u : ℕ} {members weights : List ℕ} (recipe : Reci
             m .state
             ∙ ap (splice (slotAt (v .size) u 0) (slotBytes * t) (tab t (wholeSlot v u))) (sym whole)
             ∙ ap (λ x. splice (slotAt (v .size) u 0) (slotBytes * t) x (bytes v)) (tab-ext t _ _ (λ k l. ap (wholeSlot v u) (sym (zero-add k))))
-            ∙ splice-slots v shaped u 0 t (wholeSlot v u) (recipe .unit .unit) (omega (arith, m .within));
+            ∙ splice-ranks data-units v shaped u 0 t (wholeSlot v u) (recipe .unit .unit) (omega (arith, m .within));
       }
 
   pub rebuilding-recipe : {s : List ℕ} {t : ℕ} → Rebuilding s₀ u s t → Recipe s u members weights
@@ -80,4 +82,4 @@ module _ {s₀ : List ℕ} {u : ℕ} {members weights : List ℕ} (recipe : Reci
   rebuilding-end m l =
       writing-end wide room m (rw (← size-of s₀) l)
       ∙ ap (splice (slotAt (v .size) u 0) (slotBytes * v .size) (tab (v .size) (wholeSlot v u))) (sym whole)
-      ∙ splice-unit v shaped u (wholeSlot v u) (recipe .unit .unit)
+      ∙ splice-unit data-units v shaped u (wholeSlot v u) (recipe .unit .unit)

@@ -15,8 +15,10 @@ use Rattle.group.specs.Widths.{bodyBytes, checkBytes}
 use Rattle.group.specs.CheckRecord.{checkRecord}
 use Rattle.group.specs.CheckRecordLaws.{checkRecord-ext, length-checkRecord}
 use Rattle.model.specs.Layout.{Store, bytes, view}
-use Rattle.model.specs.LayoutLaws.{Shaped, Same, bytes-ext, bytes-view, view-shaped, view-bytes}
-use Rattle.model.specs.StoreLaws.{checks-size, checks-shaped, checks-ext, checks-none, cstate-at, long-at, same-long, withChecks}
+use Rattle.model.specs.Places.{check-units}
+use Rattle.model.specs.Parts.{withChecks}
+use Rattle.model.specs.LayoutLaws.{Shaped, Same, bytes-ext, view-shaped, view-bytes}
+use Rattle.model.specs.StoreLaws.{cstate-at, long-at, same-long, chunks-ext, chunks-same, chunks-shaped, chunks-size}
 use Rattle.repairing.specs.Groups.{Group}
 use Rattle.repairing.specs.Steps.{slotsOf, unitMade, unitsMade}
 use Rattle.repairing.proofs.Renewed.{renewed, renewed-none, renewed-more, renewed-off, length-renewed, renewed-by}
@@ -56,20 +58,25 @@ module _ {s₀ : List ℕ} {g : ℕ} (h : Group s₀ g) where
       old
 
   shaped : (t : ℕ) → Shaped (withChecks v (so-far v g t))
-  shaped t = checks-shaped v (so-far v g t) (view-shaped s₀ (h .long)) (wide t)
+  shaped t = chunks-shaped check-units v (so-far v g t) (view-shaped s₀ (h .long)) (wide t)
 
   pub remade-shaped : Shaped (unitsMade (view s₀) g)
   unfolding unitsMade
-  remade-shaped = checks-shaped v _ (view-shaped s₀ (h .long)) (λ c r a b. ap length (sym (so-far-all v g c r)) ∙ wide 3 c r a b)
+  remade-shaped = chunks-shaped check-units v _ (view-shaped s₀ (h .long)) (λ c r a b. ap length (sym (so-far-all v g c r)) ∙ wide 3 c r a b)
 
   remade : {s : List ℕ} {t : ℕ} → t ≤ 3 → s ≡ bytes (withChecks v (so-far v g t)) → Remaking s₀ g s t
   remade {s} {t} l e =
-      record { within = l; long = ap length e ∙ same-long _ s₀ (shaped t) (h .long) (checks-size v (so-far v g t)) (unfold withChecks in refl); state = e }
+      record {
+        within = l;
+        long = ap length e
+            ∙ same-long _ s₀ (shaped t) (h .long) (chunks-size check-units v (so-far v g t)) (unfold withChecks in refl);
+        state = e;
+      }
 
   pub remaking-start : Remaking s₀ g s₀ 0
   remaking-start =
       remade (omega arith)
-      (sym (bytes-view s₀ (h .long)) ∙ ap bytes (sym (checks-none v)) ∙ checks-ext v (v .check) (so-far v g 0) (λ c r a b. renewed-none (wholeCheck v g) (v .check) (3 * g) c r))
+      (chunks-same check-units s₀ (so-far v g 0) (h .long) (λ c r a b. renewed-none (wholeCheck v g) (v .check) (3 * g) c r))
 
   module _ {s : List ℕ} {t : ℕ} (m : Remaking s₀ g s t) (lt : t < 3) where
     abbrev i : ℕ
@@ -89,7 +96,7 @@ module _ {s₀ : List ℕ} {g : ℕ} (h : Group s₀ g) where
     remaking-off n =
         turned
         (m .state
-        ∙ checks-ext v (so-far v g t) (so-far v g (suc t)) (λ c r a b.
+        ∙ chunks-ext check-units v (so-far v g t) (so-far v g (suc t)) (λ c r a b.
         renewed-off (wholeCheck v g) (v .check) (3 * g) t (λ c r e. pick-false (ne-eqb (v .cstate c) 2 (λ k. n (state-read ∙ ap (v .cstate) (sym e) ∙ k))) _ (v .check c r)) c r))
 
     -- it is, and was made from the store as it stood
@@ -120,4 +127,4 @@ module _ {s₀ : List ℕ} {g : ℕ} (h : Group s₀ g) where
   unfolding unitsMade
   remaking-end {s} {t} m l =
       let all : t ≡ 3 = let k = m .within in omega arith in
-      m .state ∙ ap (λ k. bytes (withChecks v (so-far v g k))) all ∙ checks-ext v (so-far v g 3) _ (λ c r a b. so-far-all v g c r)
+      m .state ∙ ap (λ k. bytes (withChecks v (so-far v g k))) all ∙ chunks-ext check-units v (so-far v g 3) _ (λ c r a b. so-far-all v g c r)

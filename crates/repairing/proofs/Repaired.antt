@@ -11,8 +11,9 @@ use Rattle.buffer.specs.ChoiceLaws.{pick-true}
 use Rattle.group.specs.CheckRecord.{checkRecord}
 use Rattle.group.specs.CheckRecordLaws.{checkRecord-ext}
 use Rattle.model.specs.Layout.{Store, bytes, view}
+use Rattle.model.specs.Parts.{withSlots, withChecks}
 use Rattle.model.specs.LayoutLaws.{Shaped, Same, bytes-ext, view-bytes}
-use Rattle.model.specs.StoreLaws.{long-at, withSlots, withChecks}
+use Rattle.model.specs.StoreLaws.{long-at}
 use Rattle.model.specs.Reads.{wholeSlot}
 use Rattle.model.specs.Changes.{repaired}
 use Rattle.repairing.specs.Groups.{Group, Repairable}

@@ -13,11 +13,14 @@ use Rattle.buffer.specs.Bytes.{byte}
 use Rattle.group.specs.Widths.{slotBytes}
 use Rattle.group.specs.Members.{firstFour}
 use Rattle.model.specs.Layout.{Store, bytes, view}
-use Rattle.model.specs.LayoutLaws.{Shaped, Same, bytes-ext, bytes-view, view-shaped}
-use Rattle.model.specs.StoreLaws.{slots-shaped, slots-ext, slots-none, size-of, withSlots}
+use Rattle.model.specs.Places.{data-units}
+use Rattle.model.specs.Parts.{withSlots}
+use Rattle.model.specs.LayoutLaws.{Shaped, Same, bytes-ext, view-shaped}
+use Rattle.model.specs.StoreLaws.{size-of, chunks-ext, chunks-same, chunks-shaped}
 use Rattle.model.specs.Reads.{servesIn, firstCheck, wholeSlot}
 use Rattle.lookup.specs.Groups.{Recoverable}
-use Rattle.lookup.specs.Slots.{Recipe, length-whole}
+use Rattle.lookup.specs.Slots.{Recipe}
+use Rattle.lookup.specs.SlotLaws.{length-whole}
 use Rattle.repairing.specs.Groups.{Repairable}
 use Rattle.repairing.specs.Steps.{unitRebuilt, unitsRebuilt}
 use Rattle.repairing.proofs.Renewed.{renewed, renewed-none, renewed-more, renewed-own, renewed-off, length-renewed, renewed-by}
@@ -57,7 +60,8 @@ module _ {s₀ : List ℕ} {g : ℕ} (h : Repairable s₀ g) where
 
   pub restored-shaped : Shaped (unitsRebuilt (view s₀) g)
   unfolding unitsRebuilt
-  restored-shaped = slots-shaped v _ (view-shaped s₀ (h .sized .long)) (λ u r a b. ap length (sym (so-far-all v g u r)) ∙ wide 4 (omega arith) u r a b)
+  restored-shaped =
+      chunks-shaped data-units v _ (view-shaped s₀ (h .sized .long)) (λ u r a b. ap length (sym (so-far-all v g u r)) ∙ wide 4 (omega arith) u r a b)
 
   rewritten : {s : List ℕ} (t : ℕ) → t ≤ 4 → s ≡ bytes (withSlots v (so-far v g t)) → Rewritten s₀ s (so-far v g t)
   rewritten {s} t l e =
@@ -69,7 +73,7 @@ module _ {s₀ : List ℕ} {g : ℕ} (h : Repairable s₀ g) where
   pub restoring-start : Restoring s₀ g s₀ 0
   restoring-start =
       restored (omega arith)
-      (sym (bytes-view s₀ (h .sized .long)) ∙ ap bytes (sym (slots-none v)) ∙ slots-ext v (v .slot) (so-far v g 0) (λ u r a b. renewed-none (wholeSlot v) (v .slot) (4 * g) u r))
+      (chunks-same data-units s₀ (so-far v g 0) (h .sized .long) (λ u r a b. renewed-none (wholeSlot v) (v .slot) (4 * g) u r))
 
   module _ {s : List ℕ} {t u : ℕ} (m : Restoring s₀ g s t) (lt : t < 4) (eu : u ≡ 4 * g + t) where
     low : u < 16
@@ -107,7 +111,7 @@ module _ {s₀ : List ℕ} {g : ℕ} (h : Repairable s₀ g) where
     restoring-off n =
         turned
         (m .state
-        ∙ slots-ext v (so-far v g t) (so-far v g (suc t)) (λ w r a b.
+        ∙ chunks-ext data-units v (so-far v g t) (so-far v g (suc t)) (λ w r a b.
         renewed-off (wholeSlot v) (v .slot) (4 * g) t (λ w r e. whole-own v w r (λ k. n (state-read ∙ ap (v .dstate) (eu ∙ sym e) ∙ k))) w r))
 
     -- it is, and was rebuilt from the store as it stood
@@ -147,4 +151,4 @@ module _ {s₀ : List ℕ} {g : ℕ} (h : Repairable s₀ g) where
   unfolding unitsRebuilt
   restoring-end {s} {t} m l =
       let all : t ≡ 4 = let k = m .within in omega arith in
-      m .state ∙ ap (λ k. bytes (withSlots v (so-far v g k))) all ∙ slots-ext v (so-far v g 4) _ (λ u r a b. so-far-all v g u r)
+      m .state ∙ ap (λ k. bytes (withSlots v (so-far v g k))) all ∙ chunks-ext data-units v (so-far v g 4) _ (λ u r a b. so-far-all v g u r)

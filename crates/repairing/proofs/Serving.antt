@@ -15,7 +15,8 @@ use Rattle.buffer.specs.SpliceLaws.{length-part, length-splice, part-splice-bef
 use Rattle.buffer.specs.ByteLaws.{byte-part, byte-splice-before, byte-splice-inside, byte-splice-behind}
 use Rattle.group.specs.Widths.{slotBytes, checkBytes}
 use Rattle.model.specs.Layout.{bytes, view, storeBytes, slotAt, checkAt, changed}
-use Rattle.model.specs.LayoutLaws.{Long, bytes-ext, bytes-view}
+use Rattle.model.specs.Places.{Long}
+use Rattle.model.specs.LayoutLaws.{bytes-ext, bytes-view}
 use Rattle.repairing.specs.Groups.{Group}
 use Rattle.repairing.specs.Steps.{inService, unitsServing}
 

@@ -10,7 +10,8 @@ use Rattle.model.specs.Layout.{view}
 use Rattle.model.specs.Reads.{firstCheck}
 use Rattle.model.specs.Numbers.{Call, repair, firstOf, refusalsIn}
 use Rattle.model.specs.PerformLaws.{none-holds}
-use Rattle.soundness.specs.Survey.{Surveyed, found-sized, first-check-read}
+use Rattle.soundness.specs.Survey.{Surveyed}
+use Rattle.soundness.specs.SurveyLaws.{found-sized, first-check-read}
 use Rattle.repairing.specs.Groups.{Repairable}
 
 -- no row holds, so the store is sound and the group is not beyond recovery

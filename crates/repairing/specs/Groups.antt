@@ -5,7 +5,7 @@ use mathlib.Core.Bool.{false}
 use mathlib.Core.List.{List}
 use Rattle.buffer.specs.Bytes.{byte}
 use Rattle.model.specs.Layout.{view}
-use Rattle.model.specs.LayoutLaws.{Long}
+use Rattle.model.specs.Places.{Long}
 use Rattle.model.specs.Reads.{beyondIn}
 use Rattle.lookup.specs.Sized.{Sized}
 

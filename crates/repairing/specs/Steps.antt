@@ -7,7 +7,7 @@ use lib.Dec.{eqb}
 use Rattle.buffer.specs.Choice.{pick}
 use Rattle.group.specs.CheckRecord.{checkRecord}
 use Rattle.model.specs.Layout.{Store, changed}
-use Rattle.model.specs.StoreLaws.{withSlots, withChecks}
+use Rattle.model.specs.Parts.{withSlots, withChecks}
 use Rattle.model.specs.Reads.{wholeSlot}
 
 -- ---- first the data units that are out are rebuilt: one unit, and those of the group

@@ -10,7 +10,7 @@ use Rattle.buffer.specs.ByteLaws.{be32-part}
 use Rattle.model.specs.Layout.{view, keyOf, checkAt}
 use Rattle.model.specs.LayoutLaws.{key-first}
 use Rattle.model.specs.Reads.{firstCheck, listedKey}
-use Rattle.lookup.specs.Keys.{unit-key}
+use Rattle.lookup.specs.KeyLaws.{unit-key}
 use Rattle.buffer.specs.Strided.{strided32}
 use Rattle.soundness.specs.Pieces.{dataKeys, columnKeys}
 

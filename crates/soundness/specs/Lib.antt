@@ -1,3 +1,4 @@
 pub mod Keys
 pub mod Pieces
 pub mod Survey
+pub mod SurveyLaws

@@ -1,24 +1,15 @@
 -- What the soundness test hands on of a store. Assumes nothing.
-use Prim.Native.Nat.{ℕ, _+_, _*_, _/_, _≤_, _<_}
-use mathlib.Core.Path.{_≡_, refl, sym, ap₂, _∙_}
+use Prim.Native.Nat.{ℕ, _+_, _*_, _/_}
+use mathlib.Core.Path.{_≡_}
 use mathlib.Core.List.{List}
-use mathlib.Core.Bool.{Bool, true, false, _&&_}
-use native.Mathlib.Omega.{arith}
-use lib.Dec.{eqb, ltb}
-use lib.ListN.{getD}
+use mathlib.Core.Bool.{Bool, false, _&&_}
+use lib.Dec.{eqb}
 use Rattle.buffer.specs.Choice.{pick}
-use Rattle.buffer.specs.ChoiceLaws.{by-pick, pick-true, pick-false}
-use Rattle.buffer.specs.TestLaws.{by-both}
 use Rattle.buffer.specs.Range.{all}
 use Rattle.buffer.specs.Loops.{entries}
-use Rattle.buffer.specs.RangeLaws.{getD-entries}
-use Rattle.buffer.specs.Bytes.{byte}
 use Rattle.model.specs.Layout.{Store, view}
-use Rattle.model.specs.Reads.{fillIn, firstCheck, outsIn, listedFill}
+use Rattle.model.specs.Reads.{firstCheck, outsIn, listedFill}
 use Rattle.model.specs.Sound.{sound}
-use Rattle.lookup.specs.Sized.{Sized, sound-sized}
-use Rattle.lookup.specs.Keys.{own-fill, listed-fill-small}
-use Rattle.lookup.specs.Groups.{none-out}
 use Rattle.soundness.specs.Pieces.{unitGood, unitFill}
 
 -- the keys of a unit are lost: it is out, and no check unit of its group is in service
@@ -48,49 +39,3 @@ pub record Surveyed (s : List ℕ) (ok : Bool) (fills firstChecks outs : List �
   pub filled : fills ≡ entries 16 (λ u. pick ok (knownFill (view s) u) 0)
   pub kept : firstChecks ≡ entries 4 (λ g. pick ok (firstCheck (view s) g) 0)
   pub out : outs ≡ entries 4 (λ g. pick ok (outsIn (view s) g) 0)
-
--- in a sound store, a unit whose keys are listed
-listed-kept : (s : List ℕ) (u : ℕ) → (byte s (8 + u) ≡ 2 → firstCheck (view s) (u / 4) < 3 * (u / 4) + 3) → keysLost (view s) u ≡ false
-unfolding keysLost view
-listed-kept s u h =
-    by-both
-    (λ t. t ≡ false)
-    (byte s (8 + u))
-    2
-    (firstCheck (view s) (u / 4))
-    (3 * (u / 4) + 3)
-    (λ e k. let l = h e in absurd (omega arith))
-    (λ _. refl)
-
--- ---- what a caller reads of it, at an index i that its code computed
-module _ {s : List ℕ} {ok : Bool} {fills firstChecks outs : List ℕ} (g : Surveyed s ok fills firstChecks outs) where
-  -- a unit's ranks are enough for what is counted
-  pub fill-most : (u : ℕ) → u < 16 → getD fills u 0 ≤ byte s 5
-  unfolding knownFill
-  fill-most u l =
-      let most : (n : ℕ) → Type 0 = λ n. n ≤ byte s 5 in
-      let listed : most (listedFill (view s) u) = listed-fill-small s u in
-      rw (g .filled, getD-entries 16 (λ u. pick ok (pick (keysLost (view s) u) 0 (listedFill (view s) u)) 0) u 0 l)
-      (by-pick most ok _ 0 (λ _. by-pick most (keysLost (view s) u) 0 (listedFill (view s) u) (λ _. omega arith) (λ _. listed)) (λ _. omega arith))
-
-  -- of a sound store
-  module _ (e : ok ≡ true) where
-    pub found-sized : Sized s
-    found-sized = sound-sized (sym (g .tested) ∙ e)
-
-    entry-read : (l : List ℕ) (n : ℕ) (f : ℕ → ℕ) → l ≡ entries n (λ h. pick ok (f h) 0) → {i : ℕ} (h : ℕ) → i ≡ h → h < n → getD l i 0 ≡ f h
-    entry-read l n f q h ei k = ap₂ (λ x j. getD x j 0) q ei ∙ getD-entries n (λ h. pick ok (f h) 0) h 0 k ∙ pick-true e (f h) 0
-
-    pub first-check-read : {i : ℕ} (h : ℕ) → i ≡ h → h < 4 → getD firstChecks i 0 ≡ firstCheck (view s) h
-    first-check-read = entry-read firstChecks 4 (firstCheck (view s)) (g .kept)
-
-    pub outs-read : {i : ℕ} (h : ℕ) → i ≡ h → h < 4 → getD outs i 0 ≡ outsIn (view s) h
-    outs-read = entry-read outs 4 (outsIn (view s)) (g .out)
-
-    pub fill-read : {i : ℕ} (u : ℕ) → i ≡ u → u < 16 → (byte s (8 + u) ≡ 2 → firstCheck (view s) (u / 4) < 3 * (u / 4) + 3)
-        → getD fills i 0 ≡ listedFill (view s) u
-    fill-read u ei l h = entry-read fills 16 (knownFill (view s)) (g .filled) u ei l ∙ unfold knownFill in pick-false (listed-kept s u h) _ _
-
-    -- of a unit of whose group none is out
-    pub own-fill-read : {i : ℕ} (u : ℕ) → i ≡ u → u < 16 → ltb 0 (outsIn (view s) (u / 4)) ≡ false → getD fills i 0 ≡ fillIn (view s) u
-    own-fill-read u ei l none = let serves = none-out s u none in fill-read u ei l (λ w. absurd (serves w)) ∙ sym (own-fill s u serves)

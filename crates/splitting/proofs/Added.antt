@@ -15,8 +15,10 @@ use Rattle.buffer.specs.ByteLaws.{length-zeros}
 use Rattle.group.specs.Widths.{slotBytes}
 use Rattle.model.specs.Units.{splitPointer, touched, broughtUp, moves}
 use Rattle.model.specs.Layout.{Store, bytes, view, levelIn, keyOf}
+use Rattle.model.specs.Places.{data-units}
+use Rattle.model.specs.Parts.{withFront, withDstates, withCstates, withSlots, withChecks}
 use Rattle.model.specs.LayoutLaws.{Shaped, Same, bytes-ext, view-shaped}
-use Rattle.model.specs.StoreLaws.{withFront, withDstates, withCstates, slots-shaped, withSlots, withChecks}
+use Rattle.model.specs.StoreLaws.{chunks-shaped}
 use Rattle.model.specs.Reads.{fillIn}
 use Rattle.model.specs.Changes.{filterBy, rows, recordsIn, dealt, grown, grownState}
 use Rattle.splitting.specs.Steps.{Split, marked, levelled, madeRecord, remade, ofFirst, ofBoth}
@@ -66,7 +68,8 @@ module _ {s s₁ : List ℕ} {n m : ℕ} (sp : Split s n m) (e₁ : s₁ ≡ byt
   pub dealt-holds : Holds s s₁ (withSlots (view s) (dealt (view s) m))
   dealt-holds =
       let h : Shaped (view s) = view-shaped s (sp .sized .long) in
-      let shaped : Shaped (withSlots (view s) (dealt (view s) m)) = slots-shaped (view s) _ h (dealt-long (view s) m h (omega (arith, sp .from, sp .apart, sp .unit))) in
+      let shaped : Shaped (withSlots (view s) (dealt (view s) m)) =
+      chunks-shaped data-units (view s) _ h (dealt-long (view s) m h (omega (arith, sp .from, sp .apart, sp .unit))) in
       unfold withSlots in record { shaped = shaped; size = refl; rest = refl; state = e₁ }
 
   module _ {s₂ : List ℕ} (e₂ : s₂ ≡ bytes (marked (view s₁) (m + 1) m 1)) where

@@ -15,9 +15,11 @@ use Rattle.buffer.specs.Bytes.{byte, zeros, splice}
 use Rattle.group.specs.Widths.{slotBytes}
 use Rattle.model.specs.Units.{unitOf, moves}
 use Rattle.model.specs.Layout.{Store, bytes, view, slotAt, keyOf}
-use Rattle.model.specs.LayoutLaws.{Shaped, bytes-ext, view-bytes, view-shaped, bytes-view}
+use Rattle.model.specs.Places.{SlotIn, data-units}
+use Rattle.model.specs.Parts.{withSlots}
+use Rattle.model.specs.LayoutLaws.{Shaped, bytes-ext, view-bytes, view-shaped}
 use Rattle.model.specs.RunLaws.{upd2}
-use Rattle.model.specs.StoreLaws.{SlotIn, size-of, size-at, slots-shaped, slots-ext, slots-none, slots-again, slots-slot, slot-put, withSlots}
+use Rattle.model.specs.StoreLaws.{size-of, size-at, chunk-put, chunks-again, chunks-ext, chunks-same, chunks-shaped, chunks-there}
 use Rattle.model.specs.Reads.{fillIn}
 use Rattle.model.specs.Changes.{filterBy, rows, recordsIn, dealt}
 use Rattle.lookup.specs.Sized.{Sized}
@@ -124,7 +126,7 @@ module _ (s₀ : List ℕ) (n m count : ℕ) (sp : Split s₀ n m) (ec : count �
 
   shaped : (t : ℕ) → t ≤ count → Shaped (withSlots (view s₀) (dealing (view s₀) n m t))
   shaped t h =
-      slots-shaped (view s₀) _ (view-shaped s₀ (sp .sized .long))
+      chunks-shaped data-units (view s₀) _ (view-shaped s₀ (sp .sized .long))
       (dealing-long (view s₀) n m apart t (view-shaped s₀ (sp .sized .long)) (omega (arith, sp .apart, sp .unit)) (sp .unit) (omega (arith, most, size-of s₀)))
 
   dealt-so-far : (s : List ℕ) (stay left t : ℕ) → t ≤ count → stay + left ≡ t → stay ≡ length (kept (view s₀) n m t) → left ≡ length (gone (view s₀) n m t)
@@ -136,7 +138,7 @@ module _ (s₀ : List ℕ) (n m count : ℕ) (sp : Split s₀ n m) (ec : count �
   pub dealing-start : Dealing s₀ n m count s₀ 0 0 0
   dealing-start =
       dealt-so-far s₀ 0 0 0 (omega arith) refl (sym (ap length (kept-none (λ x. not (moves m (keyOf x))) (view s₀ .slot n)))) (sym (ap length (kept-none (λ x. moves m (keyOf x)) (view s₀ .slot n))))
-      (sym (bytes-view s₀ (sp .sized .long)) ∙ ap bytes (sym (slots-none (view s₀))) ∙ slots-ext (view s₀) (view s₀ .slot) _ (λ u r a b. dealing-none (view s₀) n m apart u r))
+      (chunks-same data-units s₀ _ (sp .sized .long) (λ u r a b. dealing-none (view s₀) n m apart u r))
 
   module _ {s : List ℕ} {stay left t key w : ℕ} (d : Dealing s₀ n m count s stay left t) (ht : t < count) (ek : key ≡ keyOf (view s .slot n t)) (ew : w ≡ unitOf (m + 1) key) where
     next : view s .slot n t ≡ view s₀ .slot n t
@@ -145,7 +147,7 @@ module _ (s₀ : List ℕ) (n m count : ℕ) (sp : Split s₀ n m) (ec : count �
         let size : withSlots (view s₀) (dealing (view s₀) n m t) .size ≡ byte s₀ 5 = h .size ∙ sym (size-of s₀) in
         ap (λ x. view x .slot n t) (h .state)
         ∙ view-bytes _ (h .shaped) .slot n t (omega (arith, sp .apart, sp .unit)) (omega (arith, most))
-        ∙ ap (λ f. f n t) (slots-slot (view s₀) (dealing (view s₀) n m t))
+        ∙ ap (λ f. f n t) (chunks-there data-units (view s₀) (dealing (view s₀) n m t))
         ∙ dealing-next (view s₀) n m apart t (omega (arith, d .few, d .stayed))
 
     same-test : eqb w m ≡ moves m (keyOf (view s₀ .slot n t))
@@ -155,9 +157,10 @@ module _ (s₀ : List ℕ) (n m count : ℕ) (sp : Split s₀ n m) (ec : count �
     put : {s′ : List ℕ} (u q : ℕ) → u < 16 → q ≤ t → s′ ≡ splice (slotAt (byte s 5) u q) slotBytes (view s .slot n t) s → s′ ≡ bytes (withSlots (view s₀) (upd2 (dealing (view s₀) n m t) u q (view s₀ .slot n t)))
     put {s′} u q hu hq e =
         let h : Holds s₀ s (withSlots (view s₀) (dealing (view s₀) n m t)) = d .holds in
-        slot-put _ (h .shaped) s (h .state) (byte s 5) (size-at _ (h .shaped) s (h .state)) s′ (view s₀ .slot n t) (slotAt (byte s 5) u q) u q refl hu (omega (arith, most, d .five))
+        chunk-put data-units _ (h .shaped) s (h .state) (byte s 5) (size-at _ (h .shaped) s (h .state)) s′ (view s₀ .slot n t)
+        (slotAt (byte s 5) u q) u q refl hu (omega (arith, most, d .five))
         (e ∙ ap (λ x. splice (slotAt (byte s 5) u q) slotBytes x s) next)
-        ∙ ap bytes (slots-again (view s₀) (dealing (view s₀) n m t) u q (view s₀ .slot n t))
+        ∙ ap bytes (chunks-again data-units (view s₀) (dealing (view s₀) n m t) u q (view s₀ .slot n t))
 
     pub deal-goes : {s′ : List ℕ} → eqb w m ≡ true → s′ ≡ splice (slotAt (byte s 5) m left) slotBytes (view s .slot n t) s → Dealing s₀ n m count s′ stay (left + 1) (t + 1)
     deal-goes {s′} test e =
@@ -166,7 +169,8 @@ module _ (s₀ : List ℕ) (n m count : ℕ) (sp : Split s₀ n m) (ec : count �
         (dealt-so-far s′ stay (left + 1) (suc t) ht (omega (arith, d .few))
         (d .stayed ∙ sym (ap length (kept-no (λ x. not (moves m (keyOf x))) t (view s₀ .slot n) (ap not go))))
         (sym (ap length (kept-yes (λ x. moves m (keyOf x)) t (view s₀ .slot n) go) ∙ length-snoc (gone (view s₀) n m t) (view s₀ .slot n t) ∙ omega (arith, d .went)))
-        (put m left (sp .unit) (omega (arith, d .few)) e ∙ rw (d .went) (slots-ext (view s₀) _ _ (λ u r a b. dealing-goes (view s₀) n m apart t u r go))))
+        (put m left (sp .unit) (omega (arith, d .few)) e
+        ∙ rw (d .went) (chunks-ext data-units (view s₀) _ _ (λ u r a b. dealing-goes (view s₀) n m apart t u r go))))
 
     pub deal-stays : {s′ : List ℕ} → eqb w m ≡ false → s′ ≡ splice (slotAt (byte s 5) n stay) slotBytes (view s .slot n t) s → Dealing s₀ n m count s′ (stay + 1) left (t + 1)
     deal-stays {s′} test e =
@@ -175,7 +179,8 @@ module _ (s₀ : List ℕ) (n m count : ℕ) (sp : Split s₀ n m) (ec : count �
         (dealt-so-far s′ (stay + 1) left (suc t) ht (omega (arith, d .few))
         (sym (ap length (kept-yes (λ x. not (moves m (keyOf x))) t (view s₀ .slot n) (ap not stand)) ∙ length-snoc (kept (view s₀) n m t) (view s₀ .slot n t) ∙ omega (arith, d .stayed)))
         (d .went ∙ sym (ap length (kept-no (λ x. moves m (keyOf x)) t (view s₀ .slot n) stand)))
-        (put n stay (omega (arith, sp .apart, sp .unit)) (omega (arith, d .few)) e ∙ rw (d .stayed) (slots-ext (view s₀) _ _ (λ u r a b. dealing-stays (view s₀) n m apart t u r stand))))
+        (put n stay (omega (arith, sp .apart, sp .unit)) (omega (arith, d .few)) e
+        ∙ rw (d .stayed) (chunks-ext data-units (view s₀) _ _ (λ u r a b. dealing-stays (view s₀) n m apart t u r stand))))
 
     -- the two places of a move
     pub deal-from : SlotIn s n t

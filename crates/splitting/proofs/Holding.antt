@@ -7,8 +7,10 @@ use lib.ListN.{length}
 use lib.Seq.{getD-take}
 use Rattle.buffer.specs.Bytes.{byte}
 use Rattle.model.specs.Layout.{Store, bytes, view}
-use Rattle.model.specs.LayoutLaws.{Shaped, Same, Long, bytes-view, view-shaped, byte-front}
-use Rattle.model.specs.StoreLaws.{size-of, same-long, size-at, long-at, cstate-at, withSlots}
+use Rattle.model.specs.Places.{Long}
+use Rattle.model.specs.Parts.{withSlots}
+use Rattle.model.specs.LayoutLaws.{Shaped, Same, bytes-view, view-shaped, byte-front}
+use Rattle.model.specs.StoreLaws.{size-of, same-long, size-at, long-at, cstate-at}
 use Rattle.model.specs.ChangeLaws.{on-bytes}
 use Rattle.lookup.specs.Sized.{Sized}
 

@@ -13,9 +13,11 @@ use Rattle.buffer.specs.ChoiceLaws.{by-pick, pick-false}
 use Rattle.buffer.specs.Bytes.{byte, zeros, splice}
 use Rattle.group.specs.Widths.{slotBytes}
 use Rattle.model.specs.Layout.{Store, bytes, view, slotAt}
-use Rattle.model.specs.LayoutLaws.{Shaped, bytes-ext, view-bytes, view-shaped, bytes-view}
+use Rattle.model.specs.Places.{SlotIn, data-units}
+use Rattle.model.specs.Parts.{withSlots}
+use Rattle.model.specs.LayoutLaws.{Shaped, bytes-ext, view-bytes, view-shaped}
 use Rattle.model.specs.RunLaws.{upd2}
-use Rattle.model.specs.StoreLaws.{SlotIn, size-of, size-at, slots-shaped, slots-ext, slots-none, slots-again, slots-slot, slot-put, withSlots}
+use Rattle.model.specs.StoreLaws.{size-of, size-at, chunk-put, chunks-again, chunks-ext, chunks-same, chunks-shaped, chunks-there}
 use Rattle.model.specs.Reads.{fillIn}
 use Rattle.model.specs.Changes.{rows, recordsIn, merged}
 use Rattle.splitting.specs.Steps.{Split, cleared}
@@ -97,7 +99,7 @@ module _ (s₀ : List ℕ) (n m count more : ℕ) (sp : Split s₀ n m) (ec : co
   merged-so-far : (s : List ℕ) (t : ℕ) → t ≤ more → s ≡ bytes (withSlots (view s₀) (merging (view s₀) n m t)) → Merging s₀ n m more s t
   merged-so-far s t w e =
       let shaped : Shaped (withSlots (view s₀) (merging (view s₀) n m t)) =
-      slots-shaped (view s₀) _ (view-shaped s₀ (sp .sized .long))
+      chunks-shaped data-units (view s₀) _ (view-shaped s₀ (sp .sized .long))
       (merging-long (view s₀) n m apart t (view-shaped s₀ (sp .sized .long)) (omega (arith, sp .apart, sp .unit)) (sp .unit) (omega (arith, size-of s₀)) (omega (arith, size-of s₀))) in
       let h : Holds s₀ s (withSlots (view s₀) (merging (view s₀) n m t)) = unfold withSlots in record { shaped = shaped; size = refl; rest = refl; state = e } in
       record { within = w; long = holds-length h (sp .sized .long); five = holds-five h; holds = h }
@@ -105,7 +107,7 @@ module _ (s₀ : List ℕ) (n m count more : ℕ) (sp : Split s₀ n m) (ec : co
   pub merging-start : Merging s₀ n m more s₀ 0
   merging-start =
       merged-so-far s₀ 0 (omega arith)
-      (sym (bytes-view s₀ (sp .sized .long)) ∙ ap bytes (sym (slots-none (view s₀))) ∙ slots-ext (view s₀) (view s₀ .slot) _ (λ u r a b. merging-none (view s₀) n m apart u r))
+      (chunks-same data-units s₀ _ (sp .sized .long) (λ u r a b. merging-none (view s₀) n m apart u r))
 
   module _ {s : List ℕ} {t : ℕ} (d : Merging s₀ n m more s t) (ht : t < more) where
     next : view s .slot m t ≡ view s₀ .slot m t
@@ -114,7 +116,7 @@ module _ (s₀ : List ℕ) (n m count more : ℕ) (sp : Split s₀ n m) (ec : co
         let size : withSlots (view s₀) (merging (view s₀) n m t) .size ≡ byte s₀ 5 = h .size ∙ sym (size-of s₀) in
         ap (λ x. view x .slot m t) (h .state)
         ∙ view-bytes _ (h .shaped) .slot m t (sp .unit) (omega arith)
-        ∙ ap (λ f. f m t) (slots-slot (view s₀) (merging (view s₀) n m t))
+        ∙ ap (λ f. f m t) (chunks-there data-units (view s₀) (merging (view s₀) n m t))
         ∙ merging-next (view s₀) n m apart t t
 
     pub merging-turn : {s′ : List ℕ} → s′ ≡ splice (slotAt (byte s 5) n (count + t)) slotBytes (view s .slot m t) s → Merging s₀ n m more s′ (t + 1)
@@ -122,10 +124,11 @@ module _ (s₀ : List ℕ) (n m count more : ℕ) (sp : Split s₀ n m) (ec : co
         let h : Holds s₀ s (withSlots (view s₀) (merging (view s₀) n m t)) = d .holds in
         rw (add-one t)
         (merged-so-far s′ (suc t) ht
-        (slot-put _ (h .shaped) s (h .state) (byte s 5) (size-at _ (h .shaped) s (h .state)) s′ (view s₀ .slot m t) (slotAt (byte s 5) n (count + t)) n (count + t) refl (omega (arith, sp .apart, sp .unit)) (omega (arith, d .five))
+        (chunk-put data-units _ (h .shaped) s (h .state) (byte s 5) (size-at _ (h .shaped) s (h .state)) s′ (view s₀ .slot m t)
+        (slotAt (byte s 5) n (count + t)) n (count + t) refl (omega (arith, sp .apart, sp .unit)) (omega (arith, d .five))
         (e ∙ ap (λ x. splice (slotAt (byte s 5) n (count + t)) slotBytes x s) next)
-        ∙ ap bytes (slots-again (view s₀) (merging (view s₀) n m t) n (count + t) (view s₀ .slot m t))
-        ∙ rw ec (slots-ext (view s₀) _ _ (λ u r a b. merging-more (view s₀) n m apart t u r))))
+        ∙ ap bytes (chunks-again data-units (view s₀) (merging (view s₀) n m t) n (count + t) (view s₀ .slot m t))
+        ∙ rw ec (chunks-ext data-units (view s₀) _ _ (λ u r a b. merging-more (view s₀) n m apart t u r))))
 
     pub merging-from : SlotIn s m t
     merging-from = record { long = holds-long (d .holds); unit = sp .unit; rank = omega (arith, d .five) }

@@ -17,9 +17,11 @@ use Rattle.buffer.specs.Table.{upd}
 use Rattle.group.specs.Widths.{slotBytes, checkBytes}
 use Rattle.model.specs.Units.{splitPointer, touched}
 use Rattle.model.specs.Layout.{Store, bytes, view, slotAt, checkAt}
-use Rattle.model.specs.LayoutLaws.{Shaped, Same, Long, bytes-ext, bytes-view, view-shaped}
+use Rattle.model.specs.Places.{Long, data-units, check-units}
+use Rattle.model.specs.Parts.{withFront, withCstates, withChecks}
+use Rattle.model.specs.LayoutLaws.{Shaped, Same, bytes-ext, bytes-view, view-shaped, ranks-within}
 use Rattle.model.specs.RunLaws.{run}
-use Rattle.model.specs.StoreLaws.{withFront, withCstates, slots-ext, slots-clear, slots-within, checks-none, checks-ext, checks-clear, checks-within, size-of, front-set, dstate-set, cstate-set, withChecks}
+use Rattle.model.specs.StoreLaws.{size-of, front-set, dstate-set, cstate-set, chunks-clear, chunks-ext, chunks-same}
 use Rattle.splitting.specs.Steps.{cleared, marked, levelled, wiped, madeRecord, remade, isUnit, inGroup, ofFirst, ofBoth}
 use Rattle.splitting.proofs.Holding.{Change, holds-start, holds-step}
 
@@ -30,10 +32,10 @@ run-rest f u q m z w r k =
     ap (λ t. pick t z (f w r)) (and-ext (eqb w u) (leb q r && ltb r (q + m)) (leb q r) (λ _. rw (lt-ltb r (q + m) k) (and-true (leb q r))))
 
 pub unit-end : (s : List ℕ) (u : ℕ) → Long s → u < 16 → slotAt (byte s 5) u (byte s 5) ≤ length s
-unit-end s u l hu = omega (arith, slots-within (byte s 5) u 0 (byte s 5) (length s) hu (omega arith) l)
+unit-end s u l hu = omega (arith, ranks-within data-units (byte s 5) u 0 (byte s 5) (length s) hu (omega arith) l)
 
 pub check-unit-end : (s : List ℕ) (c : ℕ) → Long s → c < 12 → checkAt (byte s 5) c (byte s 5) ≤ length s
-check-unit-end s c l hc = omega (arith, checks-within (byte s 5) c 0 (byte s 5) (length s) hc (omega arith) l)
+check-unit-end s c l hc = omega (arith, ranks-within check-units (byte s 5) c 0 (byte s 5) (length s) hc (omega arith) l)
 
 -- the bytes from rank q of data unit u to its end become zero
 pub clear-from : (s s′ : List ℕ) (b from to n u q : ℕ) → Long s → b ≡ byte s 5 → from ≡ slotAt b u q → to ≡ slotAt b u b → n ≡ to - from → u < 16 → q ≤ b
@@ -43,8 +45,8 @@ clear-from s s′ b from to n u q l eb ef et en hu hq es =
     let v : Store = view s in
     let m : ℕ = b - q in
     let size : b ≡ v .size = eb ∙ size-of s in
-    slots-clear v (view-shaped s l) s (sym (bytes-view s l)) b size s′ from n u q m ef (omega arith) hu (omega arith) es
-    ∙ slots-ext v (run (v .slot) u q m (λ _. zeros slotBytes)) _ (λ w r a k. run-rest (v .slot) u q m (zeros slotBytes) w r (omega arith))
+    chunks-clear data-units v (view-shaped s l) s (sym (bytes-view s l)) b size s′ from n u q m ef (omega arith) hu (omega arith) es
+    ∙ chunks-ext data-units v (run (v .slot) u q m (λ _. zeros slotBytes)) _ (λ w r a k. run-rest (v .slot) u q m (zeros slotBytes) w r (omega arith))
 
 -- the bytes of check unit c become zero
 pub clear-check : (s s′ : List ℕ) (b from to n c : ℕ) → Long s → b ≡ byte s 5 → from ≡ checkAt b c 0 → to ≡ checkAt b c b → n ≡ to - from → c < 12
@@ -53,8 +55,8 @@ unfolding wiped
 clear-check s s′ b from to n c l eb ef et en hc es =
     let v : Store = view s in
     let size : b ≡ v .size = eb ∙ size-of s in
-    checks-clear v (view-shaped s l) s (sym (bytes-view s l)) b size s′ from n c 0 b ef (omega arith) hc (omega arith) es
-    ∙ checks-ext v (run (v .check) c 0 b (λ _. zeros checkBytes)) _ (λ d r a k.
+    chunks-clear check-units v (view-shaped s l) s (sym (bytes-view s l)) b size s′ from n c 0 b ef (omega arith) hc (omega arith) es
+    ∙ chunks-ext check-units v (run (v .check) c 0 b (λ _. zeros checkBytes)) _ (λ d r a k.
     run-rest (v .check) c 0 b (zeros checkBytes) d r (omega arith)
     ∙ ap (λ t. pick t (zeros checkBytes) (v .check d r)) (ap (λ t. eqb d c && t) (le-leb 0 r (omega arith)) ∙ and-true (eqb d c)))
 
@@ -200,7 +202,7 @@ module _ (p : ℕ → Bool) (none : (c : ℕ) → p c ≡ false) (s : List ℕ) 
   pub wiped-none : s ≡ bytes (wiped p (view s))
   unfolding wiped
   wiped-none =
-      sym (bytes-view s l) ∙ ap bytes (sym (checks-none (view s))) ∙ checks-ext (view s) (view s .check) _ (λ c r a b. sym (pick-false (none c) _ _))
+      chunks-same check-units s _ l (λ c r a b. sym (pick-false (none c) _ _))
 
 -- the group of unit u, where u is its first, and where it isn't
 module _ (u : ℕ) where

@@ -16,8 +16,10 @@ use Rattle.buffer.specs.RangeLaws.{first-misses}
 use Rattle.buffer.specs.Bytes.{byte}
 use Rattle.group.specs.Widths.{checkBytes}
 use Rattle.model.specs.Layout.{Store, bytes, view}
-use Rattle.model.specs.LayoutLaws.{Shaped, Same, Long, bytes-ext, bytes-view, view-shaped}
-use Rattle.model.specs.StoreLaws.{size-of, checks-shaped, checks-ext, checks-none, withChecks}
+use Rattle.model.specs.Places.{Long, check-units}
+use Rattle.model.specs.Parts.{withChecks}
+use Rattle.model.specs.LayoutLaws.{Shaped, Same, bytes-ext, view-shaped}
+use Rattle.model.specs.StoreLaws.{size-of, chunks-ext, chunks-same, chunks-shaped}
 use Rattle.model.specs.Reads.{firstCheck}
 use Rattle.lookup.specs.States.{inService, first-check-found}
 use Rattle.splitting.specs.Steps.{RankIn, madeRecord, rankMade, remade, inGroup}
@@ -79,7 +81,7 @@ module _ (s₀ : List ℕ) (g : ℕ) (l : Long s₀) (hg : g < 4) where
   unfolding madeTo
   made-shaped t =
       let h : Shaped (view s₀) = view-shaped s₀ l in
-      checks-shaped (view s₀) _ h (λ c q a b.
+      chunks-shaped check-units (view s₀) _ h (λ c q a b.
       by-pick (λ (x : List ℕ). length x ≡ checkBytes) (inGroup g c && (eqb (view s₀ .cstate c) 1 && ltb q t)) _ _ (λ _. made-long (view s₀) h c q a b) (λ _. h .check c q a b))
 
   held : (s : List ℕ) (t : ℕ) → s ≡ bytes (withChecks (view s₀) (madeTo (view s₀) g t)) → Holds s₀ s (withChecks (view s₀) (madeTo (view s₀) g t))
@@ -88,7 +90,7 @@ module _ (s₀ : List ℕ) (g : ℕ) (l : Long s₀) (hg : g < 4) where
 
   pub making-start : Making s₀ g s₀ 0
   making-start =
-      making-of s₀ 0 (omega arith) (held s₀ 0 (sym (bytes-view s₀ l) ∙ ap bytes (sym (checks-none (view s₀))) ∙ checks-ext (view s₀) (view s₀ .check) _ (λ c q a b. made-none (view s₀) g c q)))
+      making-of s₀ 0 (omega arith) (held s₀ 0 (chunks-same check-units s₀ _ l (λ c q a b. made-none (view s₀) g c q)))
 
   module _ {s : List ℕ} {t : ℕ} (d : Making s₀ g s t) (ht : t < byte s₀ 5) where
     pub making-rank : RankIn s g t
@@ -100,15 +102,14 @@ module _ (s₀ : List ℕ) (g : ℕ) (l : Long s₀) (hg : g < 4) where
 
   pub making-end : {s : List ℕ} {t : ℕ} → Making s₀ g s t → byte s₀ 5 ≤ t → s ≡ bytes (remade (inGroup g) (view s₀))
   unfolding remade
-  making-end {s} {t} d ht = d .holds .state ∙ checks-ext (view s₀) _ _ (λ c q a k. made-all (view s₀) g t c q (omega (arith, size-of s₀)))
+  making-end {s} {t} d ht = d .holds .state ∙ chunks-ext check-units (view s₀) _ _ (λ c q a k. made-all (view s₀) g t c q (omega (arith, size-of s₀)))
 
 -- where no check unit of the group is in service there is nothing to make
 pub nothing-made : (s : List ℕ) (g : ℕ) → Long s → firstCheck (view s) g ≡ 3 * g + 3 → s ≡ bytes (remade (inGroup g) (view s))
 unfolding remade
 nothing-made s g l e =
-    sym (bytes-view s l)
-    ∙ ap bytes (sym (checks-none (view s)))
-    ∙ checks-ext (view s) (view s .check) _ (λ c r a b. sym (pick-false (and-ext (inGroup g c) (eqb (view s .cstate c) 1) false (λ t. off c (eqb-true (c / 3) g t)) ∙ and-false (inGroup g c)) _ _))
+    chunks-same check-units s _ l (λ c r a b. sym (pick-false
+    (and-ext (inGroup g c) (eqb (view s .cstate c) 1) false (λ t. off c (eqb-true (c / 3) g t)) ∙ and-false (inGroup g c)) _ _))
   where
     all : first 3 (inService s g) ≡ 3
     all = let found = first-check-found s g (first 3 (inService s g)) refl in omega (arith, found, e)

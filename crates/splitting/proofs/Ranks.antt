@@ -22,11 +22,13 @@ use Rattle.group.specs.ParityLaws.{parity-ext}
 use Rattle.group.specs.CheckRecord.{checkRecord}
 use Rattle.group.specs.CheckRecordLaws.{length-key}
 use Rattle.group.specs.Four.{fourBodies}
-use Rattle.lookup.specs.Slots.{drop-part}
+use Rattle.lookup.specs.SlotLaws.{drop-part}
 use Rattle.model.specs.Layout.{Store, bytes, view, slotAt, checkAt}
-use Rattle.model.specs.LayoutLaws.{Same, bytes-ext, bytes-view, view-shaped}
+use Rattle.model.specs.Places.{CheckIn, data-units, check-units}
+use Rattle.model.specs.Parts.{withChecks}
+use Rattle.model.specs.LayoutLaws.{Same, bytes-ext, bytes-view, view-shaped, place-end, rank-within}
 use Rattle.model.specs.RunLaws.{upd2}
-use Rattle.model.specs.StoreLaws.{CheckIn, check-end, size-of, checks-ext, checks-none, check-put, slot-lent, slot-within, withChecks}
+use Rattle.model.specs.StoreLaws.{size-of, slot-lent, chunk-put, chunks-ext, chunks-same}
 use Rattle.splitting.specs.Steps.{RankIn, madeRecord, putCheck, rankMade, inGroup}
 use Rattle.splitting.proofs.Holding.{Holds, Change, holds-start, holds-step, holds-five, holds-long}
 use Rattle.splitting.proofs.StepLaws.{checks-change, made-long, made-same}
@@ -45,7 +47,7 @@ slot-parts s u r at ea =
 
 module _ {s : List ℕ} {g r : ℕ} (h : RankIn s g r) where
   pub rank-slot : (p : ℕ) → p < 4 → slotAt (byte s 5) (4 * g + p) r + slotBytes ≤ length s
-  rank-slot p l = slot-within (byte s 5) (4 * g + p) r (length s) (omega (arith, h .group)) (h .rank) (h .long)
+  rank-slot p l = rank-within data-units (byte s 5) (4 * g + p) r (length s) (omega (arith, h .group)) (h .rank) (h .long)
 
   pub slot-long : (p : ℕ) → p < 4 → length (view s .slot (4 * g + p) r) ≡ slotBytes
   slot-long p l = view-shaped s (h .long) .slot (4 * g + p) r (omega (arith, h .group)) (rw (← size-of s) (h .rank))
@@ -54,7 +56,7 @@ module _ {s : List ℕ} {g r : ℕ} (h : RankIn s g r) where
   key-wide p l = length-key bodyBytes (view s .slot (4 * g + p) r) (slot-long p l)
 
   pub rank-first : slotAt (byte s 5) (4 * g) r + slotBytes ≤ length s
-  rank-first = slot-within (byte s 5) (4 * g) r (length s) (omega (arith, h .group)) (h .rank) (h .long)
+  rank-first = rank-within data-units (byte s 5) (4 * g) r (length s) (omega (arith, h .group)) (h .rank) (h .long)
 
   -- a check record of the rank, while check records are put
   pub rank-check : {s′ : List ℕ} {t : Store} → Holds s s′ t → (c : ℕ) → c < 12 → CheckIn s′ c r
@@ -101,19 +103,18 @@ module _ (s : List ℕ) (c r : ℕ) (keys x : List ℕ) (h : CheckIn s c r) wher
   unfolding putCheck upd2
   put-serving b at on lk eb ea =
       splice-next at keysBytes bodyBytes keys x s (omega (arith, check-room)) lk
-      ∙ check-put (view s) (view-shaped s (h .long)) s (sym (bytes-view s (h .long))) b (eb ∙ size-of s) _ (keys ++ x) at c r ea (h .unit) (omega (arith, h .rank)) refl
-      ∙ checks-ext (view s) _ _ (λ d q a k. ap (λ t. pick t (keys ++ x) (view s .check d q)) (
+      ∙ chunk-put check-units (view s) (view-shaped s (h .long)) s (sym (bytes-view s (h .long))) b (eb ∙ size-of s) _ (keys ++ x) at c r ea (h .unit)
+      (omega (arith, h .rank)) refl
+      ∙ chunks-ext check-units (view s) _ _ (λ d q a k. ap (λ t. pick t (keys ++ x) (view s .check d q)) (
       and-ext (eqb d c) (eqb q r) (eqb q r && eqb (view s .cstate d) 1) (λ e. sym (ap (λ t. eqb q r && t) (eq-eqb _ 1 (ap (λ k. view s .cstate k) (eqb-true d c e) ∙ sym (state-of s c) ∙ on)) ∙ and-true (eqb q r)))))
     where
       check-room : at + checkBytes ≤ length s
-      check-room = rw (ea, eb) (check-end h)
+      check-room = rw (ea, eb) (place-end h)
 
   pub put-nothing : (byte s (24 + c) ≡ 1 → ⊥) → s ≡ bytes (putCheck c r (keys ++ x) (view s))
   unfolding putCheck
   put-nothing off =
-      sym (bytes-view s (h .long))
-      ∙ ap bytes (sym (checks-none (view s)))
-      ∙ checks-ext (view s) (view s .check) _ (λ d q a k. sym (pick-false (
+      chunks-same check-units s _ (h .long) (λ d q a k. sym (pick-false (
       and-ext (eqb d c) (eqb q r && eqb (view s .cstate d) 1) false (λ e. ap (λ t. eqb q r && t) (ne-eqb _ 1 (λ one. off (state-of s c ∙ ap (λ k. view s .cstate k) (sym (eqb-true d c e)) ∙ one))) ∙ and-false (eqb q r))
       ∙ and-false (eqb d c)) _ _))
 

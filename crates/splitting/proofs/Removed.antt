@@ -15,8 +15,10 @@ use Rattle.buffer.specs.ByteLaws.{length-zeros}
 use Rattle.group.specs.Widths.{slotBytes, checkBytes}
 use Rattle.model.specs.Units.{splitPointer, touched, emptied}
 use Rattle.model.specs.Layout.{Store, bytes, view}
+use Rattle.model.specs.Places.{data-units}
+use Rattle.model.specs.Parts.{withFront, withDstates, withCstates, withSlots, withChecks}
 use Rattle.model.specs.LayoutLaws.{Shaped, Same, bytes-ext, view-shaped}
-use Rattle.model.specs.StoreLaws.{withFront, withDstates, withCstates, slots-shaped, size-of, withSlots, withChecks}
+use Rattle.model.specs.StoreLaws.{size-of, chunks-shaped}
 use Rattle.model.specs.Reads.{fillIn}
 use Rattle.model.specs.Changes.{rows, recordsIn, merged, shrunk, shrunkState}
 use Rattle.splitting.specs.Steps.{Split, Blank, marked, levelled, wiped, madeRecord, remade, ofFirst, ofBoth}
@@ -89,7 +91,8 @@ module _ {s s₁ : List ℕ} {n m : ℕ} (sp : Split s n m) (e₁ : s₁ ≡ byt
   pub merged-holds : Holds s s₁ (withSlots (view s) (merged (view s) m))
   merged-holds =
       let h : Shaped (view s) = view-shaped s (sp .sized .long) in
-      let shaped : Shaped (withSlots (view s) (merged (view s) m)) = slots-shaped (view s) _ h (merged-long (view s) m h (omega (arith, sp .from, sp .apart, sp .unit)) (sp .unit)) in
+      let shaped : Shaped (withSlots (view s) (merged (view s) m)) =
+      chunks-shaped data-units (view s) _ h (merged-long (view s) m h (omega (arith, sp .from, sp .apart, sp .unit)) (sp .unit)) in
       unfold withSlots in record { shaped = shaped; size = refl; rest = refl; state = e₁ }
 
   module _ {s₂ : List ℕ} (e₂ : s₂ ≡ bytes (marked (view s₁) m m 0)) where

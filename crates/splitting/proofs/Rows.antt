@@ -15,8 +15,10 @@ use Rattle.group.specs.Widths.{checkBytes}
 use Rattle.model.specs.Units.{splitPointer}
 use Rattle.model.specs.UnitLaws.{split-below}
 use Rattle.model.specs.Layout.{view, bytes, unitsIn, levelIn}
-use Rattle.model.specs.LayoutLaws.{Long, bytes-view, view-shaped}
-use Rattle.model.specs.StoreLaws.{withFront, size-of, units-of, level-of, front-set}
+use Rattle.model.specs.Places.{Long}
+use Rattle.model.specs.Parts.{withFront}
+use Rattle.model.specs.LayoutLaws.{bytes-view, view-shaped}
+use Rattle.model.specs.StoreLaws.{size-of, units-of, level-of, front-set}
 use Rattle.model.specs.Reads.{fillIn, outsIn}
 use Rattle.model.specs.Sound.{sound}
 use Rattle.model.specs.SoundLaws.{same-true}
@@ -25,8 +27,10 @@ use Rattle.model.specs.Changes.{raised}
 use Rattle.model.specs.RowLaws.{row-pair, first-free}
 use Rattle.model.specs.PerformLaws.{none-holds}
 use Rattle.model.specs.SoundSays.{zeroed-says, clauses}
-use Rattle.soundness.specs.Survey.{Surveyed, found-sized, outs-read, own-fill-read}
-use Rattle.lookup.specs.Sized.{Sized, sound-sized}
+use Rattle.soundness.specs.Survey.{Surveyed}
+use Rattle.soundness.specs.SurveyLaws.{found-sized, outs-read, own-fill-read}
+use Rattle.lookup.specs.Sized.{Sized}
+use Rattle.lookup.specs.SizedLaws.{sound-sized}
 use Rattle.splitting.specs.Steps.{Split, Blank, pairOut, pairCrowded}
 use Rattle.splitting.proofs.StepLaws.{or-first, or-second}
 

@@ -16,8 +16,8 @@ use Rattle.buffer.specs.Table.{upd}
 use Rattle.group.specs.Widths.{bodyBytes, slotBytes, checkBytes}
 use Rattle.group.specs.CheckRecordLaws.{checkRecord-ext, length-checkRecord}
 use Rattle.model.specs.Layout.{Store}
+use Rattle.model.specs.Parts.{withFront, withDstates, withCstates, withSlots, withChecks}
 use Rattle.model.specs.LayoutLaws.{Shaped, Same}
-use Rattle.model.specs.StoreLaws.{withFront, withDstates, withCstates, withSlots, withChecks}
 use Rattle.splitting.specs.Steps.{cleared, marked, levelled, wiped, madeRecord, remade}
 use Rattle.splitting.proofs.Holding.{Change}
 

@@ -12,8 +12,8 @@ use Rattle.group.specs.Widths.{slotBytes, checkBytes}
 use Rattle.group.specs.CheckRecord.{checkRecord}
 use Rattle.model.specs.Units.{splitPointer, touched}
 use Rattle.model.specs.Layout.{Store, view}
-use Rattle.model.specs.LayoutLaws.{Long}
-use Rattle.model.specs.StoreLaws.{withFront, withDstates, withCstates, withSlots, withChecks}
+use Rattle.model.specs.Places.{Long}
+use Rattle.model.specs.Parts.{withFront, withDstates, withCstates, withSlots, withChecks}
 use Rattle.lookup.specs.Sized.{Sized}
 
 -- rank r of group g

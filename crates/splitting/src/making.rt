@@ -9,8 +9,7 @@ ghost use Rattle.group.specs.Parity.{parity};
 ghost use Rattle.group.specs.ScaledRow.{firstRow, secondRow};
 ghost use Rattle.model.specs.Units.{splitPointer};
 ghost use Rattle.model.specs.Layout.{bytes, view};
-ghost use Rattle.model.specs.LayoutLaws.{Long};
-ghost use Rattle.model.specs.StoreLaws.{CheckIn};
+ghost use Rattle.model.specs.Places.{Long, CheckIn};
 ghost use Rattle.splitting.specs.Steps.{RankIn, putCheck, rankMade, remade, wiped, isUnit, inGroup, ofFirst, ofBoth};
 
 // The four keys of rank r of group g, one behind the other.

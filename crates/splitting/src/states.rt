@@ -4,7 +4,7 @@ ghost use Prim.Native.Nat.{_/_, _%_, _<_};
 ghost use lib.Dec.{ltb};
 ghost use Rattle.buffer.specs.Choice.{pick};
 ghost use Rattle.model.specs.Layout.{bytes, view};
-ghost use Rattle.model.specs.LayoutLaws.{Long};
+ghost use Rattle.model.specs.Places.{Long};
 ghost use Rattle.splitting.specs.Steps.{marked, levelled, inGroup, ofFirst};
 
 // The store has m units, and data unit u this state.

@@ -19,10 +19,12 @@ use Rattle.group.specs.Body.{addBody}
 use Rattle.group.specs.CheckRecord.{patched}
 use Rattle.group.specs.CheckRecordLaws.{length-key, length-patched}
 use Rattle.model.specs.Layout.{Store, bytes, view, slotAt, checkAt}
-use Rattle.model.specs.LayoutLaws.{Shaped, Same, bytes-ext, bytes-view, view-shaped}
+use Rattle.model.specs.Places.{SlotIn, data-units, check-units}
+use Rattle.model.specs.Parts.{withSlots, withChecks}
+use Rattle.model.specs.LayoutLaws.{Shaped, Same, bytes-ext, view-shaped}
 use Rattle.model.specs.RunLaws.{upd2}
-use Rattle.model.specs.StoreLaws.{SlotIn, checks-size, checks-shaped, checks-ext, checks-none, checks-check, checks-again, size-of, cstate-at, check-at}
-use Rattle.model.specs.StoreLaws.{check-put, slot-put, same-long, withSlots, withChecks}
+use Rattle.model.specs.StoreLaws.{size-of, cstate-at, same-long, chunk-at, chunk-put, chunks-again, chunks-ext, chunks-same, chunks-shaped, chunks-size}
+use Rattle.model.specs.StoreLaws.{chunks-there}
 use Rattle.model.specs.Changes.{written}
 use Rattle.model.specs.ChangeLaws.{length-change}
 use Rattle.writing.specs.Following.{followed}
@@ -55,13 +57,10 @@ module _ (s : Store) (u r : ℕ) (key change : List ℕ) where
   -- check unit n of the group follows, or is not in service
   followed-more : (n c q : ℕ) → (due c q ≡ true → c % 3 ≡ n → ⊥) → followed n s u r key change c q ≡ followed (suc n) s u r key change c q
   unfolding followed
-  followed-more n c q h =
-      ap (λ t. pick t (patched (c % 3) (u % 4) key change (s .check c q)) (s .check c q))
-      (and-ext (due c q) (ltb (c % 3) n) (ltb (c % 3) (suc n)) (λ t. ltb-suc (c % 3) n (h t)))
+  followed-more n c q h = ap (λ t. pick t (patched (c % 3) (u % 4) key change (s .check c q)) (s .check c q)) (and-ext (due c q) (ltb (c % 3) n) (ltb (c % 3) (suc n)) (λ t. ltb-suc (c % 3) n (h t)))
 
   followed-on : (n c q : ℕ) → n < 3 → s .cstate (3 * (u / 4) + n) ≡ 1
-      → upd2 (followed n s u r key change) (3 * (u / 4) + n) r (patched n (u % 4) key change (s .check (3 * (u / 4) + n) r))
-      c q ≡ followed (suc n) s u r key change c q
+      → upd2 (followed n s u r key change) (3 * (u / 4) + n) r (patched n (u % 4) key change (s .check (3 * (u / 4) + n) r)) c q ≡ followed (suc n) s u r key change c q
   unfolding upd2
   followed-on n c q l e =
       by-both
@@ -71,8 +70,7 @@ module _ (s : Store) (u r : ℕ) (key change : List ℕ) where
       q
       r
       (λ d f. pick-true refl _ (followed n s u r key change c q) ∙ here d f)
-      (λ k. pick-false refl _ (followed n s u r key change c q)
-      ∙ followed-more n c q (λ t m. k (let g : c / 3 ≡ u / 4 = same-group c q t in omega arith) (same-rank c q t)))
+      (λ k. pick-false refl _ (followed n s u r key change c q) ∙ followed-more n c q (λ t m. k (let g : c / 3 ≡ u / 4 = same-group c q t in omega arith) (same-rank c q t)))
     where
       here : c ≡ 3 * (u / 4) + n → q ≡ r → patched n (u % 4) key change (s .check (3 * (u / 4) + n) r) ≡ followed (suc n) s u r key change c q
       here d f =
@@ -91,8 +89,7 @@ module _ (s : Store) (u r : ℕ) (key change : List ℕ) where
       let d : 3 * (u / 4) + n ≡ c = omega arith in
       e (ap (λ k. s .cstate k) d ∙ eqb-true (s .cstate c) 1 (and-second (eqb (c / 3) (u / 4) && eqb q r) (eqb (s .cstate c) 1) t)))
 
-  followed-long : (n c q : ℕ) → length key ≡ keyBytes → length change ≡ bodyBytes → length (s .check c q) ≡ checkBytes
-      → length (followed n s u r key change c q) ≡ checkBytes
+  followed-long : (n c q : ℕ) → length key ≡ keyBytes → length change ≡ bodyBytes → length (s .check c q) ≡ checkBytes → length (followed n s u r key change c q) ≡ checkBytes
   unfolding followed
   followed-long n c q a b h =
       by-pick
@@ -119,31 +116,24 @@ module _ (s₀ : List ℕ) (u r : ℕ) (key change : List ℕ) (slot : SlotIn s�
   after-shaped : (j : ℕ) → Shaped (after s₀ u r key change j)
   after-shaped j =
       let h : Shaped v = view-shaped s₀ (slot .long) in
-      checks-shaped v (followed j v u r key change) h (λ c q a b. followed-long v u r key change j c q hk hc (h .check c q a b))
+      chunks-shaped check-units v (followed j v u r key change) h (λ c q a b. followed-long v u r key change j c q hk hc (h .check c q a b))
 
   after-rest : (j : ℕ) → after s₀ u r key change j .rest ≡ v .rest
   unfolding withChecks
   after-rest j = refl
 
   after-size : (j : ℕ) → after s₀ u r key change j .size ≡ v .size
-  after-size j = checks-size v (followed j v u r key change)
+  after-size j = chunks-size check-units v (followed j v u r key change)
 
   pub following-start : Following s₀ u r key change s₀ 0
   following-start = record {
     within = omega arith;
     long = refl;
-    state =
-        sym (bytes-view s₀ (slot .long)) ∙ ap bytes (sym (checks-none v))
-        ∙ checks-ext v (v .check) (followed 0 v u r key change) (λ c q a b. followed-none v u r key change c q);
+    state = chunks-same check-units s₀ (followed 0 v u r key change) (slot .long) (λ c q a b. followed-none v u r key change c q);
   }
 
   follows : (s : List ℕ) (j : ℕ) → j ≤ 3 → s ≡ bytes (after s₀ u r key change j) → Following s₀ u r key change s j
-  follows s j h e =
-      record {
-        within = h;
-        long = ap length e ∙ same-long (after s₀ u r key change j) s₀ (after-shaped j) (slot .long) (after-size j) (after-rest j);
-        state = e;
-      }
+  follows s j h e = record { within = h; long = ap length e ∙ same-long (after s₀ u r key change j) s₀ (after-shaped j) (slot .long) (after-size j) (after-rest j); state = e }
 
   module _ (s : List ℕ) (j : ℕ) (w : Following s₀ u r key change s j) (hj : j < 3) where
     abbrev i : ℕ
@@ -163,7 +153,7 @@ module _ (s₀ : List ℕ) (u r : ℕ) (key change : List ℕ) (slot : SlotIn s�
     following-off n =
         follows s (j + 1) (omega arith)
         (w .state
-        ∙ checks-ext v (followed j v u r key change) (followed (suc j) v u r key change)
+        ∙ chunks-ext check-units v (followed j v u r key change) (followed (suc j) v u r key change)
         (λ c q a b. followed-off v u r key change j c q (λ e. n (state-read ∙ e)))
         ∙ ap (λ k. bytes (after s₀ u r key change k)) (sym (add-one j)))
 
@@ -173,13 +163,14 @@ module _ (s₀ : List ℕ) (u r : ℕ) (key change : List ℕ) (slot : SlotIn s�
         let eb′ : b ≡ after s₀ u r key change j .size = eb ∙ size-of s₀ ∙ sym (after-size j) in
         let hr : r < b = rw eb (slot .rank) in
         let old : part at checkBytes s ≡ v .check i r =
-        check-at (after s₀ u r key change j) (after-shaped j) s (w .state) b eb′ at i r ea below hr
-        ∙ ap (λ f. f i r) (checks-check v (followed j v u r key change)) ∙ followed-later v u r key change j i r (omega arith) in
+        chunk-at check-units (after s₀ u r key change j) (after-shaped j) s (w .state) b eb′ at i r ea below hr
+        ∙ ap (λ f. f i r) (chunks-there check-units v (followed j v u r key change))
+        ∙ followed-later v u r key change j i r (omega arith) in
         follows s′ (j + 1) (omega arith)
-        (check-put (after s₀ u r key change j) (after-shaped j) s (w .state) b eb′ s′ _ at i r ea below hr es
-        ∙ ap bytes (checks-again v (followed j v u r key change) i r (patched j (u % 4) key change (part at checkBytes s)))
+        (chunk-put check-units (after s₀ u r key change j) (after-shaped j) s (w .state) b eb′ s′ _ at i r ea below hr es
+        ∙ ap bytes (chunks-again check-units v (followed j v u r key change) i r (patched j (u % 4) key change (part at checkBytes s)))
         ∙ ap (λ z. bytes (withChecks v (upd2 (followed j v u r key change) i r (patched j (u % 4) key change z)))) old
-        ∙ checks-ext v _ (followed (suc j) v u r key change) (λ c q a d. followed-on v u r key change j c q hj (sym state-read ∙ on))
+        ∙ chunks-ext check-units v _ (followed (suc j) v u r key change) (λ c q a d. followed-on v u r key change j c q hj (sym state-read ∙ on))
         ∙ ap (λ k. bytes (after s₀ u r key change k)) (sym (add-one j)))
 
   pub following-end : (s : List ℕ) (j : ℕ) → Following s₀ u r key change s j → 3 ≤ j → s ≡ bytes (after s₀ u r key change 3)
@@ -189,8 +180,7 @@ module _ (s₀ : List ℕ) (u r : ℕ) (key change : List ℕ) (slot : SlotIn s�
 
 -- ---- the slot, when all have followed
 all-there : (s : Store) (u r : ℕ) (x : List ℕ)
-    → Same (withSlots (withChecks s (followed 3 s u r (take keyBytes x) (addBody (drop keyBytes (s .slot u r)) (drop keyBytes x))))
-    (upd2 (withChecks s (followed 3 s u r (take keyBytes x) (addBody (drop keyBytes (s .slot u r)) (drop keyBytes x))) .slot) u r x)) (written s u r x)
+    → Same (withSlots (withChecks s (followed 3 s u r (take keyBytes x) (addBody (drop keyBytes (s .slot u r)) (drop keyBytes x)))) (upd2 (withChecks s (followed 3 s u r (take keyBytes x) (addBody (drop keyBytes (s .slot u r)) (drop keyBytes x))) .slot) u r x)) (written s u r x)
 unfolding withSlots withChecks written followed upd2
 all-there s u r x = record {
   front = refl;
@@ -208,8 +198,8 @@ pub followed-written : (s₀ s s′ x key change : List ℕ) (u r b at : ℕ) �
 followed-written s₀ s s′ x key change u r b at slot hx eb ea ek ec e es =
     let hr : r < view s₀ .size = rw (← size-of s₀) (slot .rank) in
     let lk : length key ≡ keyBytes = ap length ek ∙ length-key bodyBytes x hx in
-    let lc : length change ≡ bodyBytes = ap length ec ∙ length-change (view s₀) u r x (view-shaped s₀ (slot .long)) (slot .unit) hr hx in
-    slot-put (after s₀ u r key change 3) (after-shaped s₀ u r key change slot lk lc 3) s e b (eb ∙ size-of s₀ ∙ sym (after-size s₀ u r key change slot lk lc 3))
-    s′ x at u r ea (slot .unit) (rw eb (slot .rank)) es
+    let lc : length change ≡ bodyBytes = ap length ec ∙ length-change (view s₀ .slot u r) x (view-shaped s₀ (slot .long) .slot u r (slot .unit) hr) hx in
+    chunk-put data-units (after s₀ u r key change 3) (after-shaped s₀ u r key change slot lk lc 3) s e b
+    (eb ∙ size-of s₀ ∙ sym (after-size s₀ u r key change slot lk lc 3)) s′ x at u r ea (slot .unit) (rw eb (slot .rank)) es
     ∙ ap₂ (λ k d. bytes (withSlots (after s₀ u r k d 3) (upd2 (after s₀ u r k d 3 .slot) u r x))) ek ec
     ∙ bytes-ext _ (written (view s₀) u r x) (all-there (view s₀) u r x)

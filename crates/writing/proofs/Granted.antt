@@ -11,15 +11,17 @@ use Rattle.buffer.specs.Choice.{pick}
 use Rattle.buffer.specs.Bytes.{byte}
 use Rattle.group.specs.Widths.{bodyBytes}
 use Rattle.model.specs.Layout.{bytes, view, slotOf}
+use Rattle.model.specs.Places.{SlotIn}
 use Rattle.model.specs.Reads.{homeIn, fillIn, rankIn}
 use Rattle.model.specs.Numbers.{Call, teach, correct, erase, unitOut, firstOf, refusalsIn}
 use Rattle.model.specs.Changes.{written, erased, unitLost}
 use Rattle.model.specs.Perform.{plain, outcome, perform, grantedIn}
 use Rattle.model.specs.PerformLaws.{Plain, of-teach, of-correct, of-erase, refused, granted, none-holds}
 use Rattle.model.specs.RowLaws.{Free, first-free, free-first, front-holds, front-free}
-use Rattle.model.specs.StoreLaws.{SlotIn, size-of}
+use Rattle.model.specs.StoreLaws.{size-of}
 use Rattle.model.specs.Sound.{sound}
-use Rattle.lookup.specs.Sized.{Sized, sound-sized}
+use Rattle.lookup.specs.Sized.{Sized}
+use Rattle.lookup.specs.SizedLaws.{sound-sized}
 use Rattle.writing.specs.Homes.{openingRows, Located, Homed}
 
 -- a store that was tested

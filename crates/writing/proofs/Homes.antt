@@ -13,9 +13,10 @@ use Rattle.model.specs.Layout.{view, keyOf}
 use Rattle.model.specs.Reads.{homeIn, outsIn}
 use Rattle.model.specs.Numbers.{firstOf}
 use Rattle.model.specs.Sound.{sound}
-use Rattle.soundness.specs.Survey.{Surveyed, fill-most, own-fill-read}
-use Rattle.lookup.specs.Sized.{sound-sized}
-use Rattle.lookup.specs.Keys.{rank-in}
+use Rattle.soundness.specs.Survey.{Surveyed}
+use Rattle.soundness.specs.SurveyLaws.{fill-most, own-fill-read}
+use Rattle.lookup.specs.SizedLaws.{sound-sized}
+use Rattle.lookup.specs.KeyLaws.{rank-in}
 use Rattle.writing.specs.Homes.{openingRows, Homed}
 
 -- a key that is refused

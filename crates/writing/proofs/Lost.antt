@@ -15,16 +15,16 @@ use Rattle.buffer.specs.SpliceLaws.{length-part}
 use Rattle.buffer.specs.Table.{upd}
 use Rattle.group.specs.Widths.{slotBytes, checkBytes}
 use Rattle.model.specs.Layout.{Store, bytes, view, storeBytes, slotAt, checkAt}
-use Rattle.model.specs.LayoutLaws.{Shaped, Same, Long, bytes-ext, bytes-view, view-shaped}
+use Rattle.model.specs.Places.{Long, data-units, check-units, Region, units, width, chunkAt}
+use Rattle.model.specs.Parts.{withDstates, withCstates, withSlots, withChecks, chunksIn, withChunks}
+use Rattle.model.specs.LayoutLaws.{Shaped, Same, bytes-ext, bytes-view, view-shaped, ranks-within, chunked}
 use Rattle.model.specs.RunLaws.{run, run-unit, length-run}
-use Rattle.model.specs.StoreLaws.{withDstates, withCstates, size-of, slots-shaped, checks-shaped, slots-clear, checks-clear, slots-within, checks-within}
-use Rattle.model.specs.StoreLaws.{dstate-set, cstate-set, withSlots, withChecks}
+use Rattle.model.specs.StoreLaws.{size-of, dstate-set, cstate-set, chunks-clear, chunks-shaped}
 use Rattle.model.specs.Changes.{unitLost}
 use Rattle.writing.specs.Places.{unitAt}
 
 lost-slots : (v : Store) (u b : ℕ) → u < 16 → b ≡ v .size
-    → Same (withDstates (withSlots v (run (v .slot) u 0 b (λ _. zeros slotBytes))) (upd (withSlots v (run (v .slot) u 0 b (λ _. zeros slotBytes)) .dstate) u 2))
-    (unitLost v u)
+    → Same (withDstates (withSlots v (run (v .slot) u 0 b (λ _. zeros slotBytes))) (upd (withSlots v (run (v .slot) u 0 b (λ _. zeros slotBytes)) .dstate) u 2)) (unitLost v u)
 unfolding withDstates withSlots unitLost
 lost-slots v u b hu eb = record {
   front = refl;
@@ -46,8 +46,7 @@ beyond-data c d =
     (λ e. let q : 16 + d ≡ 16 + c = eqb-true (16 + d) (16 + c) e in eq-eqb d c (omega arith))
 
 lost-checks : (v : Store) (c b : ℕ) → b ≡ v .size
-    → Same (withCstates (withChecks v (run (v .check) c 0 b (λ _. zeros checkBytes)))
-    (upd (withChecks v (run (v .check) c 0 b (λ _. zeros checkBytes)) .cstate) c 2)) (unitLost v (16 + c))
+    → Same (withCstates (withChecks v (run (v .check) c 0 b (λ _. zeros checkBytes))) (upd (withChecks v (run (v .check) c 0 b (λ _. zeros checkBytes)) .cstate) c 2)) (unitLost v (16 + c))
 unfolding withCstates withChecks unitLost upd
 lost-checks v c b eb = record {
   front = refl;
@@ -92,9 +91,9 @@ unit-within b w n =
     by-kind
     (λ w. w < 28 → storeBytes b ≤ n → (unitAt b w ≤ unitAt b (w + 1)) × (unitAt b (w + 1) ≤ n))
     w
-    (λ k l h. rw (data-at b w (omega arith), data-at b (w + 1) (omega arith)) (omega arith, omega (arith, slots-within b w 0 b n k (omega arith) h)))
+    (λ k l h. rw (data-at b w (omega arith), data-at b (w + 1) (omega arith)) (omega arith, omega (arith, ranks-within data-units b w 0 b n k (omega arith) h)))
     (λ c l h. rw (nth-check b (16 + c) c (omega arith), nth-check b (16 + c + 1) (c + 1) (omega arith))
-    (omega arith, omega (arith, checks-within b c 0 b n (omega arith) (omega arith) h)))
+    (omega arith, omega (arith, ranks-within check-units b c 0 b n (omega arith) (omega arith) h)))
 
 -- from the code's facts: the unit's bytes stand from `from` to `to`
 module _ (s₀ s′ z : List ℕ) (b from to at : ℕ) (long : Long s₀) (eb : b ≡ byte s₀ 5) (cleared : z ≡ zeros (length (part from (to - from) s₀))) where
@@ -107,31 +106,32 @@ module _ (s₀ s′ z : List ℕ) (b from to at : ℕ) (long : Long s₀) (eb : 
   within : (n : ℕ) → to - from ≡ n → from + n ≤ length s₀ → s ≡ splice from n (zeros n) s₀
   within n e l = rw (cleared, e, length-part from n s₀ l)
 
+  -- the store with the ranks of unit u of a region cleared
+  abbrev emptied : Region → ℕ → Store
+  emptied k u = withChunks k (view s₀) (run (chunksIn k (view s₀)) u 0 b (λ _. zeros (width k)))
+
+  emptied-shaped : (k : Region) (u : ℕ) → Shaped (emptied k u)
+  emptied-shaped k u =
+      let h : Shaped (view s₀) = view-shaped s₀ long in
+      chunks-shaped k (view s₀) _ h (λ w r a l. length-run (chunksIn k (view s₀)) u 0 b (λ _. zeros (width k)) (width k) w r (length-zeros (width k))
+      (chunked k h w r a l))
+
+  emptied-is : (k : Region) (u : ℕ) → u < units k → from ≡ chunkAt k b u 0 → to ≡ chunkAt k b (u + 1) 0 → s ≡ bytes (emptied k u)
+  emptied-is k u hu ef et =
+      let n : to - from ≡ width k * b = omega arith in
+      let room : from + width k * b ≤ length s₀ = rw ef (ranks-within k b u 0 b (length s₀) hu (omega arith) (rw eb long)) in
+      chunks-clear k (view s₀) (view-shaped s₀ long) s₀ (sym (bytes-view s₀ long)) b size s from (width k * b) u 0 b ef refl hu (omega arith)
+      (within (width k * b) n room)
+
   lost-data : (u : ℕ) → u < 16 → from ≡ slotAt b u 0 → to ≡ slotAt b (u + 1) 0 → at ≡ 8 + u → s′ ≡ set s at 2 → s′ ≡ bytes (unitLost (view s₀) u)
   lost-data u hu ef et ea es =
-      let n : to - from ≡ slotBytes * b = omega arith in
-      let h : Shaped (view s₀) = view-shaped s₀ long in
-      let room : from + slotBytes * b ≤ length s₀ = rw ef (slots-within b u 0 b (length s₀) hu (omega arith) (rw eb long)) in
-      let t : Store = withSlots (view s₀) (run (view s₀ .slot) u 0 b (λ _. zeros slotBytes)) in
-      let shaped : Shaped (withSlots (view s₀) (run (view s₀ .slot) u 0 b (λ _. zeros slotBytes))) =
-      slots-shaped (view s₀) _ h (λ w r a l. length-run (view s₀ .slot) u 0 b (λ _. zeros slotBytes)
-      slotBytes w r (length-zeros slotBytes) (h .slot w r a l)) in
-      let state =
-      slots-clear (view s₀) h s₀ (sym (bytes-view s₀ long)) b size s from (slotBytes * b) u 0 b ef refl hu (omega arith) (within (slotBytes * b) n room) in
-      dstate-set t shaped s state s′ at u 2 ea hu es ∙ bytes-ext _ (unitLost (view s₀) u) (lost-slots (view s₀) u b hu size)
+      dstate-set (emptied data-units u) (emptied-shaped data-units u) s (emptied-is data-units u hu ef et) s′ at u 2 ea hu es
+      ∙ bytes-ext _ (unitLost (view s₀) u) (lost-slots (view s₀) u b hu size)
 
   lost-check : (c : ℕ) → c < 12 → from ≡ checkAt b c 0 → to ≡ checkAt b (c + 1) 0 → at ≡ 24 + c → s′ ≡ set s at 2 → s′ ≡ bytes (unitLost (view s₀) (16 + c))
   lost-check c hc ef et ea es =
-      let n : to - from ≡ checkBytes * b = omega arith in
-      let h : Shaped (view s₀) = view-shaped s₀ long in
-      let room : from + checkBytes * b ≤ length s₀ = rw ef (checks-within b c 0 b (length s₀) hc (omega arith) (rw eb long)) in
-      let t : Store = withChecks (view s₀) (run (view s₀ .check) c 0 b (λ _. zeros checkBytes)) in
-      let shaped : Shaped (withChecks (view s₀) (run (view s₀ .check) c 0 b (λ _. zeros checkBytes))) =
-      checks-shaped (view s₀) _ h (λ w r a l. length-run (view s₀ .check) c 0 b (λ _. zeros checkBytes)
-      checkBytes w r (length-zeros checkBytes) (h .check w r a l)) in
-      let state =
-      checks-clear (view s₀) h s₀ (sym (bytes-view s₀ long)) b size s from (checkBytes * b) c 0 b ef refl hc (omega arith) (within (checkBytes * b) n room) in
-      cstate-set t shaped s state s′ at c 2 ea hc es ∙ bytes-ext _ (unitLost (view s₀) (16 + c)) (lost-checks (view s₀) c b size)
+      cstate-set (emptied check-units c) (emptied-shaped check-units c) s (emptied-is check-units c hc ef et) s′ at c 2 ea hc es
+      ∙ bytes-ext _ (unitLost (view s₀) (16 + c)) (lost-checks (view s₀) c b size)
 
   pub lost-unit : (w : ℕ) → w < 28 → from ≡ unitAt b w → to ≡ unitAt b (w + 1) → at ≡ 8 + w → s′ ≡ set s at 2 → s′ ≡ bytes (unitLost (view s₀) w)
   lost-unit w =
@@ -139,5 +139,4 @@ module _ (s₀ s′ z : List ℕ) (b from to at : ℕ) (long : Long s₀) (eb : 
       (λ w. w < 28 → from ≡ unitAt b w → to ≡ unitAt b (w + 1) → at ≡ 8 + w → s′ ≡ set s at 2 → s′ ≡ bytes (unitLost (view s₀) w))
       w
       (λ l hw ef et ea es. lost-data w l (ef ∙ data-at b w (omega arith)) (et ∙ data-at b (w + 1) (omega arith)) ea es)
-      (λ c hw ef et ea es. lost-check c (omega arith) (ef ∙ nth-check b (16 + c) c (omega arith))
-      (et ∙ nth-check b (16 + c + 1) (c + 1) (omega arith)) (omega arith) es)
+      (λ c hw ef et ea es. lost-check c (omega arith) (ef ∙ nth-check b (16 + c) c (omega arith)) (et ∙ nth-check b (16 + c + 1) (c + 1) (omega arith)) (omega arith) es)

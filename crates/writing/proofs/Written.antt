@@ -10,8 +10,9 @@ use Rattle.buffer.specs.SpliceLaws.{part-part}
 use Rattle.group.specs.Widths.{keyBytes, bodyBytes, slotBytes}
 use Rattle.group.specs.Body.{addBody}
 use Rattle.model.specs.Layout.{bytes, view, slotAt}
+use Rattle.model.specs.Places.{SlotIn}
 use Rattle.model.specs.LayoutLaws.{Shaped, view-shaped}
-use Rattle.model.specs.StoreLaws.{SlotIn, size-of, slot-in, slot-lent}
+use Rattle.model.specs.StoreLaws.{size-of, slot-in, slot-lent}
 use Rattle.model.specs.Changes.{written, erased}
 use Rattle.model.specs.ChangeLaws.{on-bytes, written-shaped, written-size, written-same}
 

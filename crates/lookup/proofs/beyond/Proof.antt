@@ -1,6 +1,6 @@
 -- `lookup::beyond` meets its contract. Assumes nothing.
 use borrow.Author.Needs.{needs}
-use Rattle.lookup.specs.Groups.{beyond-counted}
+use Rattle.lookup.specs.GroupLaws.{beyond-counted}
 use Rattle.lookup.proofs.beyond.Statement.{statement}
 use Rattle.lookup.proofs.beyond.Tie as tie
 

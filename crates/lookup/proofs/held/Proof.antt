@@ -4,7 +4,8 @@ use native.Mathlib.Omega.{arith}
 use borrow.Author.Needs.{needs}
 use Rattle.buffer.specs.Bytes.{byte}
 use Rattle.lookup.specs.Parts.{handed-back}
-use Rattle.lookup.specs.Slots.{heldAt, held-fits, held-part}
+use Rattle.lookup.specs.Slots.{heldAt}
+use Rattle.lookup.specs.SlotLaws.{held-fits, held-part}
 use Rattle.lookup.proofs.held.Statement.{statement}
 use Rattle.lookup.proofs.held.Tie as tie
 

@@ -3,8 +3,8 @@ use mathlib.Core.Path.{ap, _∙_}
 use native.Mathlib.Omega.{arith}
 use borrow.Author.Needs.{needs}
 use Rattle.buffer.specs.Bytes.{be32}
-use Rattle.lookup.specs.Sized.{slot-fits}
-use Rattle.lookup.specs.Keys.{slot-key}
+use Rattle.lookup.specs.SizedLaws.{slot-fits}
+use Rattle.lookup.specs.KeyLaws.{slot-key}
 use Rattle.lookup.proofs.key_at.Statement.{statement}
 use Rattle.lookup.proofs.key_at.Tie as tie
 

@@ -1,7 +1,7 @@
 -- `lookup::listed_rank` meets its contract. Assumes nothing.
 use borrow.Author.Needs.{needs}
 use Rattle.buffer.specs.Strided.{within-fewer}
-use Rattle.lookup.specs.Keys.{lists-known, listed-rank-found}
+use Rattle.lookup.specs.KeyLaws.{lists-known, listed-rank-found}
 use Rattle.lookup.proofs.listed_rank.Statement.{statement}
 use Rattle.lookup.proofs.listed_rank.Tie as tie
 

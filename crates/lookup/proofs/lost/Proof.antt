@@ -7,7 +7,7 @@ use borrow.Author.Needs.{needs}
 use Rattle.buffer.specs.LoopTests.{Missing, missing-start, missing-turn}
 use Rattle.model.specs.Layout.{view}
 use Rattle.model.specs.Reads.{beyondIn}
-use Rattle.lookup.specs.Groups.{lost-some, lost-none}
+use Rattle.lookup.specs.GroupLaws.{lost-some, lost-none}
 use Rattle.lookup.proofs.lost.Statement.{statement}
 use Rattle.lookup.proofs.lost.Tie as tie
 

@@ -1,7 +1,7 @@
 -- `lookup::members` meets its contract. Assumes nothing.
 use mathlib.Core.Path.{_∙_}
 use borrow.Author.Needs.{needs}
-use Rattle.lookup.specs.Groups.{four-states}
+use Rattle.lookup.specs.GroupLaws.{four-states}
 use Rattle.lookup.proofs.members.Statement.{statement}
 use Rattle.lookup.proofs.members.Tie as tie
 

@@ -1,6 +1,6 @@
 -- `lookup::rank` meets its contract. Assumes nothing.
 use borrow.Author.Needs.{needs}
-use Rattle.lookup.specs.Keys.{unit-within, rank-found}
+use Rattle.lookup.specs.KeyLaws.{unit-within, rank-found}
 use Rattle.lookup.proofs.rank.Statement.{statement}
 use Rattle.lookup.proofs.rank.Tie as tie
 

@@ -6,7 +6,7 @@ use lib.ListN.{length, getD}
 use borrow.Author.Needs.{needs}
 use Rattle.model.specs.Layout.{view}
 use Rattle.model.specs.Reads.{holds}
-use Rattle.lookup.specs.Slots.{length-holds, weighed-held}
+use Rattle.lookup.specs.SlotLaws.{length-holds, weighed-held}
 use Rattle.lookup.proofs.rebuild_body.Statement.{statement}
 use Rattle.lookup.proofs.rebuild_body.Tie as tie
 

@@ -9,8 +9,9 @@ use Rattle.buffer.specs.Bytes.{be32, zeros}
 use Rattle.model.specs.Layout.{view, keyOf}
 use Rattle.model.specs.Reads.{listedKey}
 use Rattle.buffer.specs.Strided.{strided32}
-use Rattle.lookup.specs.Keys.{Lists, lists-key}
-use Rattle.lookup.specs.Slots.{recipe-keys, out-key-long, body-rebuilt, slot-rebuilt, slot-none}
+use Rattle.lookup.specs.Keys.{Lists}
+use Rattle.lookup.specs.KeyLaws.{lists-key}
+use Rattle.lookup.specs.SlotLaws.{recipe-keys, out-key-long, body-rebuilt, slot-rebuilt, slot-none}
 use Rattle.buffer.specs.SpliceLaws.{part-lent}
 use Rattle.lookup.proofs.Lent.{body-room, two-parts}
 use Rattle.lookup.proofs.rebuild_slot.Statement.{statement}

@@ -1,7 +1,7 @@
 -- `lookup::weights` meets its contract. Assumes nothing.
 use native.Mathlib.Omega.{arith}
 use Rattle.group.specs.RebuildingLaws.{members-within}
-use Rattle.lookup.specs.Slots.{recipe-members}
+use Rattle.lookup.specs.SlotLaws.{recipe-members}
 use Rattle.lookup.proofs.weights.Statement.{statement}
 use Rattle.lookup.proofs.weights.Tie as tie
 

@@ -5,9 +5,9 @@ use native.Mathlib.Omega.{arith}
 use borrow.Author.Needs.{needs}
 use Rattle.buffer.specs.Bytes.{byte}
 use Rattle.model.specs.Layout.{slotAt}
-use Rattle.lookup.specs.Sized.{slot-fits}
+use Rattle.lookup.specs.SizedLaws.{slot-fits}
 use Rattle.lookup.specs.States.{state-byte}
-use Rattle.lookup.specs.Slots.{body-own, body-out}
+use Rattle.lookup.specs.SlotLaws.{body-own, body-out}
 use Rattle.buffer.specs.SpliceLaws.{part-lent}
 use Rattle.reading.proofs.copy_body.Statement.{statement}
 use Rattle.reading.proofs.copy_body.Tie as tie

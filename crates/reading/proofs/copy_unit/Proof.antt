@@ -5,9 +5,9 @@ use native.Mathlib.Omega.{arith}
 use borrow.Author.Needs.{needs}
 use Rattle.buffer.specs.Bytes.{byte, part}
 use Rattle.model.specs.Layout.{slotAt}
-use Rattle.lookup.specs.Sized.{slots-fit}
+use Rattle.lookup.specs.SizedLaws.{slots-fit}
 use Rattle.lookup.specs.States.{state-byte}
-use Rattle.lookup.specs.Slots.{own-slots}
+use Rattle.lookup.specs.SlotLaws.{own-slots}
 use Rattle.buffer.specs.SpliceLaws.{part-lent}
 use Rattle.reading.proofs.copy_unit.Statement.{statement}
 use Rattle.reading.proofs.copy_unit.Tie as tie

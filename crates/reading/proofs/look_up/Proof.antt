@@ -5,10 +5,11 @@ use native.Mathlib.Omega.{arith}
 use borrow.Author.Needs.{needs}
 use borrow.Author.Tests.{not-true, not-false}
 use Rattle.model.specs.Layout.{view}
-use Rattle.lookup.specs.Groups.{goneIn, recoverable-known}
+use Rattle.lookup.specs.Groups.{goneIn}
+use Rattle.lookup.specs.GroupLaws.{recoverable-known}
 use Rattle.lookup.specs.Sized.{Sized}
 use Rattle.lookup.specs.UnitCases.{home-found}
-use Rattle.soundness.specs.Survey.{found-sized, outs-read, first-check-read}
+use Rattle.soundness.specs.SurveyLaws.{found-sized, outs-read, first-check-read}
 use Rattle.reading.proofs.Verdicts.{refusal, no-key, no-room, unsound, Sought, sought-sized, lost, there, listed-read, absent, present}
 use Rattle.reading.proofs.look_up.Statement.{statement}
 use Rattle.reading.proofs.look_up.Tie as tie

@@ -8,7 +8,7 @@ use Rattle.buffer.specs.ByteLaws.{length-zeros}
 use Rattle.group.specs.Widths.{bodyBytes}
 use Rattle.model.specs.Layout.{slotAt}
 use Rattle.model.specs.Numbers.{Call, numberIn}
-use Rattle.lookup.specs.Sized.{slot-fits}
+use Rattle.lookup.specs.SizedLaws.{slot-fits}
 use Rattle.lookup.specs.States.{state-byte}
 use Rattle.reading.specs.Found.{Placed}
 use Rattle.reading.specs.Rows.{read-rows}

@@ -9,7 +9,7 @@ use Rattle.buffer.specs.LoopWrites.{Appending, appending-start, appending-turn,
 use Rattle.group.specs.Widths.{slotBytes}
 use Rattle.model.specs.Layout.{view}
 use Rattle.model.specs.Reads.{wholeSlot}
-use Rattle.lookup.specs.Slots.{length-whole}
+use Rattle.lookup.specs.SlotLaws.{length-whole}
 use Rattle.buffer.specs.SpliceLaws.{length-lent, put-lent}
 use Rattle.reading.proofs.Lists.{slots-wide, filled-whole}
 use Rattle.reading.proofs.rebuild_unit.Statement.{statement}

@@ -9,8 +9,8 @@ use Rattle.buffer.specs.Table.{tab}
 use Rattle.buffer.specs.LoopWrites.{Appending, appending-start, appending-turn, appending-end}
 use Rattle.model.specs.Layout.{view}
 use Rattle.model.specs.Reads.{listedFill, wholeSlot}
-use Rattle.lookup.specs.Keys.{listed-fill-small}
-use Rattle.lookup.specs.Groups.{whole-unit}
+use Rattle.lookup.specs.KeyLaws.{listed-fill-small}
+use Rattle.lookup.specs.GroupLaws.{whole-unit}
 use Rattle.buffer.specs.SpliceLaws.{length-lent, put-lent}
 use Rattle.reading.proofs.Lists.{fill-at, first-check-at, records, records-long, records-fit, listing-is}
 use Rattle.reading.proofs.write_records.Statement.{statement}

@@ -6,7 +6,8 @@ use mathlib.Core.Path.{_∙_}
 use Prim.Native.Nat.{_+_, _*_, _-_}
 use lib.ListN.{length, getD}
 use Rattle.buffer.specs.Bytes.{part, splice}
-use Rattle.model.specs.StoreLaws.{check-within}
+use Rattle.model.specs.Places.{check-units}
+use Rattle.model.specs.LayoutLaws.{rank-within}
 use Rattle.repairing.proofs.Making.{Making, making-start, making-place, making-turn, making-end}
 use Rattle.repairing.proofs.make_unit.Statement.{statement}
 use Rattle.repairing.proofs.make_unit.Tie as tie
@@ -32,7 +33,11 @@ part-copy-end : tie.Need-part-copy-end Inv-loop μ-loop
 part-copy-end c =
     let l = c .before .before .before .before in
     let e = l .before .before .before in
-    omega (arith, check-within (getD (e .args .s .now) 5 0) (3 * e .args .g + e .args .j) (l .loop .r) (length (e .args .s .now)) (omega arith) (search needs) (e .pre .0 .long))
+    omega (
+      arith,
+      rank-within check-units (getD (e .args .s .now) 5 0) (3 * e .args .g + e .args .j) (l .loop .r) (length (e .args .s .now)) (omega arith)
+          (search needs) (e .pre .0 .long),
+    )
 
 add-r : tie.Need-add-r Inv-loop μ-loop
 add-r c = let k = c .before .before .before .before .before .before .before .before .before .before in omega (arith, k .slice-known2 .given 5)

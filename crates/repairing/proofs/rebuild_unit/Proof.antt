@@ -6,7 +6,8 @@ use native.Mathlib.Omega.{arith}
 use Prim.Native.Nat.{_-_}
 use lib.ListN.{length, getD}
 use Rattle.buffer.specs.Bytes.{part, splice}
-use Rattle.model.specs.StoreLaws.{slot-within}
+use Rattle.model.specs.Places.{data-units}
+use Rattle.model.specs.LayoutLaws.{rank-within}
 use Rattle.repairing.proofs.Rebuilding.{Rebuilding, rebuilding-start, rebuilding-recipe, rebuilding-keys, rebuilding-rank, rebuilding-turn, rebuilding-end}
 use Rattle.repairing.proofs.rebuild_unit.Statement.{statement}
 use Rattle.repairing.proofs.rebuild_unit.Tie as tie
@@ -31,7 +32,11 @@ part-copy-end c =
     let l = c .before .before .before .before .before .before in
     let e = l .before .before .before in
     let n = length (e .args .s .now) in
-    omega (arith, slot-within (getD (e .args .s .now) 5 0) (e .args .u) (l .loop .r) n (e .pre .0 .unit .unit) (search needs) (e .pre .0 .unit .sized .long))
+    omega (
+      arith,
+      rank-within data-units (getD (e .args .s .now) 5 0) (e .args .u) (l .loop .r) n (e .pre .0 .unit .unit) (search needs)
+          (e .pre .0 .unit .sized .long),
+    )
 
 loop-again : tie.Need-loop-again Inv-loop μ-loop
 unfolding part splice

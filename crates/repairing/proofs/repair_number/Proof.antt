@@ -7,7 +7,7 @@ use borrow.Author.Tests.{ltb-false}
 use Rattle.buffer.specs.Choice.{pick}
 use Rattle.model.specs.Numbers.{firstOf, refusalsIn}
 use Rattle.model.specs.StoreLaws.{units-of}
-use Rattle.soundness.specs.Survey.{found-sized, outs-read}
+use Rattle.soundness.specs.SurveyLaws.{found-sized, outs-read}
 use borrow.Author.Needs.{needs}
 use Rattle.repairing.proofs.repair_number.Statement.{statement}
 use Rattle.repairing.proofs.repair_number.Tie as tie

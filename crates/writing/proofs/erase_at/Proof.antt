@@ -3,7 +3,8 @@ use native.Mathlib.Omega.{arith}
 use native.Mathlib.Nat.{add-sub-cancel-left}
 use mathlib.Core.Path.{refl, _∙_}
 use Rattle.buffer.specs.Bytes.{zeros, part}
-use Rattle.model.specs.StoreLaws.{slot-end, slot-lent}
+use Rattle.model.specs.LayoutLaws.{place-end}
+use Rattle.model.specs.StoreLaws.{slot-lent}
 use Rattle.writing.proofs.Written.{written-in, erased-bytes}
 use borrow.Author.Needs.{needs}
 use Rattle.writing.proofs.erase_at.Statement.{statement}
@@ -12,7 +13,7 @@ use Rattle.writing.proofs.erase_at.Tie as tie
 part-copy-end : tie.Need-part-copy-end
 part-copy-end c =
     let e = c .before .before .before .before .before in
-    omega (arith, slot-end (e .pre .1))
+    omega (arith, place-end (e .pre .1))
 
 write-slot-requires-2 : tie.Need-write-slot-requires-2
 write-slot-requires-2 c κs =

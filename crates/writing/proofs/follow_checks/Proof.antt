@@ -7,7 +7,8 @@ use mathlib.Core.Logic.{⊎-elim}
 use lib.ListN.{length, getD}
 use borrow.Author.Needs.{needs}
 use Rattle.buffer.specs.Bytes.{part, splice}
-use Rattle.model.specs.StoreLaws.{check-within}
+use Rattle.model.specs.Places.{check-units}
+use Rattle.model.specs.LayoutLaws.{rank-within}
 use Rattle.writing.proofs.Following.{Following, following-start, following-on, following-off, following-end}
 use Rattle.writing.proofs.follow_checks.Statement.{statement}
 use Rattle.writing.proofs.follow_checks.Tie as tie
@@ -28,8 +29,11 @@ part-follow-end c =
     let l = c .before .before .before .before .before in
     let e = l .before .before .before in
     let a = e .args in
-    let s = a .s .now in
-    omega (arith, check-within (getD s 5 0) (3 * (a .u / 4) + l .loop .j) (a .r) (length s) (omega arith) (e .pre .0 .rank) (e .pre .0 .long))
+    omega (
+      arith,
+      rank-within check-units (getD (a .s .now) 5 0) (3 * (a .u / 4) + l .loop .j) (a .r) (length (a .s .now)) (omega arith) (e .pre .0 .rank)
+          (e .pre .0 .long),
+    )
 
 follow-requires : tie.Need-follow-requires Inv-loop μ-loop
 follow-requires c κs = (search needs, search needs, search needs, search needs)
@@ -45,8 +49,7 @@ loop-again c =
     (λ w.
     following-on _ _ _ _ _ (e .pre .0) (search (needs, key)) (search (needs, change)) _ _ (l .loop .inv) (search needs) _ _ _
     (rw (c .before .before .wide .ensures .0) at (w .0 .taken)) refl (w .1 .ensures .0) (w .6 ∙ rw (w .3 .ensures) (simp add-sub-cancel-left)))
-    (λ w. rw (w .1) (following-off _ _ _ _ _ (e .pre .0) (search (needs, key)) (search (needs, change)) _ _ (l .loop .inv) (search needs)
-    (rw (c .before .before .wide .ensures .0) at (w .0 .left))))
+    (λ w. rw (w .1) (following-off _ _ _ _ _ (e .pre .0) (search (needs, key)) (search (needs, change)) _ _ (l .loop .inv) (search needs) (rw (c .before .before .wide .ensures .0) at (w .0 .left))))
     (c .if1 .came)
 
 returns : tie.Need-returns Inv-loop μ-loop

@@ -12,7 +12,7 @@ use Rattle.buffer.specs.ChoiceLaws.{pick-true}
 use Rattle.model.specs.Layout.{view}
 use Rattle.model.specs.Numbers.{firstOf}
 use Rattle.model.specs.Reads.{outsIn}
-use Rattle.soundness.specs.Survey.{found-sized, outs-read, fill-most}
+use Rattle.soundness.specs.SurveyLaws.{found-sized, outs-read, fill-most}
 use Rattle.lookup.specs.Sized.{Sized}
 use Rattle.lookup.specs.UnitCases.{home-found}
 use Rattle.writing.specs.Homes.{openingRows}

@@ -5,7 +5,7 @@ use mathlib.Core.Path.{_≡_, refl, _∙_}
 use lib.ListN.{length}
 use Rattle.buffer.specs.Bytes.{part, splice}
 use Rattle.group.specs.Widths.{slotBytes}
-use Rattle.model.specs.StoreLaws.{slot-end}
+use Rattle.model.specs.LayoutLaws.{place-end}
 use Rattle.writing.proofs.Following.{followed-written}
 use Rattle.writing.proofs.Written.{slot-change}
 use borrow.Author.Needs.{needs}
@@ -15,12 +15,12 @@ use Rattle.writing.proofs.write_slot.Tie as tie
 part-change-of-end : tie.Need-part-change-of-end
 part-change-of-end c =
     let e = c .before .before .before .before in
-    omega (arith, slot-end (e .pre .0))
+    omega (arith, place-end (e .pre .0))
 
 part-copy-end : tie.Need-part-copy-end
 part-copy-end c =
     let e = c .before .before .before .before .before .before .before .before .before .before .before .before .before .before in
-    omega (arith, slot-end (e .pre .0))
+    omega (arith, place-end (e .pre .0))
 
 returns : tie.Need-returns
 unfolding part splice

@@ -4,19 +4,19 @@ use native.Mathlib.Omega.{arith}
 use native.Mathlib.Nat.{add-sub-cancel-left}
 use Rattle.buffer.specs.Bytes.{part, splice}
 use Rattle.model.specs.Layout.{view}
-use Rattle.model.specs.StoreLaws.{slot-end}
+use Rattle.model.specs.LayoutLaws.{place-end}
 use Rattle.splitting.proofs.dealing.move_record.Statement.{statement}
 use Rattle.splitting.proofs.dealing.move_record.Tie as tie
 
 part-copy-end : tie.Need-part-copy-end
 part-copy-end c =
     let e = c .before .before .before .before .before .before in
-    omega (arith, slot-end (e .pre .0))
+    omega (arith, place-end (e .pre .0))
 
 part-copy-end-2 : tie.Need-part-copy-end-2
 part-copy-end-2 c =
     let e = c .before .before .before .before .before .before .before .before .before in
-    omega (arith, slot-end (e .pre .1))
+    omega (arith, place-end (e .pre .1))
 
 returns : tie.Need-returns
 unfolding view part splice

@@ -5,7 +5,7 @@ use mathlib.Core.Path.{_≡_, refl, sym, ap, _∙_}
 use native.Mathlib.Omega.{arith}
 use Rattle.buffer.specs.Bytes.{byte, splice}
 use Rattle.group.specs.Widths.{keysBytes, bodyBytes}
-use Rattle.model.specs.StoreLaws.{check-end}
+use Rattle.model.specs.LayoutLaws.{place-end}
 use Rattle.splitting.proofs.Ranks.{put-serving, put-nothing}
 use Rattle.splitting.proofs.making.put_check.Statement.{statement}
 use Rattle.splitting.proofs.making.put_check.Tie as tie
@@ -13,13 +13,13 @@ use Rattle.splitting.proofs.making.put_check.Tie as tie
 part-copy-end : tie.Need-part-copy-end
 part-copy-end c =
     let e = c .before .before .before .before .before .before in
-    omega (arith, check-end (e .pre), c .check-at .ensures .0)
+    omega (arith, place-end (e .pre), c .check-at .ensures .0)
 
 part-copy-end-2 : tie.Need-part-copy-end-2
 part-copy-end-2 c =
     let at = c .before .before .before .before .before in
     let e = at .before .before .before .before .before .before in
-    omega (arith, check-end (e .pre), at .check-at .ensures .0)
+    omega (arith, place-end (e .pre), at .check-at .ensures .0)
 
 returns : tie.Need-returns
 unfolding splice

@@ -1,0 +1,222 @@
+-- Two stores are alike where they differ in the bodies of records and in parity bytes alone: header, states, keys and key lists are the same, and so
+-- are slots without a record and check units that are not in service. Then what the calls read of states and keys is the same, and the parts that
+-- their bytes show are alike again. Assumes nothing.
+use Prim.Native.Nat.{ℕ, _+_, _*_, _-_, _/_, _%_, _<_}
+use mathlib.Core.Path.{_≡_, refl, sym, ap, ap₂, _∙_}
+use mathlib.Core.List.{List}
+use mathlib.Core.Bool.{Bool, true, false}
+use native.Mathlib.Omega.{arith}
+use native.Mathlib.Nat.{zero-add}
+use lib.Dec.{eqb, ltb}
+use lib.ListN.{length, take}
+use borrow.Author.Tests.{ltb-true, ltb-false}
+use Rattle.buffer.specs.Choice.{pick}
+use Rattle.buffer.specs.ChoiceLaws.{pick-ext}
+use Rattle.buffer.specs.Range.{first}
+use Rattle.buffer.specs.RangeLaws.{first-ext, count-ext}
+use Rattle.buffer.specs.Bytes.{byte, zeros, part}
+use Rattle.buffer.specs.ByteLaws.{length-zeros}
+use Rattle.buffer.specs.SpliceLaws.{part-part}
+use Rattle.group.specs.Widths.{keyBytes, keysBytes, slotBytes, checkBytes}
+use Rattle.group.specs.Members.{outs, checks, beyond}
+use Rattle.model.specs.Units.{unitOf}
+use Rattle.model.specs.Layout.{Store, bytes, view, unitsIn, levelIn, keyOf}
+use Rattle.model.specs.LayoutLaws.{Shaped, Same, view-bytes, key-first}
+use Rattle.model.specs.Reads.{homeIn, fillIn, rankIn, stateIn, outsIn, beyondIn, firstCheck, listedKey, listedFill}
+use Rattle.model.specs.ReadLaws.{fill-le}
+use Rattle.model.specs.Sound.{checksIn}
+
+-- two slots with one key; an empty slot is the same
+pub record LikeSlot (x y : List ℕ) : Type 0 where
+  pub key : take keyBytes x ≡ take keyBytes y
+  pub left : length x ≡ slotBytes
+  pub right : length y ≡ slotBytes
+  pub keyless : keyOf x ≡ 0 → x ≡ y
+
+-- two check records with one list of keys
+pub record LikeCheck (x y : List ℕ) : Type 0 where
+  pub keys : take keysBytes x ≡ take keysBytes y
+  pub left : length x ≡ checkBytes
+  pub right : length y ≡ checkBytes
+
+pub record Alike (v w : Store) : Type 0 where
+  pub front : v .front ≡ w .front
+  pub whole : length (v .front) ≡ 8
+  pub sized : byte (v .front) 5 ≡ v .size
+  pub size : v .size ≡ w .size
+  pub dstate : (u : ℕ) → u < 16 → v .dstate u ≡ w .dstate u
+  pub cstate : (c : ℕ) → c < 12 → v .cstate c ≡ w .cstate c
+  pub slot : (u r : ℕ) → u < 16 → r < v .size → LikeSlot (v .slot u r) (w .slot u r)
+  pub check : (c r : ℕ) → c < 12 → r < v .size → LikeCheck (v .check c r) (w .check c r)
+  pub idle : (c r : ℕ) → c < 12 → r < v .size → eqb (v .cstate c) 1 ≡ false → v .check c r ≡ w .check c r
+  pub rest : v .rest ≡ w .rest
+
+-- what one test picks on either side
+pub pick-both : {A : Type 0} (R : A → A → Type 0) (t : Bool) (x y x′ y′ : A) → (t ≡ true → R x y) → (t ≡ false → R x′ y′) → R (pick t x x′) (pick t y y′)
+unfolding pick
+pick-both R true x y x′ y′ h k = h refl
+pick-both R false x y x′ y′ h k = k refl
+
+-- ---- one slot, and one check record
+
+pub slot-refl : (x : List ℕ) → length x ≡ slotBytes → LikeSlot x x
+slot-refl x e = record { key = refl; left = e; right = e; keyless = λ _. refl }
+
+pub no-slot : LikeSlot (zeros slotBytes) (zeros slotBytes)
+no-slot = slot-refl (zeros slotBytes) (length-zeros slotBytes)
+
+pub no-check : LikeCheck (zeros checkBytes) (zeros checkBytes)
+no-check = record { keys = refl; left = length-zeros checkBytes; right = length-zeros checkBytes }
+
+pub key-like : {x y : List ℕ} → LikeSlot x y → keyOf x ≡ keyOf y
+key-like {x} {y} h = sym (key-first x) ∙ ap keyOf (h .key) ∙ key-first y
+
+-- a key that a check record lists stands in its first bytes
+pub listed-first : (p : ℕ) (x : List ℕ) → p < 4 → part (keyBytes * p) keyBytes (take keysBytes x) ≡ part (keyBytes * p) keyBytes x
+unfolding part
+listed-first p x a = part-part 0 keysBytes (keyBytes * p) keyBytes x (omega arith) ∙ ap (λ (k : ℕ). part k keyBytes x) (zero-add (keyBytes * p))
+
+pub listed-like : {x y : List ℕ} → LikeCheck x y → (p : ℕ) → p < 4 → part (keyBytes * p) keyBytes x ≡ part (keyBytes * p) keyBytes y
+listed-like {x} {y} h p a = sym (listed-first p x a) ∙ ap (part (keyBytes * p) keyBytes) (h .keys) ∙ listed-first p y a
+
+-- ---- a store of the right sizes is alike to itself
+
+pub alike-refl : (v : Store) → Shaped v → Alike v v
+alike-refl v h = record {
+  front = refl;
+  whole = h .front;
+  sized = h .size;
+  size = refl;
+  dstate = λ u l. refl;
+  cstate = λ c l. refl;
+  slot = λ u r l m. slot-refl (v .slot u r) (h .slot u r l m);
+  check = λ c r l m. record { keys = refl; left = h .check c r l m; right = h .check c r l m };
+  idle = λ c r l m e. refl;
+  rest = refl;
+}
+
+-- ---- the parts have the sizes that the layout gives them, and are read back from the bytes
+
+module _ (v w : Store) (a : Alike v w) where
+  pub left-shaped : Shaped v
+  left-shaped = record { front = a .whole; size = a .sized; slot = λ u r l m. a .slot u r l m .left; check = λ c r l m. a .check c r l m .left }
+
+  pub right-shaped : Shaped w
+  right-shaped = record {
+    front = ap length (sym (a .front)) ∙ a .whole;
+    size = ap (λ (x : List ℕ). byte x 5) (sym (a .front)) ∙ a .sized ∙ a .size;
+    slot = λ u r l m. a .slot u r l (omega (arith, a .size)) .right;
+    check = λ c r l m. a .check c r l (omega (arith, a .size)) .right;
+  }
+
+  pub seen-alike : Alike (view (bytes v)) (view (bytes w))
+  seen-alike =
+      let s : Same (view (bytes v)) v = view-bytes v left-shaped in
+      let t : Same (view (bytes w)) w = view-bytes w right-shaped in
+      record {
+        front = s .front ∙ a .front ∙ sym (t .front);
+        whole = ap length (s .front) ∙ a .whole;
+        sized = ap (λ (x : List ℕ). byte x 5) (s .front) ∙ a .sized ∙ sym (s .size);
+        size = s .size ∙ a .size ∙ sym (t .size);
+        dstate = λ u l. s .dstate u l ∙ a .dstate u l ∙ sym (t .dstate u l);
+        cstate = λ c l. s .cstate c l ∙ a .cstate c l ∙ sym (t .cstate c l);
+        slot = λ u r l m.
+            let n : r < v .size = omega (arith, s .size) in
+            rw (s .slot u r l n, t .slot u r l (omega (arith, a .size))) (a .slot u r l n);
+        check = λ c r l m.
+            let n : r < v .size = omega (arith, s .size) in
+            rw (s .check c r l n, t .check c r l (omega (arith, a .size))) (a .check c r l n);
+        idle = λ c r l m e.
+            let n : r < v .size = omega (arith, s .size) in
+            s .check c r l n ∙ a .idle c r l n (ap (λ (k : ℕ). eqb k 1) (sym (s .cstate c l)) ∙ e) ∙ sym (t .check c r l (omega (arith, a .size)));
+        rest = s .rest ∙ a .rest ∙ sym (t .rest);
+      }
+
+  -- ---- the header and the states
+
+  pub units-alike : unitsIn v ≡ unitsIn w
+  unfolding unitsIn
+  units-alike = ap (λ (x : List ℕ). byte x 6) (a .front)
+
+  pub level-alike : levelIn v ≡ levelIn w
+  unfolding levelIn
+  level-alike = ap (λ (x : List ℕ). byte x 7) (a .front)
+
+  pub home-alike : (k : ℕ) → homeIn v k ≡ homeIn w k
+  unfolding homeIn
+  home-alike k = ap (λ (m : ℕ). unitOf m k) units-alike
+
+  pub state-alike : (n : ℕ) → n < 28 → stateIn v n ≡ stateIn w n
+  unfolding stateIn
+  state-alike n l =
+      pick-ext (ltb n 16) (v .dstate n) (v .cstate (n - 16)) (w .dstate n) (w .cstate (n - 16))
+      (λ e. a .dstate n (ltb-true n 16 e)) (λ e. a .cstate (n - 16) (omega (arith, ltb-false n 16 e)))
+
+  -- a test of the states of a group's data units, and of its check units, by place
+  data-states : (f : ℕ → Bool) (g : ℕ) → g < 4 → (p : ℕ) → p < 4 → f (v .dstate (4 * g + p)) ≡ f (w .dstate (4 * g + p))
+  data-states f g l p m = ap f (a .dstate (4 * g + p) (omega arith))
+
+  pub check-states : (f : ℕ → Bool) (g : ℕ) → g < 4 → (j : ℕ) → j < 3 → f (v .cstate (3 * g + j)) ≡ f (w .cstate (3 * g + j))
+  check-states f g l j m = ap f (a .cstate (3 * g + j) (omega arith))
+
+  pub outs-alike : (g : ℕ) → g < 4 → outsIn v g ≡ outsIn w g
+  unfolding outsIn outs
+  outs-alike g l = ap₂ (λ (m n : ℕ). m + n) (count-ext 4 _ _ (data-states (λ n. eqb n 2) g l)) (count-ext 3 _ _ (check-states (λ n. eqb n 2) g l))
+
+  pub beyond-alike : (g : ℕ) → g < 4 → beyondIn v g ≡ beyondIn w g
+  unfolding beyondIn beyond checks
+  beyond-alike g l = ap₂ ltb (count-ext 3 _ _ (check-states (ltb 0) g l)) (unfold outsIn in outs-alike g l)
+
+  pub checks-alike : (g : ℕ) → g < 4 → checksIn v g ≡ checksIn w g
+  unfolding checksIn
+  checks-alike g l = first-ext 3 _ _ (check-states (λ n. eqb n 0) g l)
+
+  -- ---- keys
+
+  pub fill-alike : (u : ℕ) → u < 16 → fillIn v u ≡ fillIn w u
+  unfolding fillIn
+  fill-alike u l =
+      first-ext (v .size) (λ r. eqb (keyOf (v .slot u r)) 0) (λ r. eqb (keyOf (w .slot u r)) 0) (λ r m. ap (λ (n : ℕ). eqb n 0) (key-like (a .slot u r l m)))
+      ∙ ap (λ (n : ℕ). first n (λ r. eqb (keyOf (w .slot u r)) 0)) (a .size)
+
+  pub rank-alike : (u : ℕ) → u < 16 → (k : ℕ) → rankIn v u k ≡ rankIn w u k
+  unfolding rankIn
+  rank-alike u l k =
+      first-ext (fillIn v u) (λ r. eqb (keyOf (v .slot u r)) k) (λ r. eqb (keyOf (w .slot u r)) k)
+      (λ r m. ap (λ (n : ℕ). eqb n k) (key-like (a .slot u r l (omega (arith, fill-le v u)))))
+      ∙ ap (λ (n : ℕ). first n (λ r. eqb (keyOf (w .slot u r)) k)) (fill-alike u l)
+
+  -- the first check unit in service of a group that has one
+  abbrev pub Served : ℕ → Type 0
+  Served g = first 3 (λ j. eqb (v .cstate (3 * g + j)) 1) < 3
+
+  first-check-alike : (g : ℕ) → g < 4 → firstCheck v g ≡ firstCheck w g
+  unfolding firstCheck
+  first-check-alike g l = ap (λ (n : ℕ). 3 * g + n) (first-ext 3 _ _ (check-states (λ n. eqb n 1) g l))
+
+  pub first-check-low : (g : ℕ) → g < 4 → Served g → firstCheck v g < 12
+  unfolding firstCheck
+  first-check-low g l h = omega arith
+
+  -- the listed keys of a unit, where it is not out or a check unit of its group is in service
+  module _ (u : ℕ) (hu : u < 16) (known : eqb (v .dstate u) 2 ≡ true → Served (u / 4)) where
+    kept-alike : (r : ℕ) → r < v .size → Served (u / 4)
+        → part (keyBytes * (u % 4)) keyBytes (v .check (firstCheck v (u / 4)) r) ≡ part (keyBytes * (u % 4)) keyBytes (w .check (firstCheck w (u / 4)) r)
+    kept-alike r m h =
+        listed-like (a .check (firstCheck v (u / 4)) r (first-check-low (u / 4) (omega arith) h) m) (u % 4) (omega arith)
+        ∙ ap (λ (c : ℕ). part (keyBytes * (u % 4)) keyBytes (w .check c r)) (first-check-alike (u / 4) (omega arith))
+
+    pub listed-alike : (r : ℕ) → r < v .size → listedKey v u r ≡ listedKey w u r
+    unfolding listedKey
+    listed-alike r m =
+        pick-ext (eqb (v .dstate u) 2)
+        (part (keyBytes * (u % 4)) keyBytes (v .check (firstCheck v (u / 4)) r)) (take keyBytes (v .slot u r))
+        (part (keyBytes * (u % 4)) keyBytes (w .check (firstCheck w (u / 4)) r)) (take keyBytes (w .slot u r))
+        (λ e. kept-alike r m (known e)) (λ e. a .slot u r hu m .key)
+        ∙ ap (λ (n : ℕ). pick (eqb n 2) (part (keyBytes * (u % 4)) keyBytes (w .check (firstCheck w (u / 4)) r)) (take keyBytes (w .slot u r))) (a .dstate u hu)
+
+    pub listed-fill-alike : listedFill v u ≡ listedFill w u
+    unfolding listedFill
+    listed-fill-alike =
+        first-ext (v .size) _ _ (λ r m. ap (λ (x : List ℕ). eqb (keyOf x) 0) (listed-alike r m))
+        ∙ ap (λ (n : ℕ). first n (λ r. eqb (keyOf (listedKey w u r)) 0)) (a .size)

@@ -1,0 +1,146 @@
+-- A repair leads from alike stores to alike stores: keys are those that a check unit lists, whatever bodies are rebuilt. Assumes nothing.
+use Prim.Native.Nat.{ℕ, _+_, _*_, _-_, _/_, _%_, _≤_, _<_}
+use mathlib.Core.Path.{_≡_, refl, sym, ap, _∙_}
+use mathlib.Core.List.{List, _++_}
+use mathlib.Core.Bool.{Bool, true, false, _&&_}
+use native.Mathlib.Omega.{arith}
+use lib.Dec.{eqb, ltb}
+use lib.ListN.{length, take, drop, getD, length-append, length-drop}
+use lib.Seq.{take-at}
+use borrow.Author.Tests.{eqb-true, eqb-false, ltb-true, ltb-false}
+use Rattle.buffer.specs.Choice.{pick}
+use Rattle.buffer.specs.ChoiceLaws.{by-pick, by-test, pick-true, pick-false}
+use Rattle.buffer.specs.TestLaws.{not-both}
+use Rattle.buffer.specs.RangeLaws.{first-found}
+use Rattle.buffer.specs.Bytes.{zeros, part}
+use Rattle.buffer.specs.ByteLaws.{be32-left}
+use Rattle.buffer.specs.SpliceLaws.{length-part}
+use Rattle.buffer.specs.TableLaws.{tab-ext}
+use Rattle.group.specs.Widths.{keyBytes, bodyBytes, keysBytes, slotBytes}
+use Rattle.group.specs.Members.{firstFour}
+use Rattle.group.specs.MembersLaws.{Members, first-four}
+use Rattle.group.specs.Rebuilding.{rebuilt}
+use Rattle.group.specs.WeighedLaws.{length-weighed}
+use Rattle.group.specs.CheckRecord.{checkRecord}
+use Rattle.group.specs.CheckRecordLaws.{length-body, length-checkRecord, checkRecord-keys}
+use Rattle.model.specs.Layout.{Store, keyOf}
+use Rattle.model.specs.LayoutLaws.{Shaped}
+use Rattle.model.specs.Reads.{beyondIn, servesIn, holds, firstCheck, listedKey, wholeSlot}
+use Rattle.model.specs.ReadLaws.{four-serve, check-serves}
+use Rattle.model.specs.Changes.{repaired}
+use Rattle.model.proofs.history.alike.Alike.{LikeSlot, LikeCheck, Alike, pick-both, no-slot, left-shaped, right-shaped, beyond-alike, Served}
+use Rattle.model.proofs.history.alike.Alike.{first-check-low, listed-alike}
+
+-- check records made anew from alike slots
+pub anew-like : (j : ℕ) (f g : ℕ → List ℕ) → ((p : ℕ) → p < 4 → LikeSlot (f p) (g p)) → LikeCheck (checkRecord j f) (checkRecord j g)
+anew-like j f g h = record {
+  keys =
+      checkRecord-keys bodyBytes j f (λ p l. h p l .left)
+      ∙ tab-ext 4 (λ p. take keyBytes (f p)) (λ p. take keyBytes (g p)) (λ p l. h p l .key)
+      ∙ sym (checkRecord-keys bodyBytes j g (λ p l. h p l .right));
+  left = length-checkRecord bodyBytes j f (λ p l. h p l .left);
+  right = length-checkRecord bodyBytes j g (λ p l. h p l .right);
+}
+
+-- ---- the group g of one store, which is not beyond recovery
+
+module _ (v : Store) (h : Shaped v) (g : ℕ) (hg : g < 4) (low : (j : ℕ) → j < 3 → v .cstate (3 * g + j) ≤ 2) (nb : beyondIn v g ≡ false) where
+  module _ (r : ℕ) (hr : r < v .size) where
+    length-held : (m : ℕ) → m < 7 → length (holds v g r m) ≡ bodyBytes
+    unfolding holds
+    length-held m l =
+        by-pick (λ (x : List ℕ). length x ≡ bodyBytes) (ltb m 4) (drop keyBytes (v .slot (4 * g + m) r)) (drop keysBytes (v .check (3 * g + (m - 4)) r))
+        (λ e. length-body bodyBytes (v .slot (4 * g + m) r) (h .slot (4 * g + m) r (omega (arith, ltb-true m 4 e)) hr))
+        (λ e. simp length-drop (omega (arith, h .check (3 * g + (m - 4)) r (omega (arith, ltb-false m 4 e)) hr)))
+
+    length-rebuilt : (p : ℕ) → length (rebuilt (servesIn v g) (holds v g r) p) ≡ bodyBytes
+    unfolding rebuilt
+    length-rebuilt p =
+        let four : Members (servesIn v g) (firstFour (servesIn v g)) = first-four (servesIn v g) (four-serve v g low nb) in
+        length-weighed bodyBytes _ (λ i. holds v g r (getD (firstFour (servesIn v g)) i 0))
+        (λ i l. length-held (getD (firstFour (servesIn v g)) i 0) (four .low i l))
+
+-- the listed key of a unit out of that group
+length-listed : (v : Store) → Shaped v → (u r : ℕ) → firstCheck v (u / 4) < 12 → r < v .size → eqb (v .dstate u) 2 ≡ true → length (listedKey v u r) ≡ keyBytes
+unfolding listedKey
+length-listed v h u r l m e =
+    ap length (pick-true e (part (keyBytes * (u % 4)) keyBytes (v .check (firstCheck v (u / 4)) r)) (take keyBytes (v .slot u r)))
+    ∙ length-part (keyBytes * (u % 4)) keyBytes (v .check (firstCheck v (u / 4)) r) (omega (arith, h .check (firstCheck v (u / 4)) r l m))
+
+-- slots with one key that is not 0
+joined-like : (k l x y : List ℕ) → k ≡ l → length k ≡ keyBytes → length l ≡ keyBytes → length x ≡ bodyBytes → length y ≡ bodyBytes → eqb (keyOf k) 0 ≡ false
+    → LikeSlot (k ++ x) (l ++ y)
+unfolding keyOf
+joined-like k l x y e a b c d n = record {
+  key = take-at k x keyBytes a ∙ e ∙ sym (take-at l y keyBytes b);
+  left = length-append k x ∙ omega arith;
+  right = length-append l y ∙ omega arith;
+  keyless = λ z. absurd (eqb-false (keyOf k) 0 n (sym (be32-left k x 0 (omega arith)) ∙ z));
+}
+
+-- ---- the group g of two alike stores
+
+module _ (v w : Store) (a : Alike v w) (g : ℕ) (hg : g < 4) (low : (c : ℕ) → c < 12 → v .cstate c ≤ 2) (nb : beyondIn v g ≡ false) where
+  left-low : (j : ℕ) → j < 3 → v .cstate (3 * g + j) ≤ 2
+  left-low j l = low (3 * g + j) (omega arith)
+
+  right-low : (j : ℕ) → j < 3 → w .cstate (3 * g + j) ≤ 2
+  right-low j l = omega (arith, a .cstate (3 * g + j) (omega arith), low (3 * g + j) (omega arith))
+
+  right-near : beyondIn w g ≡ false
+  right-near = sym (beyond-alike v w a g hg) ∙ nb
+
+  served : (u : ℕ) → u / 4 ≡ g → eqb (v .dstate u) 2 ≡ true → Served v w a (u / 4)
+  served u d e =
+      let k : 4 * g + u % 4 ≡ u = omega arith in
+      rw d (first-found 3 _ (check-serves v g left-low nb (u % 4) (omega arith) (ap (λ (n : ℕ). eqb (v .dstate n) 2) k ∙ e)))
+
+  module _ (u r : ℕ) (hu : u < 16) (hr : r < v .size) (d : u / 4 ≡ g) where
+    keys-same : listedKey v u r ≡ listedKey w u r
+    keys-same = listed-alike v w a u hu (served u d) r hr
+
+    rebuilt-like : eqb (v .dstate u) 2 ≡ true → eqb (keyOf (listedKey v u r)) 0 ≡ false
+        → LikeSlot (listedKey v u r ++ rebuilt (servesIn v (u / 4)) (holds v (u / 4) r) (u % 4))
+        (listedKey w u r ++ rebuilt (servesIn w (u / 4)) (holds w (u / 4) r) (u % 4))
+    rebuilt-like e n =
+        let lv : length (listedKey v u r) ≡ keyBytes =
+        length-listed v (left-shaped v w a) u r (first-check-low v w a (u / 4) (omega arith) (served u d e)) hr e in
+        rw d (joined-like (listedKey v u r) (listedKey w u r) _ _ keys-same lv (ap length (sym keys-same) ∙ lv)
+        (length-rebuilt v (left-shaped v w a) g hg left-low nb r hr (u % 4))
+        (length-rebuilt w (right-shaped v w a) g hg right-low right-near r (omega (arith, a .size)) (u % 4)) n)
+
+    whole-like : LikeSlot (wholeSlot v u r) (wholeSlot w u r)
+    unfolding wholeSlot
+    whole-like = rw (← (a .dstate u hu))
+        (pick-both LikeSlot (eqb (v .dstate u) 2) _ _ (v .slot u r) (w .slot u r)
+        (λ e. rw (ap (λ (x : List ℕ). eqb (keyOf x) 0) (sym keys-same))
+        (pick-both LikeSlot (eqb (keyOf (listedKey v u r)) 0) (zeros slotBytes) (zeros slotBytes) _ _ (λ _. no-slot) (λ n. rebuilt-like e n)))
+        (λ e. a .slot u r hu hr))
+
+  pub repaired-alike : Alike (repaired v g) (repaired w g)
+  unfolding repaired
+  repaired-alike = record {
+    front = a .front;
+    whole = a .whole;
+    sized = a .sized;
+    size = a .size;
+    dstate = λ u l. rw (a .dstate u l);
+    cstate = λ c l. rw (a .cstate c l);
+    slot = λ u r l m. pick-both LikeSlot (eqb (u / 4) g) (wholeSlot v u r) (wholeSlot w u r) (v .slot u r) (w .slot u r)
+        (λ e. whole-like u r l m (eqb-true (u / 4) g e)) (λ _. a .slot u r l m);
+    check = λ c r l m. rw (← (a .cstate c l))
+        (pick-both LikeCheck (eqb (c / 3) g && eqb (v .cstate c) 2) (made v c r) (made w c r) (v .check c r) (w .check c r)
+        (λ _. anew-like (c % 3) _ _ (λ p n. whole-like (4 * g + p) r (omega arith) m (omega arith)))
+        (λ _. a .check c r l m));
+    idle = λ c r l m. rw (← (a .cstate c l))
+        (by-test (λ (t : Bool). eqb (pick t 1 (v .cstate c)) 1 ≡ false → pick t (made v c r) (v .check c r) ≡ pick t (made w c r) (w .check c r))
+        (eqb (c / 3) g && eqb (v .cstate c) 2)
+        (λ _ e. not-both (ap (λ (n : ℕ). eqb n 1) (pick-true refl 1 (v .cstate c))) e)
+        (λ _ e. pick-false refl (made v c r) (v .check c r)
+        ∙ a .idle c r l m (ap (λ (n : ℕ). eqb n 1) (sym (pick-false refl 1 (v .cstate c))) ∙ e)
+        ∙ sym (pick-false refl (made w c r) (w .check c r))));
+    rest = a .rest;
+  }
+    where
+      made : Store → ℕ → ℕ → List ℕ
+      made s c r = checkRecord (c % 3) (λ p. wholeSlot s (4 * g + p) r)

@@ -1,0 +1,160 @@
+-- What is sound stays sound in an alike store: no clause of soundness looks at the body of a record or at parity bytes. Assumes nothing.
+use Prim.Native.Nat.{ℕ, _+_, _*_, _/_, _%_, _<_}
+use mathlib.Core.Path.{_≡_, refl, sym, ap, ap₂, _∙_}
+use mathlib.Core.List.{List}
+use mathlib.Core.Bool.{Bool, true, false, not, _&&_, _||_}
+use native.Mathlib.Omega.{arith}
+use lib.Dec.{eqb, ltb}
+use lib.ListN.{length}
+use borrow.Author.Tests.{eqb-true, ltb-true, ltb-false}
+use Rattle.buffer.specs.Choice.{pick}
+use Rattle.buffer.specs.ChoiceLaws.{by-test}
+use Rattle.buffer.specs.TestLaws.{not-both, and-true}
+use Rattle.buffer.specs.Range.{all, first}
+use Rattle.buffer.specs.RangeLaws.{all-ext, all-holds, first-misses, first-le-at}
+use Rattle.buffer.specs.Bytes.{byte, be32, zeros}
+use Rattle.buffer.specs.ByteLaws.{be32-ext, be32-zeros}
+use Rattle.group.specs.Widths.{slotBytes, checkBytes}
+use Rattle.model.specs.Units.{unitOf}
+use Rattle.model.specs.Layout.{Store, bytes, view, storeBytes, unitsIn, keyOf}
+use Rattle.model.specs.LayoutLaws.{byte-front, length-bytes}
+use Rattle.model.specs.Reads.{fillIn, listedKey, listedFill}
+use Rattle.model.specs.Sound.{same, ranges, unitsPlaced, checksIn, groupsPlaced, zeroed, keysKnown, keysPlaced, listsAgree, sound}
+use Rattle.model.specs.SoundLaws.{same-true}
+use Rattle.model.specs.SoundSays.{slot-test, check-test, Zeroed, zeroed-says, clauses}
+use Rattle.model.proofs.history.alike.Alike.{Alike, left-shaped, right-shaped, seen-alike, units-alike, level-alike, check-states, checks-alike}
+use Rattle.model.proofs.history.alike.Alike.{fill-alike, Served, listed-like, listed-alike, listed-fill-alike}
+
+-- ---- tests
+
+or-carry : (t x y : Bool) → (t ≡ false → x ≡ true → y ≡ true) → (t || x) ≡ true → (t || y) ≡ true
+or-carry true x y h e = refl
+or-carry false x y h e = h refl e
+
+unless-ext : (k l x y : Bool) → k ≡ l → (k ≡ true → x ≡ y) → (not k || x) ≡ (not l || y)
+unless-ext k l x y e h = ap (λ t. not t || x) e ∙ go l (λ q. h (e ∙ q))
+  where
+    go : (t : Bool) → (t ≡ true → x ≡ y) → (not t || x) ≡ (not t || y)
+    go true h = h refl
+    go false h = refl
+
+-- tests over ranges of one length
+all-over : (n m : ℕ) (p q : ℕ → Bool) → n ≡ m → ((k : ℕ) → k < n → p k ≡ q k) → all n p ≡ all m q
+all-over n m p q e h = all-ext n p q h ∙ ap (λ (k : ℕ). all k q) e
+
+-- where a test does not fail throughout, it holds at some place
+not-all-first : (n : ℕ) (f : ℕ → Bool) → not (all n (λ j. not (f j))) ≡ true → first n f < n
+not-all-first n f e =
+    by-test (λ (t : Bool). first n f < n) (ltb (first n f) n) (λ q. ltb-true (first n f) n q)
+    (λ q. not-both e (ap not (all-holds n (λ j. not (f j)) (λ k l. ap not (first-misses n f k (omega (arith, ltb-false (first n f) n q)))))))
+
+-- ---- the parts
+
+module _ (v w : Store) (a : Alike v w) where
+  units-placed : unitsPlaced v ≡ unitsPlaced w
+  unfolding unitsPlaced
+  units-placed = all-ext 16 _ _ (λ u l. rw (a .dstate u l, units-alike v w a))
+
+  groups-placed : groupsPlaced v ≡ groupsPlaced w
+  unfolding groupsPlaced
+  groups-placed = all-ext 4 _ _ (λ g l. rw (places g l, checks-alike v w a g l, units-alike v w a, level-alike v w a))
+    where
+      places : (g : ℕ) → g < 4
+          → all 3 (λ j. pick (ltb j (checksIn v g)) (eqb (v .cstate (3 * g + j)) 1 || eqb (v .cstate (3 * g + j)) 2) (eqb (v .cstate (3 * g + j)) 0))
+          ≡ all 3 (λ j. pick (ltb j (checksIn w g)) (eqb (w .cstate (3 * g + j)) 1 || eqb (w .cstate (3 * g + j)) 2) (eqb (w .cstate (3 * g + j)) 0))
+      places g l = all-ext 3 _ _ (λ j m. rw (checks-alike v w a g l, a .cstate (3 * g + j) (omega arith)))
+
+  slot-carry : (u r : ℕ) → u < 16 → r < v .size → slot-test v u r ≡ true → slot-test w u r ≡ true
+  unfolding keyOf
+  slot-carry u r l m e = rw (← (a .dstate u l), ← (fill-alike v w a u l))
+      (or-carry (eqb (v .dstate u) 1 && ltb r (fillIn v u)) (same (v .slot u r) (zeros slotBytes)) (same (w .slot u r) (zeros slotBytes))
+      (λ _ q. ap (λ (x : List ℕ). same x (zeros slotBytes))
+      (sym (a .slot u r l m .keyless (ap (λ (x : List ℕ). be32 x 0) (same-true (v .slot u r) (zeros slotBytes) q) ∙ be32-zeros slotBytes 0))) ∙ q) e)
+
+  check-carry : (c r : ℕ) → c < 12 → r < v .size → check-test v c r ≡ true → check-test w c r ≡ true
+  check-carry c r l m e = rw (← (a .cstate c l))
+      (or-carry (eqb (v .cstate c) 1) (same (v .check c r) (zeros checkBytes)) (same (w .check c r) (zeros checkBytes))
+      (λ t q. ap (λ (x : List ℕ). same x (zeros checkBytes)) (sym (a .idle c r l m t)) ∙ q) e)
+
+  zeros-kept : zeroed v ≡ true → zeroed w ≡ true
+  unfolding zeroed
+  zeros-kept e =
+      let z : Zeroed v = zeroed-says v e in
+      and-true
+      (all-holds 16 (λ u. all (w .size) (slot-test w u)) (λ u l. all-holds (w .size) (slot-test w u) (λ r m.
+      let n : r < v .size = omega (arith, a .size) in slot-carry u r l n (z .slots u r l n))))
+      (all-holds 12 (λ c. all (w .size) (check-test w c)) (λ c l. all-holds (w .size) (check-test w c) (λ r m.
+      let n : r < v .size = omega (arith, a .size) in check-carry c r l n (z .checks c r l n))))
+
+  -- ---- keys
+
+  known-same : (u : ℕ) → u < 16 → keysKnown v u ≡ keysKnown w u
+  unfolding keysKnown
+  known-same u l =
+      let off : ℕ → ℕ → Bool = λ i j. not (eqb (v .cstate (3 * i + j)) 1) in
+      rw (a .dstate u l, all-ext 3 (off (u / 4)) _ (check-states v w a (λ n. not (eqb n 1)) (u / 4) (omega arith)))
+
+  known-served : (u : ℕ) → keysKnown v u ≡ true → eqb (v .dstate u) 2 ≡ true → Served v w a (u / 4)
+  unfolding keysKnown
+  known-served u e d =
+      not-all-first 3 (λ j. eqb (v .cstate (3 * (u / 4) + j)) 1)
+      (rw (eqb-true (v .dstate u) 2 d) at e)
+
+  module _ (u : ℕ) (hu : u < 16) (known : eqb (v .dstate u) 2 ≡ true → Served v w a (u / 4)) where
+    key-test : (r : ℕ) → r < v .size
+        → pick (ltb r (listedFill v u))
+        (eqb (unitOf (unitsIn v) (keyOf (listedKey v u r))) u && all r (λ q. not (eqb (keyOf (listedKey v u q)) (keyOf (listedKey v u r)))))
+        (eqb (keyOf (listedKey v u r)) 0)
+        ≡ pick (ltb r (listedFill w u))
+        (eqb (unitOf (unitsIn w) (keyOf (listedKey w u r))) u && all r (λ q. not (eqb (keyOf (listedKey w u q)) (keyOf (listedKey w u r)))))
+        (eqb (keyOf (listedKey w u r)) 0)
+    key-test r m =
+        let others =
+        all-ext r (λ q. not (eqb (keyOf (listedKey v u q)) (keyOf (listedKey v u r)))) (λ q. not (eqb (keyOf (listedKey w u q)) (keyOf (listedKey v u r))))
+        (λ q n. ap (λ (x : List ℕ). not (eqb (keyOf x) (keyOf (listedKey v u r)))) (listed-alike v w a u hu known q (omega arith))) in
+        rw (others, listed-alike v w a u hu known r m, listed-fill-alike v w a u hu known, units-alike v w a)
+
+  keys-placed : keysPlaced v ≡ keysPlaced w
+  unfolding keysPlaced
+  keys-placed = all-ext 16 _ _ (λ u l. unless-ext (keysKnown v u) (keysKnown w u) _ _ (known-same u l) (λ e.
+      all-over (v .size) (w .size) _ _ (a .size) (λ r m. key-test u l (known-served u e) r m)))
+
+  -- ---- the lists of the check units
+
+  lists-agree : listsAgree v ≡ listsAgree w
+  unfolding listsAgree
+  lists-agree = all-ext 12 _ _ (λ c l. unless-ext (eqb (v .cstate c) 1) (eqb (w .cstate c) 1) _ _ (ap (λ (n : ℕ). eqb n 1) (a .cstate c l)) (λ e.
+      all-over (v .size) (w .size) _ _ (a .size) (λ r m. all-ext 4 _ _ (λ p d. ap₂ eqb
+      (ap keyOf (listed-like (a .check c r l m) p d))
+      (ap keyOf (listed-alike v w a (4 * (c / 3) + p) (omega arith) (λ _. served c l e p d) r m))))))
+    where
+      served : (c : ℕ) → c < 12 → eqb (v .cstate c) 1 ≡ true → (p : ℕ) → p < 4 → Served v w a ((4 * (c / 3) + p) / 4)
+      served c l e p d =
+          let g : (4 * (c / 3) + p) / 4 ≡ c / 3 = omega arith in
+          let k : 3 * (c / 3) + c % 3 ≡ c = omega arith in
+          rw g (omega (arith, first-le-at 3 (λ j. eqb (v .cstate (3 * (c / 3) + j)) 1) (c % 3) (omega arith) (ap (λ (n : ℕ). eqb (v .cstate n) 1) k ∙ e)))
+
+  -- ---- ranges
+
+  same-byte : (i : ℕ) → i < 8 → byte (bytes v) i ≡ byte (bytes w) i
+  same-byte i l = byte-front v (left-shaped v w a) i l ∙ ap (λ (x : List ℕ). byte x i) (a .front) ∙ sym (byte-front w (right-shaped v w a) i l)
+
+  same-long : length (bytes v) ≡ length (bytes w)
+  same-long =
+      length-bytes v (left-shaped v w a) ∙ ap₂ (λ (n : ℕ) (x : List ℕ). storeBytes n + length x) (a .size) (a .rest) ∙ sym (length-bytes w (right-shaped v w a))
+
+  same-ranges : ranges (bytes v) ≡ ranges (bytes w)
+  unfolding ranges
+  same-ranges =
+      let number : be32 (bytes v) 1 ≡ be32 (bytes w) 1 = be32-ext (bytes v) 1 (bytes w) 1 (λ k l. same-byte (1 + k) (omega arith)) in
+      rw (same-byte 0 (omega arith), same-byte 5 (omega arith), same-byte 6 (omega arith), same-byte 7 (omega arith), number, same-long)
+
+-- SOUND STAYS SOUND
+pub sound-alike : (v w : Store) → Alike v w → sound (bytes v) ≡ true → sound (bytes w) ≡ true
+unfolding sound
+sound-alike v w a e =
+    let x : Store = view (bytes v) in
+    let y : Store = view (bytes w) in
+    let b : Alike x y = seen-alike v w a in
+    let z : zeroed x ≡ true = clauses (bytes v) e .zeros in
+    rw (← (same-ranges v w a), ← (units-placed x y b), ← (groups-placed x y b), zeros-kept x y b z ∙ sym z, ← (keys-placed x y b), ← (lists-agree x y b)) e

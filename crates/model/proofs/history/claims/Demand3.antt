@@ -1,0 +1,132 @@
+-- Demand 3: a taught position outlives its unit. Assumes nothing.
+use Prim.Native.Nat.{ℕ, _*_, _/_, _≤_}
+use mathlib.Core.Path.{_≡_, refl, sym, ap, _∙_}
+use mathlib.Core.List.{List}
+use mathlib.Core.Option.{none}
+use mathlib.Core.Bool.{Bool, _&&_}
+use native.Mathlib.Omega.{arith}
+use lib.Dec.{eqb, ltb, leb}
+use lib.ListN.{length, drop}
+use borrow.Author.Tests.{ltb-false}
+use Rattle.buffer.specs.Choice.{pick}
+use Rattle.buffer.specs.ChoiceLaws.{pick-false, pick-ext}
+use Rattle.model.specs.Layout.{view, storeBytes, unitsIn, Store}
+use Rattle.model.specs.Reads.{homeIn, beyondIn}
+use Rattle.model.specs.Numbers.{Call, read, repair, firstOf, numberIn}
+use Rattle.model.specs.Perform.{copied, perform, layOutNumber, layOut}
+use Rattle.model.specs.GrantedLayout.{layout-granted}
+use Rattle.model.specs.history.Ledger.{Ledger, opened, home}
+use Rattle.model.specs.history.Picture.{picture}
+use Rattle.model.specs.history.Table.{refusals, number}
+use Rattle.model.specs.history.Answers.{final}
+use Rattle.model.specs.history.Runs.{answersIn, finalIn, aloneIn, allGranted, lastTaught, asTaught}
+use Rattle.model.specs.history.Typed.{AllTyped}
+use Rattle.model.specs.history.Claims.{Histories, Unlost, ReadsAsTaught, BeyondRecovery, Outlives}
+use Rattle.group.specs.Widths.{bodyBytes}
+use Rattle.model.proofs.history.ledger.Valid.{Valid}
+use Rattle.model.proofs.history.taught.Recorded.{recorded}
+use Rattle.model.proofs.history.taught.Taught.{lastTaughtBy, recorded-final, recorded-opened, read-tells}
+use Rattle.model.proofs.history.picture.Seen.{units-seen, state-seen, beyond-seen}
+use Rattle.model.proofs.history.calls.Simulation.{number-agrees, answer-agrees}
+use Rattle.model.proofs.history.calls.Opened.{layout-is, layout-picture, opened-valid}
+use Rattle.model.proofs.history.calls.Read.{lost-row, read-simulated}
+use Rattle.model.proofs.history.calls.Repair.{repair-simulated}
+use Rattle.model.proofs.history.alone.Lossless.{lossless, alone, allGrantedBy, final-lossless, alone-again, lossless-opened, lossless-state, alone-typed}
+use Rattle.model.proofs.history.alone.Unlost.{lossless-valid, same-unit}
+use Rattle.model.proofs.history.claims.History.{Run, ordered-of, run}
+
+-- ---- on the picture of a valid ledger
+
+module _ (l : Ledger) (rest : List ℕ) (h : Valid l) where
+  abbrev v : Store
+  v = view (picture l rest)
+
+  -- a read tells what the ledger holds for the key
+  tells : (k : ℕ) → 1 ≤ k → (out : List ℕ) → length out ≡ bodyBytes
+      → perform (picture l rest) (read k out) .answer
+      ≡ pick (eqb (v .dstate (homeIn v k)) 2 && beyondIn v (homeIn v k / 4)) (copied 8 out) (asTaught out (recorded l k))
+  tells k a out fits =
+      answer-agrees l rest (read k out) (read-simulated l rest h k out)
+      ∙ read-tells l (ordered-of l h) k (omega arith) out fits (λ r. h .good (home l k) r .body .size)
+      ∙ ap (λ (t : Bool). pick t (copied 8 out) (asTaught out (recorded l k))) (sym (lost-row l rest h k))
+
+  -- a repair is refused as beyond recovery exactly where it is
+  repairs : (g : ℕ) → numberIn (picture l rest) (repair g) ≡ pick (ltb 3 g) 2 (pick (leb (unitsIn v) (4 * g)) 3 (pick (beyondIn v g) 8 0))
+  unfolding number refusals firstOf
+  repairs g =
+      number-agrees l rest (repair g) (repair-simulated l rest h g)
+      ∙ pick-ext (ltb 3 g) 2 _ 2 _ (λ e. refl)
+      (λ e. pick-false refl _ _ ∙ sym (rw (units-seen l rest h, beyond-seen l rest h g (omega (arith, ltb-false 3 g e)))))
+
+-- ---- from a granted layout
+
+module _ (s : List ℕ) (b : ℕ) (zero : layOutNumber s b ≡ 0) (cs : List Call) (typed : AllTyped cs) where
+  abbrev rest : List ℕ
+  rest = drop (storeBytes b) s
+
+  abbrev end : Ledger
+  end = final (opened b) cs
+
+  start : layOut s b .store ≡ picture (opened b) (drop (storeBytes b) s)
+  start = layout-is s b zero ∙ layout-picture b s
+
+  opened-is : Valid (opened b)
+  opened-is = opened-valid b (layout-granted s b zero .least) (layout-granted s b zero .most)
+
+  whole : Run (opened b) (drop (storeBytes b) s) cs
+  whole = run cs (opened b) rest opened-is typed
+
+  -- the lasting calls alone
+  lasting : Run (opened b) (drop (storeBytes b) s) (alone (opened b) cs)
+  lasting = run (alone (opened b) cs) (opened b) rest opened-is (alone-typed cs (opened b) typed)
+
+  left-is : finalIn (layOut s b .store) cs ≡ picture end rest
+  left-is = ap (λ (x : List ℕ). finalIn x cs) start ∙ whole .left
+
+  alone-is : aloneIn (layOut s b .store) cs ≡ alone (opened b) cs
+  alone-is = ap (λ (x : List ℕ). aloneIn x cs) start ∙ whole .alone
+
+  alone-left : finalIn (layOut s b .store) (aloneIn (layOut s b .store) cs) ≡ picture (lossless end) rest
+  alone-left =
+      ap (finalIn (layOut s b .store)) alone-is
+      ∙ ap (λ (x : List ℕ). finalIn x (alone (opened b) cs)) start
+      ∙ lasting .left
+      ∙ ap (λ (l : Ledger). picture l rest) (ap (λ (l : Ledger). final l (alone (opened b) cs)) (sym (lossless-opened b)) ∙ final-lossless cs (opened b))
+
+  histories : Histories s b cs
+  histories = record { answered = ap (λ (x : List ℕ). answersIn x cs) start ∙ whole .answered; pictured = left-is }
+
+  unlost : Unlost s b cs
+  unlost = record {
+    again =
+        ap (allGranted (layOut s b .store)) alone-is
+        ∙ ap (λ (x : List ℕ). allGranted x (alone (opened b) cs)) start
+        ∙ lasting .granted
+        ∙ ap (λ (l : Ledger). allGrantedBy l (alone (opened b) cs)) (sym (lossless-opened b))
+        ∙ alone-again cs (opened b);
+    serves = λ w a. rw (alone-left, left-is) (λ e.
+        state-seen (lossless end) rest (lossless-valid end (whole .valid)) w a ∙ lossless-state end w (sym (state-seen end rest (whole .valid) w a) ∙ e));
+    holds = λ w a. rw (alone-left, left-is) (λ e. same-unit end rest (whole .valid) w a (sym (state-seen end rest (whole .valid) w a) ∙ e));
+  }
+
+  -- the ledger holds for a key what was last taught
+  stands : (k : ℕ) → recorded end k ≡ lastTaught k (layOut s b .store) cs none
+  stands k =
+      recorded-final k cs (opened b) (whole .ordered)
+      ∙ ap (lastTaughtBy k (opened b) cs) (recorded-opened b k)
+      ∙ sym (ap (λ (x : List ℕ). lastTaught k x cs none) start ∙ whole .taught k none)
+
+  reads-as-taught : ReadsAsTaught s b cs
+  reads-as-taught k a out fits = rw (left-is, ← (stands k)) (tells end rest (whole .valid) k a out fits)
+
+  beyond-recovery : BeyondRecovery s b cs
+  beyond-recovery g = rw left-is (repairs end rest (whole .valid) g)
+
+-- DEMAND 3
+pub outlives : (s : List ℕ) (b : ℕ) → layOutNumber s b ≡ 0 → (cs : List Call) → AllTyped cs → Outlives s b cs
+outlives s b zero cs typed = record {
+  histories = histories s b zero cs typed;
+  unlost = unlost s b zero cs typed;
+  reads-as-taught = reads-as-taught s b zero cs typed;
+  beyond-recovery = beyond-recovery s b zero cs typed;
+}

@@ -1,0 +1,91 @@
+-- The state of a unit in a ledger, and what it says: in place, in service, out. Assumes nothing.
+use Prim.Native.Nat.{ℕ, _+_, _*_, _-_, _/_, _%_, _≤_, _<_}
+use mathlib.Core.Path.{_≡_, refl, ap, _∙_}
+use mathlib.Core.Bool.{Bool, true, false, _&&_, not}
+use native.Mathlib.Omega.{arith}
+use lib.Dec.{eqb, ltb}
+use borrow.Author.Tests.{ltb-false, lt-ltb, le-ltb}
+use Rattle.buffer.specs.Choice.{pick}
+use Rattle.buffer.specs.Range.{count}
+use Rattle.buffer.specs.RangeLaws.{count-zero}
+use Rattle.buffer.specs.TestLaws.{not-both}
+use Rattle.model.specs.SoundSays.{Stateful}
+use Rattle.model.specs.history.Ledger.{Ledger, placed, isOut, state, outsOf}
+
+module _ (l : Ledger) where
+  -- a unit is out, in service, or not in place: whether it is in place, whether it is marked out, and its state
+  pub by-state {ℓ} : (P : Bool → Bool → ℕ → Type ℓ) (w : ℕ) → P true true 2 → P true false 1 → ((o : Bool) → P false o 0)
+      → P (placed l w) (l .out w) (state l w)
+  unfolding state pick
+  by-state P w lost serves absent = go (placed l w) (l .out w)
+    where
+      go : (p o : Bool) → P p o (pick p (pick o 2 1) 0)
+      go true true = lost
+      go true false = serves
+      go false o = absent o
+
+  pub state-out : (w : ℕ) → eqb (state l w) 2 ≡ isOut l w
+  unfolding isOut
+  state-out w = by-state (λ p o n. eqb n 2 ≡ (p && o)) w refl refl (λ o. refl)
+
+  pub state-placed : (w : ℕ) → ltb 0 (state l w) ≡ placed l w
+  state-placed w = by-state (λ p o n. ltb 0 n ≡ p) w refl refl (λ o. refl)
+
+  pub state-le : (w : ℕ) → state l w ≤ 2
+  state-le w = by-state (λ p o n. n ≤ 2) w (omega arith) (omega arith) (λ o. omega arith)
+
+  pub state-in : (w : ℕ) → placed l w ≡ true → isOut l w ≡ false → state l w ≡ 1
+  unfolding isOut
+  state-in w = by-state (λ p o n. p ≡ true → (p && o) ≡ false → n ≡ 1) w (λ e f. not-both refl f) (λ e f. refl) (λ o e f. not-both e refl)
+
+  pub state-none : (w : ℕ) → eqb (state l w) 0 ≡ not (placed l w)
+  state-none w = by-state (λ p o n. eqb n 0 ≡ not p) w refl refl (λ o. refl)
+
+  -- it is one that a sound store may have
+  pub state-fits : (w : ℕ) → Stateful (placed l w) (state l w)
+  unfolding pick
+  state-fits w = by-state (λ p o n. Stateful p n) w refl refl (λ o. refl)
+
+  -- a data unit, and a check unit
+  pub placed-unit : (u : ℕ) → u < 16 → placed l u ≡ ltb u (l .units)
+  unfolding placed pick
+  placed-unit u a = rw (lt-ltb u 16 a)
+
+  pub placed-check : (c : ℕ) → placed l (16 + c) ≡ ltb (c % 3) (l .checks (c / 3))
+  unfolding placed pick
+  placed-check c =
+      let e : 16 + c - 16 ≡ c = omega arith in
+      rw (le-ltb (16 + c) 16 (omega arith), e)
+
+  pub placed-place : (g j : ℕ) → j < 3 → placed l (16 + (3 * g + j)) ≡ ltb j (l .checks g)
+  placed-place g j a =
+      let d : (3 * g + j) / 3 ≡ g = omega arith in
+      let m : (3 * g + j) % 3 ≡ j = omega arith in
+      placed-check (3 * g + j) ∙ rw (d, m)
+
+  pub data-state : (u : ℕ) → u < 16 → state l u ≡ pick (ltb u (l .units)) (pick (l .out u) 2 1) 0
+  unfolding state
+  data-state u a = rw (placed-unit u a)
+
+  pub check-state : (c : ℕ) → state l (16 + c) ≡ pick (ltb (c % 3) (l .checks (c / 3))) (pick (l .out (16 + c)) 2 1) 0
+  unfolding state
+  check-state c = rw (placed-check c)
+
+  -- a group with no unit out: no data unit, and no check unit
+  none-data : (g : ℕ) → ltb 0 (outsOf l g) ≡ false → count 4 (λ p. isOut l (4 * g + p)) ≡ 0
+  unfolding outsOf
+  none-data g e = omega (arith, ltb-false 0 (outsOf l g) e)
+
+  none-check : (g : ℕ) → ltb 0 (outsOf l g) ≡ false → count 3 (λ j. isOut l (16 + (3 * g + j))) ≡ 0
+  unfolding outsOf
+  none-check g e = omega (arith, ltb-false 0 (outsOf l g) e)
+
+  pub data-kept : (u : ℕ) → ltb 0 (outsOf l (u / 4)) ≡ false → isOut l u ≡ false
+  data-kept u e =
+      let d : u ≡ 4 * (u / 4) + u % 4 = omega arith in
+      ap (isOut l) d ∙ count-zero 4 (λ p. isOut l (4 * (u / 4) + p)) (none-data (u / 4) e) (u % 4) (omega arith)
+
+  pub check-kept : (c : ℕ) → ltb 0 (outsOf l (c / 3)) ≡ false → isOut l (16 + c) ≡ false
+  check-kept c e =
+      let d : c ≡ 3 * (c / 3) + c % 3 = omega arith in
+      ap (λ (k : ℕ). isOut l (16 + k)) d ∙ count-zero 3 (λ j. isOut l (16 + (3 * (c / 3) + j))) (none-check (c / 3) e) (c % 3) (omega arith)
