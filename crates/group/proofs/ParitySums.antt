@@ -86,7 +86,8 @@ mixed a b c d hc =
     ap (λ x. bitXor x c) (
     ap₂ bitXor (scale-add 8 a b (omega arith)) (scale-add 7 b d (omega arith))
     ∙ sym (xor-assoc (bitXor (scale 8 a) (scale 8 b)) (scale 7 b) (scale 7 d))
-    ∙ ap (λ x. bitXor x (scale 7 d)) (xor-assoc (scale 8 a) (scale 8 b) (scale 7 b) ∙ ap (bitXor (scale 8 a)) (sym (add-scale 8 7 b (omega arith) (omega arith)))))
+    ∙ ap (λ x. bitXor x (scale 7 d))
+    (xor-assoc (scale 8 a) (scale 8 b) (scale 7 b) ∙ ap (bitXor (scale 8 a)) (sym (add-scale 8 7 b (omega arith) (omega arith)))))
     ∙ last-two (bitXor (scale 8 a) (scale 15 b)) (scale 7 d) c
     ∙ ap (λ x. bitXor (bitXor (bitXor (scale 8 a) (scale 15 b)) x) (scale 7 d)) (sym (scale-one c hc))
 
@@ -104,18 +105,22 @@ module _ (a b c d : List ℕ) (la : length a ≡ bodyBytes) (lb : length b ≡ b
   parity-byte : (j i : ℕ) → i < bodyBytes → byte (parity j (fourBodies a b c d)) i ≡ mixture j (λ p. byte (fourBodies a b c d p) i)
   unfolding parity bodyAt coefficient
   parity-byte j i l =
-      byte-sum4 bodyBytes (λ p. scaleBody (coefficient p j) (fourBodies a b c d p)) (λ p k. length-scale (coefficient p j) (fourBodies a b c d p) ∙ four-long p k) i
+      byte-sum4 bodyBytes (λ p. scaleBody (coefficient p j) (fourBodies a b c d p))
+      (λ p k. length-scale (coefficient p j) (fourBodies a b c d p) ∙ four-long p k) i
       ∙ total-ext
       (λ p. byte (scaleBody (coefficient p j) (fourBodies a b c d p)) i)
       (λ p. scale (coefficient p j) (byte (fourBodies a b c d p) i))
       (λ p k. byte-scale (coefficient p j) (fourBodies a b c d p) i (omega (arith, four-long p k)))
 
   -- a byte of the parity at check place j: the sum by the coefficients of check place 0, the bodies exchanged
-  pub parity-place : (i : ℕ) → i < bodyBytes → (j v : ℕ) → j < 3 → v ≡ mixture 0 (λ p. byte (fourBodies a b c d (exchanged j p)) i) → v ≡ byte (parity j (fourBodies a b c d)) i
+  pub parity-place : (i : ℕ) → i < bodyBytes → (j v : ℕ) → j < 3 → v ≡ mixture 0 (λ p. byte (fourBodies a b c d (exchanged j p)) i)
+      → v ≡ byte (parity j (fourBodies a b c d)) i
   parity-place i l j v k e = e ∙ sym (parity-byte j i l ∙ mixture-exchanged j k (λ p. byte (fourBodies a b c d p) i))
 
-  pub parity-filled : (j : ℕ) {x₀ x : List ℕ} {i : ℕ} → Filling (byte (parity j (fourBodies a b c d))) x₀ x i → length x₀ ≡ bodyBytes → bodyBytes ≤ i → x ≡ parity j (fourBodies a b c d)
+  pub parity-filled : (j : ℕ) {x₀ x : List ℕ} {i : ℕ} → Filling (byte (parity j (fourBodies a b c d))) x₀ x i → length x₀ ≡ bodyBytes → bodyBytes ≤ i
+      → x ≡ parity j (fourBodies a b c d)
   parity-filled j {x₀} {x} {i} g e h =
       filling-end g (omega (arith, g .long))
       ∙ ap (λ n. entries n (byte (parity j (fourBodies a b c d)))) e
-      ∙ sym (entries-of (parity j (fourBodies a b c d)) bodyBytes (byte (parity j (fourBodies a b c d))) (length-parity bodyBytes j (fourBodies a b c d) four-long) (λ k l. refl))
+      ∙ sym (entries-of (parity j (fourBodies a b c d)) bodyBytes (byte (parity j (fourBodies a b c d)))
+      (length-parity bodyBytes j (fourBodies a b c d) four-long) (λ k l. refl))

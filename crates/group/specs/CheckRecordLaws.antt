@@ -47,11 +47,13 @@ length-checkRecord n j slots h =
     length-append (tab 4 (keys slots)) (parity j (bodies slots))
     ∙ ap₂ (λ x y. x + y) (length-keys n slots h) (length-parity n j (bodies slots) (λ p l. length-body n (slots p) (h p l)))
 
-pub checkRecord-keys : (n j : ℕ) (slots : ℕ → List ℕ) → Wide 4 (keyBytes + n) slots → take keysBytes (checkRecord j slots) ≡ tab 4 (λ p. take keyBytes (slots p))
+pub checkRecord-keys : (n j : ℕ) (slots : ℕ → List ℕ) → Wide 4 (keyBytes + n) slots
+    → take keysBytes (checkRecord j slots) ≡ tab 4 (λ p. take keyBytes (slots p))
 unfolding checkRecord
 checkRecord-keys n j slots h = take-at (tab 4 (keys slots)) (parity j (bodies slots)) keysBytes (length-keys n slots h)
 
-pub checkRecord-parity : (n j : ℕ) (slots : ℕ → List ℕ) → Wide 4 (keyBytes + n) slots → drop keysBytes (checkRecord j slots) ≡ parity j (λ p. drop keyBytes (slots p))
+pub checkRecord-parity : (n j : ℕ) (slots : ℕ → List ℕ) → Wide 4 (keyBytes + n) slots
+    → drop keysBytes (checkRecord j slots) ≡ parity j (λ p. drop keyBytes (slots p))
 unfolding checkRecord
 checkRecord-parity n j slots h = drop-at (tab 4 (keys slots)) (parity j (bodies slots)) keysBytes (length-keys n slots h)
 
@@ -92,7 +94,8 @@ module _ (n j p : ℕ) (j3 : j < 3) (p4 : p < 4) (slots : ℕ → List ℕ) (h :
       sym (parity-upd n j p j3 p4 (bodies slots) sizes (drop keyBytes new) (length-body n new e)) ∙ parity-ext j _ _ (λ q l. new-bodies q)
 
   -- THE LAW OF FOLLOWING
-  pub patched-upd : patched j p (take keyBytes new) (addBody (drop keyBytes (slots p)) (drop keyBytes new)) (checkRecord j slots) ≡ checkRecord j (upd slots p new)
+  pub patched-upd : patched j p (take keyBytes new) (addBody (drop keyBytes (slots p)) (drop keyBytes new)) (checkRecord j slots) ≡ checkRecord j
+      (upd slots p new)
   unfolding patched checkRecord change
   patched-upd =
       ap₂
@@ -103,7 +106,8 @@ module _ (n j p : ℕ) (j3 : j < 3) (p4 : p < 4) (slots : ℕ → List ℕ) (h :
 
   -- a record whose parity is wrong stays wrong by the same error
   pub patched-error : (old : List ℕ) → length old ≡ keysBytes + n
-      → addBody (drop keysBytes (patched j p (take keyBytes new) (addBody (drop keyBytes (slots p)) (drop keyBytes new)) old)) (parity j (λ q. drop keyBytes (upd slots p new q)))
+      → addBody (drop keysBytes (patched j p (take keyBytes new) (addBody (drop keyBytes (slots p)) (drop keyBytes new)) old))
+      (parity j (λ q. drop keyBytes (upd slots p new q)))
       ≡ addBody (drop keysBytes old) (parity j (λ q. drop keyBytes (slots q)))
   unfolding patched change
   patched-error old k =

@@ -71,13 +71,16 @@ module _ (n j : ℕ) (j3 : j < 3) (slots : ℕ → List ℕ) (h : Wide 4 (keyByt
       let empty : so-far t t ≡ zeros (keyBytes + n) = unfold so-far in pick-false (le-ltb t t (omega arith)) (slots t) (zeros (keyBytes + n)) in
       ap
       (λ x. patched j t (take keyBytes (slots t)) x (checkRecord j (so-far t)))
-      (sym (ap (λ x. addBody (drop keyBytes x) (drop keyBytes (slots t))) empty ∙ ap (λ x. addBody x (drop keyBytes (slots t))) (body-zeros n) ∙ zeros-add n (drop keyBytes (slots t)) (length-body n (slots t) (h t l))))
+      (sym (ap (λ x. addBody (drop keyBytes x) (drop keyBytes (slots t))) empty ∙ ap (λ x. addBody x (drop keyBytes (slots t))) (body-zeros n)
+      ∙ zeros-add n (drop keyBytes (slots t)) (length-body n (slots t) (h t l))))
       ∙ patched-upd n j t j3 l (so-far t) (so-far-wide t) (slots t) (h t l)
       ∙ checkRecord-ext j (upd (so-far t) t (slots t)) (so-far (suc t)) (λ p _. so-far-next t p)
 
   turns : (t : ℕ) → t ≤ 4 → iter t step (zeros (keysBytes + n)) ≡ checkRecord j (so-far t)
   unfolding iter
-  turns zero l = sym (checkRecord-ext j (so-far 0) (λ _. zeros (keyBytes + n)) (λ p _. unfold so-far in pick-false (le-ltb p 0 (omega arith)) (slots p) (zeros (keyBytes + n))) ∙ checkRecord-zeros n j j3)
+  turns zero l =
+      sym (checkRecord-ext j (so-far 0) (λ _. zeros (keyBytes + n))
+      (λ p _. unfold so-far in pick-false (le-ltb p 0 (omega arith)) (slots p) (zeros (keyBytes + n))) ∙ checkRecord-zeros n j j3)
   turns (suc t) l = ap (step t) (turns t (omega arith)) ∙ turn t l
 
   pub patched-all : iter 4 (λ p old. patched j p (take keyBytes (slots p)) (drop keyBytes (slots p)) old) (zeros (keysBytes + n)) ≡ checkRecord j slots

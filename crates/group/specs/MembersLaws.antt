@@ -102,7 +102,8 @@ module _ (on : ℕ → Bool) where
       let e : 7 - a - suc i ≡ 7 - suc (a + i) = omega arith in
       let behind : count (7 - a - suc i) (λ k. on (a + (suc i + k))) ≡ count (7 - suc (a + i)) (λ k. on (suc (a + i) + k)) =
       ap (λ j. count j (λ k. on (a + (suc i + k)))) e
-      ∙ count-ext (7 - suc (a + i)) (λ k. on (a + (suc i + k))) (λ k. on (suc (a + i) + k)) (λ k q. let d : a + (suc i + k) ≡ suc (a + i) + k = omega arith in ap on d) in
+      ∙ count-ext (7 - suc (a + i)) (λ k. on (a + (suc i + k))) (λ k. on (suc (a + i) + k))
+      (λ k q. let d : a + (suc i + k) ≡ suc (a + i) + k = omega arith in ap on d) in
       record { late = omega arith; low = omega arith; serves = first-holds (7 - a) f lt; more = omega (arith, count-first (7 - a) f lt, behind) }
 
   start : 4 ≤ count 7 on → 4 ≤ from 0

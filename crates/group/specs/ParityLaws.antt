@@ -20,7 +20,8 @@ use Rattle.code.specs.Matrix.{entry}
 use Rattle.code.specs.MatrixLaws.{entry-bound}
 use Rattle.code.specs.Scaling.{scale}
 use Rattle.group.specs.Body.{addBody, scaleBody}
-use Rattle.group.specs.BodyLaws.{length-add, length-scale, byte-add, byte-scale, add-swap, add-self, add-zeros, zeros-add, add-back, scale-sum, scale-zeros}
+use Rattle.group.specs.BodyLaws.{length-add, length-scale, byte-add, byte-scale, add-swap}
+use Rattle.group.specs.BodyLaws.{add-self, add-zeros, zeros-add, add-back, scale-sum, scale-zeros}
 use Rattle.group.specs.Parity.{coefficient, sum4, bodyAt, parity, adjusted}
 
 -- ---- sums over the four places
@@ -155,7 +156,8 @@ pub length-adjusted : (n j p : ℕ) (change old : List ℕ) → length change �
 unfolding adjusted
 length-adjusted n j p change old e f = length-add n old (scaleBody (coefficient p j) change) f (length-scale (coefficient p j) change ∙ e)
 
-pub add-scaled-entries : (c : ℕ) (x y : List ℕ) → length x ≡ length y → addBody x (scaleBody c y) ≡ entries (length x) (λ i. bitXor (byte x i) (scale c (byte y i)))
+pub add-scaled-entries : (c : ℕ) (x y : List ℕ) → length x ≡ length y
+    → addBody x (scaleBody c y) ≡ entries (length x) (λ i. bitXor (byte x i) (scale c (byte y i)))
 add-scaled-entries c x y e =
     let k : length x ≡ length (scaleBody c y) = e ∙ sym (length-scale c y) in
     entries-of

@@ -92,7 +92,8 @@ members-within {on} {cs} m =
     four
     (λ cs. Members on cs → within 16 cs ≡ true)
     (λ a b c d q.
-    within-four 16 a b c d (omega (arith, q .low 0 (omega arith))) (omega (arith, q .low 1 (omega arith))) (omega (arith, q .low 2 (omega arith))) (omega (arith, q .low 3 (omega arith))))
+    within-four 16 a b c d (omega (arith, q .low 0 (omega arith))) (omega (arith, q .low 1 (omega arith))) (omega (arith, q .low 2 (omega arith)))
+    (omega (arith, q .low 3 (omega arith))))
     cs
     (m .long)
     m
@@ -105,8 +106,14 @@ members-different {on} {cs} m =
     let ab : a < b = q .rising 0 1 (omega arith) (omega arith) in
     let bc : b < c = q .rising 1 2 (omega arith) (omega arith) in
     let cd : c < d = q .rising 2 3 (omega arith) (omega arith) in
-    rw
-    (ne-eqb a b (omega arith), ne-eqb a c (omega arith), ne-eqb a d (omega arith), ne-eqb b c (omega arith), ne-eqb b d (omega arith), ne-eqb c d (omega arith)))
+    rw (
+      ne-eqb a b (omega arith),
+      ne-eqb a c (omega arith),
+      ne-eqb a d (omega arith),
+      ne-eqb b c (omega arith),
+      ne-eqb b d (omega arith),
+      ne-eqb c d (omega arith),
+    ))
     cs
     (m .long)
     m

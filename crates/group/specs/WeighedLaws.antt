@@ -48,8 +48,12 @@ weighed-four : (n : ℕ) (bodies : ℕ → List ℕ) → ((i : ℕ) → i < 4 �
 unfolding weighed
 weighed-four n bodies h k l w x y z =
     byte-sum4 n (λ i. scaleBody (getD (w ∷ x ∷ y ∷ z ∷ []) i 0) (bodies i)) (λ i q. length-scale (getD (w ∷ x ∷ y ∷ z ∷ []) i 0) (bodies i) ∙ h i q) k
-    ∙ rw
-    (byte-scale w (bodies 0) k (long 0 (omega arith)), byte-scale x (bodies 1) k (long 1 (omega arith)), byte-scale y (bodies 2) k (long 2 (omega arith)), byte-scale z (bodies 3) k (long 3 (omega arith)))
+    ∙ rw (
+      byte-scale w (bodies 0) k (long 0 (omega arith)),
+      byte-scale x (bodies 1) k (long 1 (omega arith)),
+      byte-scale y (bodies 2) k (long 2 (omega arith)),
+      byte-scale z (bodies 3) k (long 3 (omega arith)),
+    )
     (regroup (scale w (byte (bodies 0) k)) (scale x (byte (bodies 1) k)) (scale y (byte (bodies 2) k)) (scale z (byte (bodies 3) k)))
   where
     long : (i : ℕ) → i < 4 → k < length (bodies i)

@@ -173,7 +173,8 @@ pub fn rebuild_body(
     d: &[u8],
     table: &[u8; 256],
 )
-    requires { ⌜ (length (now a) ≡ length (now out)) × (length (now b) ≡ length (now out)) × (length (now c) ≡ length (now out)) × (length (now d) ≡ length (now out)) × (within 15 weights ≡ true) × (now table ≡ products) ⌝ }
+    requires { ⌜ (length (now a) ≡ length (now out)) × (length (now b) ≡ length (now out)) × (length (now c) ≡ length (now out))
+        × (length (now d) ≡ length (now out)) × (within 15 weights ≡ true) × (now table ≡ products) ⌝ }
     ensures { λ _. ⌜ now (out .exit) ≡ weighed weights (fourBodies (now (a .entry)) (now (b .entry)) (now (c .entry)) (now (d .entry))) ⌝ }
 {
     let mut i = 0;

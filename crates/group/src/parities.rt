@@ -50,7 +50,8 @@ pub fn second_row() -> [u8; 256]
 // The sum of four bytes, each times its coefficient in check place 0: 8a + Fb + c + 7d. That is 8 times a + b, 7 times b + d, and c.
 fn mix(eights: &[u8; 256], sevens: &[u8; 256], a: u8, b: u8, c: u8, d: u8) -> u8
     requires { ⌜ (now eights ≡ firstRow) × (now sevens ≡ secondRow) ⌝ }
-    ensures { λ r. ⌜ r ≡ bitXor (bitXor (bitXor (scale (coefficient 0 0) a) (scale (coefficient 1 0) b)) (scale (coefficient 2 0) c)) (scale (coefficient 3 0) d) ⌝ }
+    ensures { λ r. ⌜ r ≡ bitXor (bitXor (bitXor (scale (coefficient 0 0) a) (scale (coefficient 1 0) b)) (scale (coefficient 2 0) c))
+        (scale (coefficient 3 0) d) ⌝ }
 {
     eights[buffer::wide(a ^ b)] ^ sevens[buffer::wide(b ^ d)] ^ c
 }
@@ -67,8 +68,11 @@ pub fn fill(
     eights: &[u8; 256],
     sevens: &[u8; 256],
 )
-    requires { ⌜ (length (now x) ≡ bodyBytes) × (length (now y) ≡ bodyBytes) × (length (now z) ≡ bodyBytes) × (length (now a) ≡ bodyBytes) × (length (now b) ≡ bodyBytes) × (length (now c) ≡ bodyBytes) × (length (now d) ≡ bodyBytes) × (now eights ≡ firstRow) × (now sevens ≡ secondRow) ⌝ }
-    ensures { λ _. ⌜ (now (x .exit) ≡ parity 0 (fourBodies (now (a .entry)) (now (b .entry)) (now (c .entry)) (now (d .entry)))) × (now (y .exit) ≡ parity 1 (fourBodies (now (a .entry)) (now (b .entry)) (now (c .entry)) (now (d .entry)))) × (now (z .exit) ≡ parity 2 (fourBodies (now (a .entry)) (now (b .entry)) (now (c .entry)) (now (d .entry)))) ⌝ }
+    requires { ⌜ (length (now x) ≡ bodyBytes) × (length (now y) ≡ bodyBytes) × (length (now z) ≡ bodyBytes) × (length (now a) ≡ bodyBytes)
+        × (length (now b) ≡ bodyBytes) × (length (now c) ≡ bodyBytes) × (length (now d) ≡ bodyBytes) × (now eights ≡ firstRow) × (now sevens ≡ secondRow) ⌝ }
+    ensures { λ _. ⌜ (now (x .exit) ≡ parity 0 (fourBodies (now (a .entry)) (now (b .entry)) (now (c .entry)) (now (d .entry))))
+        × (now (y .exit) ≡ parity 1 (fourBodies (now (a .entry)) (now (b .entry)) (now (c .entry)) (now (d .entry))))
+        × (now (z .exit) ≡ parity 2 (fourBodies (now (a .entry)) (now (b .entry)) (now (c .entry)) (now (d .entry)))) ⌝ }
 {
     let mut i = 0;
     while i < super::BODY {

@@ -78,7 +78,8 @@ two-digits {l} {at} {v} r =
     let e : v ≡ numberAt l at 2 = r .found ∙ pick-true (sym (r .tested)) (numberAt l at 2) 0 in
     (e, omega (arith, numberAt-lt l at 2 (sym (r .tested))))
 
-pub bodying-turn : {l : List ℕ} {at : ℕ} {b₀ b : List ℕ} {i v : ℕ} (x : ℕ) → Bodying l at b₀ b i → i < bodyBytes → i < length b → Numbered l (at + 2 * i) 2 true v
+pub bodying-turn : {l : List ℕ} {at : ℕ} {b₀ b : List ℕ} {i v : ℕ} (x : ℕ) → Bodying l at b₀ b i → i < bodyBytes → i < length b
+    → Numbered l (at + 2 * i) 2 true v
     → x ≡ v
     → Bodying l at b₀ (set b i x) (i + 1)
 bodying-turn {l} {at} {b₀} {b} {i} {v} x g h k r e =

@@ -263,7 +263,8 @@ parsed-proper l h =
     (record {
       known = r .known;
       range = numberAt-lt l 2 (digitsOf (byte l 0)) (first-digits l r);
-      long = by-pick (λ s. length s ≡ bodyBytes) b (bytesAt l 11 bodyBytes) (zeros bodyBytes) (λ e. length-bytesAt l 11 bodyBytes) (λ e. length-zeros bodyBytes);
+      long =
+          by-pick (λ s. length s ≡ bodyBytes) b (bytesAt l 11 bodyBytes) (zeros bodyBytes) (λ e. length-bytesAt l 11 bodyBytes) (λ e. length-zeros bodyBytes);
       bytes = λ i q.
           by-pick
           (λ s. byte s i < 256)

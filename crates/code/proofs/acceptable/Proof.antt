@@ -33,11 +33,4 @@ returns-3 c =
 
 pub acceptable-spec : {M : Type 1} → statement M
 acceptable-spec =
-    tie.close
-    (tie.spec
-    all-within-requires
-    returns
-    all-different-requires
-    returns-2
-    all-within-requires-2
-    returns-3)
+    tie.close (tie.spec all-within-requires returns all-different-requires returns-2 all-within-requires-2 returns-3)

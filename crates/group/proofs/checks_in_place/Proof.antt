@@ -21,7 +21,8 @@ loop-again : tie.Need-loop-again Inv-loop μ-loop
 loop-again c =
     let inv = c .before .before .before .before .loop .inv in
     let b = rw (c .before .before .wide .ensures .0) at (c .before .byte-at .ensures) in
-    ⊎-elim (λ w. rw (w .1) (counting-more inv (search needs) (is-lt refl b (w .0 .taken)))) (λ w. rw (w .1) (counting-same inv (search needs) (not-lt refl b (w .0 .left)))) (c .if1 .came)
+    ⊎-elim (λ w. rw (w .1) (counting-more inv (search needs) (is-lt refl b (w .0 .taken))))
+    (λ w. rw (w .1) (counting-same inv (search needs) (not-lt refl b (w .0 .left)))) (c .if1 .came)
 
 returns : tie.Need-returns Inv-loop μ-loop
 unfolding checks
@@ -29,15 +30,5 @@ returns c = (counting-end (c .before .loop .inv) (search needs), search needs)
 
 pub checks-in-place-spec : {M : Type 1} → statement M
 checks-in-place-spec =
-    tie.close
-    (tie.spec
-    Inv-loop
-    μ-loop
-    (λ c. counting-start)
-    (λ c κs. search needs)
-    (λ c κs. search needs)
-    (λ c. search needs)
-    (λ c. search needs)
-    (λ c. search needs)
-    loop-again
-    returns)
+    tie.close (tie.spec Inv-loop μ-loop (λ c. counting-start) (λ c κs. search needs) (λ c κs. search needs) (λ c. search needs) (λ c. search needs)
+    (λ c. search needs) loop-again returns)

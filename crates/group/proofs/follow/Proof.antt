@@ -41,25 +41,11 @@ returns c =
     (omega arith)
     (omega arith)
     (copied .copy .ensures)
-    (scaled .add-scaled .ensures ∙ ap (λ k. addBody (part 16 bodyBytes (splice at (at + 4 - at) (copied .copy .last .0) (a .into .now))) (scaleBody k (a .t5))) (scaled .before .coefficient .ensures .0))
+    (scaled .add-scaled .ensures ∙ ap (λ k. addBody (part 16 bodyBytes (splice at (at + 4 - at) (copied .copy .last .0) (a .into .now))) (scaleBody k (a .t5)))
+    (scaled .before .coefficient .ensures .0))
 
 pub follow-spec : {M : Type 1} → statement M
 follow-spec =
-    tie.close
-    (tie.spec
-    (λ c κs. search needs)
-    (λ c. search needs)
-    (λ c. search needs)
-    (λ c. search needs)
-    (λ c. search needs)
-    (λ c. search needs)
-    (λ c. search needs)
-    (λ c κs. search needs)
-    (λ c. search needs)
-    (λ c. search needs)
-    (λ c. search needs)
-    (λ c. search needs)
-    (λ c κs. search needs)
-    add-scaled-requires
-    (λ c. search needs)
-    returns)
+    tie.close (tie.spec (λ c κs. search needs) (λ c. search needs) (λ c. search needs) (λ c. search needs) (λ c. search needs) (λ c. search needs)
+    (λ c. search needs) (λ c κs. search needs) (λ c. search needs) (λ c. search needs) (λ c. search needs) (λ c. search needs) (λ c κs. search needs)
+    add-scaled-requires (λ c. search needs) returns)

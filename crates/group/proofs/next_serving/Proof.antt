@@ -35,18 +35,5 @@ returns-2 c =
 
 pub next-serving-spec : {M : Type 1} → statement M
 next-serving-spec =
-    tie.close
-    (tie.spec
-    Inv-loop
-    μ-loop
-    (λ c. missing-start)
-    (λ c. search needs)
-    (λ c. search needs)
-    (λ c κs. search needs)
-    (λ c. search needs)
-    returns
-    (λ c. search needs)
-    (λ c. search needs)
-    loop-again
-    (λ c. search needs)
-    returns-2)
+    tie.close (tie.spec Inv-loop μ-loop (λ c. missing-start) (λ c. search needs) (λ c. search needs) (λ c κs. search needs) (λ c. search needs) returns
+    (λ c. search needs) (λ c. search needs) loop-again (λ c. search needs) returns-2)

@@ -29,23 +29,10 @@ returns c =
     let start = c .before .before .before .before .before .before .before in
     let a = start .args in
     filling-end (c .before .loop .inv) (c .loop-test .left)
-    ∙ sym (weighed-entries (length (a .out .now)) (a .weights) (search needs) (fourBodies (a .a .now) (a .b .now) (a .c .now) (a .d .now)) (below-four _ (start .pre .0) (start .pre .1) (start .pre .2) (start .pre .3)))
+    ∙ sym (weighed-entries (length (a .out .now)) (a .weights) (search needs) (fourBodies (a .a .now) (a .b .now) (a .c .now) (a .d .now))
+    (below-four _ (start .pre .0) (start .pre .1) (start .pre .2) (start .pre .3)))
 
 pub rebuild-body-spec : {M : Type 1} → statement M
 rebuild-body-spec =
-    tie.close
-    (tie.spec
-    Inv-loop
-    μ-loop
-    (λ c. filling-start)
-    (λ c. search needs)
-    (λ c. search needs)
-    (λ c. search needs)
-    (λ c. search needs)
-    (λ c κs. search needs)
-    (λ c. search needs)
-    (λ c. search needs)
-    (λ c. simp length-set (omega arith))
-    loop-again
-    (λ c. search needs)
-    returns)
+    tie.close (tie.spec Inv-loop μ-loop (λ c. filling-start) (λ c. search needs) (λ c. search needs) (λ c. search needs) (λ c. search needs)
+    (λ c κs. search needs) (λ c. search needs) (λ c. search needs) (λ c. simp length-set (omega arith)) loop-again (λ c. search needs) returns)

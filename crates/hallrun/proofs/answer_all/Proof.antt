@@ -22,19 +22,5 @@ loop-less c = omega (arith, ends (c .before .before .before .before .before .bef
 
 pub answer-all-spec : {M : Type 1} → statement M
 answer-all-spec =
-    tie.close
-    (tie.spec
-    Inv-loop
-    μ-loop
-    (λ c. search needs)
-    (λ c κs. search needs)
-    (λ c. ends (c .before .before))
-    (λ c. ends (c .before .before))
-    (λ c. search needs)
-    (λ c κs. search needs)
-    (λ c. search needs)
-    loop-less
-    (λ c. search needs)
-    (λ c. search needs)
-    (λ c. search needs)
-    (λ c. search needs))
+    tie.close (tie.spec Inv-loop μ-loop (λ c. search needs) (λ c κs. search needs) (λ c. ends (c .before .before)) (λ c. ends (c .before .before))
+    (λ c. search needs) (λ c κs. search needs) (λ c. search needs) loop-less (λ c. search needs) (λ c. search needs) (λ c. search needs) (λ c. search needs))

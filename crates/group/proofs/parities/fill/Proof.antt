@@ -13,7 +13,8 @@ use Rattle.group.proofs.parities.fill.Tie as tie
 
 abbrev Inv-loop : tie.InvT-loop
 Inv-loop x₀ y₀ z₀ a b c d eights sevens i₀ x y z i =
-    Filling (byte (parity 0 (fourBodies a b c d))) x₀ x i × Filling (byte (parity 1 (fourBodies a b c d))) y₀ y i × Filling (byte (parity 2 (fourBodies a b c d))) z₀ z i
+    Filling (byte (parity 0 (fourBodies a b c d))) x₀ x i × Filling (byte (parity 1 (fourBodies a b c d))) y₀ y i
+    × Filling (byte (parity 2 (fourBodies a b c d))) z₀ z i
 
 abbrev μ-loop : tie.MeasureT-loop
 μ-loop x₀ y₀ z₀ a b c d eights sevens i₀ x y z i = bodyBytes - i
@@ -50,25 +51,6 @@ returns c =
 
 pub fill-spec : {M : Type 1} → statement M
 fill-spec =
-    tie.close
-    (tie.spec
-    Inv-loop
-    μ-loop
-    loop-holds
-    (λ c. search needs)
-    (λ c. search needs)
-    (λ c. search needs)
-    (λ c. search needs)
-    (λ c κs. search needs)
-    (λ c. search needs)
-    (λ c κs. search needs)
-    (λ c. search needs)
-    (λ c κs. search needs)
-    (λ c. search needs)
-    (λ c. search needs)
-    (λ c. search needs)
-    loop-again
-    (λ c. search needs)
-    (λ c. search needs)
-    (λ c. search needs)
-    returns)
+    tie.close (tie.spec Inv-loop μ-loop loop-holds (λ c. search needs) (λ c. search needs) (λ c. search needs) (λ c. search needs) (λ c κs. search needs)
+    (λ c. search needs) (λ c κs. search needs) (λ c. search needs) (λ c κs. search needs) (λ c. search needs) (λ c. search needs) (λ c. search needs) loop-again
+    (λ c. search needs) (λ c. search needs) (λ c. search needs) returns)

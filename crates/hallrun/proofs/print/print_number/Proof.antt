@@ -12,10 +12,5 @@ slice-aggregate-write-all c =
 
 pub print-number-spec : {M : Type 1} → statement M
 print-number-spec =
-    tie.close
-    (tie.spec
-    (λ c κs. search needs)
-    (λ c. c .before .number-line .ensures .within)
-    slice-aggregate-write-all
-    (λ c κs. search needs)
+    tie.close (tie.spec (λ c κs. search needs) (λ c. c .before .number-line .ensures .within) slice-aggregate-write-all (λ c κs. search needs)
     (λ c. search needs))

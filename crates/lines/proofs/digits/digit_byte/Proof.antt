@@ -7,9 +7,4 @@ use Rattle.lines.proofs.digits.digit_byte.Tie as tie
 
 pub digit-byte-spec : {M : Type 1} → statement M
 digit-byte-spec =
-    tie.close
-    (tie.spec
-    (λ c. search needs)
-    (λ c. search needs)
-    (λ c. sym (digitOf-number _ (c .if1 .taken)))
-    (λ c. sym (digitOf-letter _ (c .if1 .left))))
+    tie.close (tie.spec (λ c. search needs) (λ c. search needs) (λ c. sym (digitOf-number _ (c .if1 .taken))) (λ c. sym (digitOf-letter _ (c .if1 .left))))

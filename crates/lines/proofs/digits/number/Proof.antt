@@ -36,19 +36,5 @@ loop-again c =
 
 pub number-spec : {M : Type 1} → statement M
 number-spec =
-    tie.close
-    (tie.spec
-    Inv-loop
-    μ-loop
-    (λ c. reading-start)
-    (λ c. search needs)
-    (λ c. search needs)
-    (λ c κs. search needs)
-    returns
-    mul-value
-    (λ c κs. search needs)
-    add-value
-    (λ c. search needs)
-    (λ c. search needs)
-    loop-again
-    (λ c. reading-end (c .before .loop .inv) (c .loop-test .left)))
+    tie.close (tie.spec Inv-loop μ-loop (λ c. reading-start) (λ c. search needs) (λ c. search needs) (λ c κs. search needs) returns mul-value
+    (λ c κs. search needs) add-value (λ c. search needs) (λ c. search needs) loop-again (λ c. reading-end (c .before .loop .inv) (c .loop-test .left)))

@@ -67,19 +67,5 @@ returns c =
 
 pub put-bytes-spec : {M : Type 1} → statement M
 put-bytes-spec =
-    tie.close
-    (tie.spec
-    Inv-loop
-    μ-loop
-    (λ c. appending-start)
-    (λ c. omega (arith, room c))
-    (λ c. search needs)
-    (λ c. search needs)
-    room
-    (λ c. search needs)
-    put-byte-requires
-    (λ c. search needs)
-    (λ c. search needs)
-    loop-again
-    (λ c. search needs)
-    returns)
+    tie.close (tie.spec Inv-loop μ-loop (λ c. appending-start) (λ c. omega (arith, room c)) (λ c. search needs) (λ c. search needs) room (λ c. search needs)
+    put-byte-requires (λ c. search needs) (λ c. search needs) loop-again (λ c. search needs) returns)

@@ -38,18 +38,5 @@ loop-again c =
 
 pub read-body-spec : {M : Type 1} → statement M
 read-body-spec =
-    tie.close
-    (tie.spec
-    Inv-loop
-    μ-loop
-    (λ c. bodying-start)
-    (λ c. search needs)
-    (λ c. search needs)
-    (λ c κs. search needs)
-    returns
-    narrow-requires
-    (λ c. search needs)
-    (λ c. search needs)
-    (λ c. search needs)
-    loop-again
-    (λ c. bodying-end (c .before .loop .inv) refl (c .loop-test .left)))
+    tie.close (tie.spec Inv-loop μ-loop (λ c. bodying-start) (λ c. search needs) (λ c. search needs) (λ c κs. search needs) returns narrow-requires
+    (λ c. search needs) (λ c. search needs) (λ c. search needs) loop-again (λ c. bodying-end (c .before .loop .inv) refl (c .loop-test .left)))

@@ -113,30 +113,7 @@ returns-9 c =
 
 pub parse-spec : {M : Type 1} → statement M
 parse-spec =
-    tie.close
-    (tie.spec
-    (λ c κs. search needs)
-    (λ c κs. search needs)
-    (λ c κs. search needs)
-    returns
-    (λ c κs. search needs)
-    (λ c κs. search needs)
-    returns-2
-    (λ c κs. search needs)
-    returns-3
-    shared-slice-read-if4
-    (λ c κs. search needs)
-    returns-4
-    number-requires
-    (λ c κs. search needs)
-    returns-5
-    (λ c κs. search needs)
-    (λ c κs. search needs)
-    returns-6
-    shared-slice-read-if7
-    (λ c κs. search needs)
-    returns-7
-    read-body-requires
-    (λ c κs. search needs)
-    returns-8
-    returns-9)
+    tie.close (tie.spec (λ c κs. search needs) (λ c κs. search needs) (λ c κs. search needs) returns (λ c κs. search needs) (λ c κs. search needs) returns-2
+    (λ c κs. search needs) returns-3 shared-slice-read-if4 (λ c κs. search needs) returns-4 number-requires (λ c κs. search needs) returns-5
+    (λ c κs. search needs) (λ c κs. search needs) returns-6 shared-slice-read-if7 (λ c κs. search needs) returns-7 read-body-requires (λ c κs. search needs)
+    returns-8 returns-9)

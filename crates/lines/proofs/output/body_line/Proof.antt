@@ -10,10 +10,4 @@ returns c = body-line _ _ (c .before .before .before .before .args .body .now) r
 
 pub body-line-spec : {M : Type 1} → statement M
 body-line-spec =
-    tie.close
-    (tie.spec
-    (λ c. search needs)
-    (λ c. search needs)
-    (λ c. search needs)
-    (λ c κs. search needs)
-    returns)
+    tie.close (tie.spec (λ c. search needs) (λ c. search needs) (λ c. search needs) (λ c κs. search needs) returns)

@@ -64,23 +64,6 @@ returns-2 c =
 
 pub lay-out-spec : {M : Type 1} → statement M
 lay-out-spec =
-    tie.close
-    (tie.spec
-    (λ c κs. search needs)
-    (λ c. search needs)
-    returns
-    (λ c κs. search needs)
-    (λ c. search needs)
-    (λ c. search needs)
-    (λ c. search needs)
-    (λ c. search needs)
-    part-clear-end
-    (λ c κs. search needs)
-    header-requires
-    (λ c. search needs)
-    (λ c. search needs)
-    part-copy-end
-    (λ c. search needs)
-    (λ c κs. search needs)
-    (λ c. search needs)
-    returns-2)
+    tie.close (tie.spec (λ c κs. search needs) (λ c. search needs) returns (λ c κs. search needs) (λ c. search needs) (λ c. search needs) (λ c. search needs)
+    (λ c. search needs) part-clear-end (λ c κs. search needs) header-requires (λ c. search needs) (λ c. search needs) part-copy-end (λ c. search needs)
+    (λ c κs. search needs) (λ c. search needs) returns-2)

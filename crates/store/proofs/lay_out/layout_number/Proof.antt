@@ -24,12 +24,4 @@ returns-4 c = simp (c .before .before .before .if1 .left, c .before .before .if2
 
 pub layout-number-spec : {M : Type 1} → statement M
 layout-number-spec =
-    tie.close
-    (tie.spec
-    returns
-    returns-2
-    (λ c κs. search needs)
-    (λ c. search needs)
-    (λ c. search needs)
-    returns-3
-    returns-4)
+    tie.close (tie.spec returns returns-2 (λ c κs. search needs) (λ c. search needs) (λ c. search needs) returns-3 returns-4)
