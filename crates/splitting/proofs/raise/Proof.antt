@@ -4,7 +4,7 @@ use mathlib.Core.List.{List}
 use mathlib.Core.Path.{refl}
 use native.Mathlib.Omega.{arith}
 use Prim.Native.Nat.{ℕ}
-use Rattle.model.specs.LayoutLaws.{Long}
+use Rattle.model.specs.Places.{Long}
 use Rattle.model.specs.Perform.{grantedIn}
 use Rattle.model.specs.PerformLaws.{of-raise, refused, granted}
 use Rattle.splitting.proofs.Rows.{sized, Raises, raises, raised-bytes}
