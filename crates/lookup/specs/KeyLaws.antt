@@ -60,7 +60,8 @@ own-bytes s u r i h place =
     ∙ sym (part-part (slotAt (byte s 5) u r) slotBytes 0 keyBytes s (omega arith))
     ∙ unfold part in sym (pick-false (ne-eqb (byte s (8 + u)) 2 h) _ _)
 
-out-bytes : (s : List ℕ) (u r i : ℕ) → byte s (8 + u) ≡ 2 → i ≡ checkAt (byte s 5) (firstCheck (view s) (u / 4)) r + keyBytes * (u % 4) → part i keyBytes s ≡ listedKey (view s) u r
+out-bytes : (s : List ℕ) (u r i : ℕ) → byte s (8 + u) ≡ 2 → i ≡ checkAt (byte s 5) (firstCheck (view s) (u / 4)) r + keyBytes * (u % 4)
+    → part i keyBytes s ≡ listedKey (view s) u r
 unfolding listedKey view
 out-bytes s u r i h place =
     ap (λ j. part j keyBytes s) place
@@ -80,7 +81,9 @@ module _ {s : List ℕ} {u : ℕ} (known : Known s u) where
   lists-out at h e =
       record {
         bytes = λ r. out-bytes s u r (at + checkBytes * r) h (omega arith);
-        within = out-within (known .sized) (firstCheck (view s) (u / 4)) (u % 4) (byte s 5) at (omega (arith, known .listed h, known .unit)) (omega arith) (omega arith) e;
+        within =
+            out-within (known .sized) (firstCheck (view s) (u / 4)) (u % 4)
+            (byte s 5) at (omega (arith, known .listed h, known .unit)) (omega arith) (omega arith) e;
       }
 
   pub lists-known : {base step : ℕ} → (base ≡ keysFrom s u) × (step ≡ keysStep s u) → Lists s u base step

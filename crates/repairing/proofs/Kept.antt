@@ -138,7 +138,8 @@ module _ {s₀ s : List ℕ} {f : ℕ → ℕ → List ℕ} (w : Rewritten s₀ 
     recipe-kept =
         let l : u < 16 = low in
         record {
-          unit = record { sized = sized-kept (recipe .unit .sized); unit = l; whole = λ _. beyond-kept (u / 4) (omega arith) ∙ recipe .unit .whole (recipe .out) };
+          unit =
+              record { sized = sized-kept (recipe .unit .sized); unit = l; whole = λ _. beyond-kept (u / 4) (omega arith) ∙ recipe .unit .whole (recipe .out) };
           out = out;
           four = recipe .four ∙ sym (four-kept (u / 4) (omega arith));
           low = recipe .low;
@@ -153,7 +154,8 @@ module _ {s₀ s : List ℕ} {f : ℕ → ℕ → List ℕ} (w : Rewritten s₀ 
           ap (λ x. servesIn (view s₀) (u / 4) (getD x i 0)) (recipe .four)
           ∙ group-four (recipe .unit .sized) (u / 4) (omega arith) (recipe .unit .whole (recipe .out)) .serving i l
 
-      body-kept : rebuilt (servesIn (view s) (u / 4)) (holds (view s) (u / 4) r) (u % 4) ≡ rebuilt (servesIn (view s₀) (u / 4)) (holds (view s₀) (u / 4) r) (u % 4)
+      body-kept : rebuilt (servesIn (view s) (u / 4)) (holds (view s) (u / 4) r) (u % 4) ≡ rebuilt
+          (servesIn (view s₀) (u / 4)) (holds (view s₀) (u / 4) r) (u % 4)
       body-kept =
           let k = low in
           let bodies : ℕ → List ℕ = λ i. holds (view s₀) (u / 4) r (getD members i 0) in
@@ -166,7 +168,8 @@ module _ {s₀ s : List ℕ} {f : ℕ → ℕ → List ℕ} (w : Rewritten s₀ 
           let k = low in
           pick-true (eq-eqb (view s .dstate u) 2 (unfold view in out)) _ _
           ∙ ap (λ c. part (keyBytes * (u % 4)) keyBytes (view s .check c r)) (first-check-kept (u / 4) (omega arith))
-          ∙ ap (part (keyBytes * (u % 4)) keyBytes) (check-kept (firstCheck (view s₀) (u / 4)) r (omega (arith, recoverable-known (recipe .unit) .listed (recipe .out), recipe .unit .unit)) rank)
+          ∙ ap (part (keyBytes * (u % 4)) keyBytes)
+          (check-kept (firstCheck (view s₀) (u / 4)) r (omega (arith, recoverable-known (recipe .unit) .listed (recipe .out), recipe .unit .unit)) rank)
           ∙ sym (pick-true (eq-eqb (view s₀ .dstate u) 2 (unfold view in recipe .out)) _ _)
 
       pub whole-kept : wholeSlot (view s) u r ≡ wholeSlot (view s₀) u r

@@ -63,10 +63,12 @@ module _ {s : List ℕ} {g j r : ℕ} (h : CheckPlace s g j r) where
   pub following-turn : {x x′ key body : List ℕ} {t : ℕ} → Following s g j r x t → t < 4 → key ≡ take keyBytes (slotsOf (view s) g r t)
       → body ≡ drop keyBytes (slotsOf (view s) g r t) → x′ ≡ patched j t key body x → Following s g j r x′ (t + 1)
   following-turn {x} {x′} {key} {body} {t} m l ek eb e =
-      let made : x′ ≡ patched j t (take keyBytes (slotsOf (view s) g r t)) (drop keyBytes (slotsOf (view s) g r t)) x = e ∙ ap₂ (λ k d. patched j t k d x) ek eb in
+      let made : x′ ≡ patched j t (take keyBytes (slotsOf (view s) g r t)) (drop keyBytes (slotsOf (view s) g r t)) x =
+      e ∙ ap₂ (λ k d. patched j t k d x) ek eb in
       let size : length x′ ≡ checkBytes =
       ap length made
-      ∙ length-patched bodyBytes j t (take keyBytes (slotsOf (view s) g r t)) (drop keyBytes (slotsOf (view s) g r t)) x l (length-key bodyBytes (slotsOf (view s) g r t) (wide t l)) (length-body bodyBytes (slotsOf (view s) g r t) (wide t l)) (m .long) in
+      ∙ length-patched bodyBytes j t (take keyBytes (slotsOf (view s) g r t)) (drop keyBytes (slotsOf (view s) g r t)) x l
+      (length-key bodyBytes (slotsOf (view s) g r t) (wide t l)) (length-body bodyBytes (slotsOf (view s) g r t) (wide t l)) (m .long) in
       record { steps = stepping-turn (m .steps) l (size ∙ sym (m .long)) made; long = size }
 
   pub following-end : {x : List ℕ} {t : ℕ} → Following s g j r x t → 4 ≤ t → x ≡ checkRecord j (slotsOf (view s) g r)
@@ -101,7 +103,8 @@ module _ {s₀ : List ℕ} {g j : ℕ} (h : Group s₀ g) (hj : j < 3) where
         let below : suc (4 * g + p) * byte s₀ 5 ≤ 16 * byte s₀ 5 = mul-le-mul-right (byte s₀ 5) (omega arith) in
         ap (λ b. part (slotAt b (4 * g + p) r) slotBytes s) five
         ∙ ap (part (slotAt (byte s₀ 5) (4 * g + p) r) slotBytes) (m .state)
-        ∙ part-splice-before (checkAt (v .size) (3 * g + j) 0) (checkBytes * t) (slotAt (byte s₀ 5) (4 * g + p) r) slotBytes _ s₀ (omega (arith, room)) (omega arith)
+        ∙ part-splice-before (checkAt (v .size) (3 * g + j) 0) (checkBytes * t) (slotAt (byte s₀ 5) (4 * g + p) r)
+        slotBytes _ s₀ (omega (arith, room)) (omega arith)
 
     pub making-place : t < byte s₀ 5 → CheckPlace s g j t
     making-place l = record { long = rw (five, m .long) (h .long); group = h .group; check = hj; rank = rw five l }
@@ -116,7 +119,8 @@ module _ {s₀ : List ℕ} {g j : ℕ} (h : Group s₀ g) (hj : j < 3) where
     unfolding unitMade
     making-end l =
         writing-end made room m (rw (← size-of s₀) l)
-        ∙ ap (splice (checkAt (v .size) (3 * g + j) 0) (checkBytes * v .size) (tab (v .size) (λ r. checkRecord j (slotsOf v g r)))) (sym (bytes-view s₀ (h .long)))
+        ∙ ap (splice (checkAt (v .size) (3 * g + j) 0) (checkBytes * v .size) (tab (v .size) (λ r. checkRecord j (slotsOf v g r))))
+        (sym (bytes-view s₀ (h .long)))
         ∙ splice-unit check-units v (view-shaped s₀ (h .long)) (3 * g + j) (λ r. checkRecord j (slotsOf v g r)) unit
 
   pub making-start : Making s₀ g j s₀ 0

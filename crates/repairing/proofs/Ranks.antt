@@ -22,13 +22,18 @@ length-written new w n t wide l = length-tab t w new (λ k d. wide k (omega arit
 module _ {new : ℕ → List ℕ} {w n at : ℕ} {s₀ : List ℕ} (wide : Wide n w new) (room : at + w * n ≤ length s₀) where
   written : {s : List ℕ} {t : ℕ} → t ≤ n → s ≡ splice at (w * t) (tab t new) s₀ → Writing new w n at s₀ s t
   written {s} {t} l e =
-      record { within = l; long = ap length e ∙ length-splice at (w * t) (tab t new) s₀ (omega (arith, mul-le-mul-left w l)) (length-written new w n t wide l); state = e }
+      record {
+        within = l;
+        long = ap length e ∙ length-splice at (w * t) (tab t new) s₀ (omega (arith, mul-le-mul-left w l)) (length-written new w n t wide l);
+        state = e;
+      }
 
   pub writing-start : Writing new w n at s₀ s₀ 0
   unfolding splice tab
   writing-start = written (omega arith) (rw mul-zero (sym (take-append-drop at s₀)))
 
-  pub writing-turn : {s s′ z : List ℕ} {t o : ℕ} → Writing new w n at s₀ s t → t < n → o ≡ at + w * t → z ≡ new t → s′ ≡ splice o w z s → Writing new w n at s₀ s′ (t + 1)
+  pub writing-turn : {s s′ z : List ℕ} {t o : ℕ} → Writing new w n at s₀ s t → t < n → o ≡ at + w * t → z ≡ new t → s′ ≡ splice o w z s
+      → Writing new w n at s₀ s′ (t + 1)
   writing-turn {s} {s′} {z} {t} {o} m l eo ez es =
       let next : w * t + w ≡ w * (t + 1) = omega arith in
       written (omega arith)

@@ -51,7 +51,8 @@ module _ {s₀ : List ℕ} {u : ℕ} {members weights : List ℕ} (recipe : Reci
       record {
         long = recipe .unit .sized .long;
         wide = λ w r a b. length-run (v .slot) u 0 t (wholeSlot v u) slotBytes w r (wide r b) (shaped .slot w r a b);
-        kept = λ w r a b h. pick-false (and-false-first (ne-eqb w u (λ e. h (ap (v .dstate) e ∙ unfold view in recipe .out))) _) (wholeSlot v u r) (v .slot w r);
+        kept =
+            λ w r a b h. pick-false (and-false-first (ne-eqb w u (λ e. h (ap (v .dstate) e ∙ unfold view in recipe .out))) _) (wholeSlot v u r) (v .slot w r);
         state =
             m .state
             ∙ ap (splice (slotAt (v .size) u 0) (slotBytes * t) (tab t (wholeSlot v u))) (sym whole)
@@ -71,7 +72,8 @@ module _ {s₀ : List ℕ} {u : ℕ} {members weights : List ℕ} (recipe : Reci
   pub rebuilding-start : Rebuilding s₀ u s₀ 0
   rebuilding-start = writing-start wide room
 
-  pub rebuilding-turn : {s s′ z : List ℕ} {t at : ℕ} → Rebuilding s₀ u s t → t < byte s₀ 5 → at ≡ slotAt (byte s₀ 5) u t → z ≡ wholeSlot (view s) u t → s′ ≡ splice at slotBytes z s
+  pub rebuilding-turn : {s s′ z : List ℕ} {t at : ℕ} → Rebuilding s₀ u s t → t < byte s₀ 5 → at ≡ slotAt (byte s₀ 5) u t → z ≡ wholeSlot (view s) u t
+      → s′ ≡ splice at slotBytes z s
       → Rebuilding s₀ u s′ (t + 1)
   rebuilding-turn {s} {s′} {z} {t} {at} m lt ea ez es =
       let l : t < v .size = rw (← size-of s₀) lt in

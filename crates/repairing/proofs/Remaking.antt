@@ -97,7 +97,8 @@ module _ {s₀ : List ℕ} {g : ℕ} (h : Group s₀ g) where
         turned
         (m .state
         ∙ chunks-ext check-units v (so-far v g t) (so-far v g (suc t)) (λ c r a b.
-        renewed-off (wholeCheck v g) (v .check) (3 * g) t (λ c r e. pick-false (ne-eqb (v .cstate c) 2 (λ k. n (state-read ∙ ap (v .cstate) (sym e) ∙ k))) _ (v .check c r)) c r))
+        renewed-off (wholeCheck v g) (v .check) (3 * g) t
+        (λ c r e. pick-false (ne-eqb (v .cstate c) 2 (λ k. n (state-read ∙ ap (v .cstate) (sym e) ∙ k))) _ (v .check c r)) c r))
 
     -- it is, and was made from the store as it stood
     made-here : byte s (24 + i) ≡ 2 → (r : ℕ) → wholeCheck v g i r ≡ checkRecord t (slotsOf v g r)

@@ -64,7 +64,8 @@ module _ {s₀ s₁ : List ℕ} {g : ℕ} (h : Repairable s₀ g) (e₁ : s₁ �
     check₂ c r a b =
         let size : view s₁ .size ≡ v .size = seen₁ .size in
         seen₂ .check c r a (rw size b)
-        ∙ ap₂ (λ x y. pick (eqb (c / 3) g && eqb (view s₁ .cstate c) 2) x y) (checkRecord-ext (c % 3) (slotsOf (view s₁) g r) (λ p. wholeSlot v (4 * g + p) r) (λ p l. slots₁ r p b l)) (seen₁ .check c r a b)
+        ∙ ap₂ (λ x y. pick (eqb (c / 3) g && eqb (view s₁ .cstate c) 2) x y)
+        (checkRecord-ext (c % 3) (slotsOf (view s₁) g r) (λ p. wholeSlot v (4 * g + p) r) (λ p l. slots₁ r p b l)) (seen₁ .check c r a b)
         ∙ ap (λ x. pick (eqb (c / 3) g && eqb x 2) (checkRecord (c % 3) (λ p. wholeSlot v (4 * g + p) r)) (v .check c r)) (seen₁ .cstate c a)
 
     -- THE STEPS TOGETHER

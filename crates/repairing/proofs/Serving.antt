@@ -130,7 +130,8 @@ units-served {s} {z₁} {z₂} {s₂} {g} d c h ed ec e₁ e₂ e =
     let s₁ : List ℕ = splice d 4 z₁ s in
     let low : g < 4 = h .group in
     let first : Served d 4 s s₁ = record { low = omega arith; high = omega arith; room = omega (arith, h .long); state = ap (λ z. splice d 4 z s) e₁ } in
-    let second : Served c 3 s₁ s₂ = record { low = omega arith; high = omega arith; room = omega (arith, h .long, served-restated first .size); state = e ∙ ap (λ z. splice c 3 z s₁) e₂ } in
+    let second : Served c 3 s₁ s₂ =
+    record { low = omega arith; high = omega arith; room = omega (arith, h .long, served-restated first .size); state = e ∙ ap (λ z. splice c 3 z s₁) e₂ } in
     let one = served-restated first in
     let two = served-restated second in
     let both : Restated s s₂ = record { front = two .front ∙ one .front; behind = λ o k. two .behind o k ∙ one .behind o k; size = two .size ∙ one .size } in

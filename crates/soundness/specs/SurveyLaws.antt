@@ -59,7 +59,8 @@ module _ {s : List ℕ} {ok : Bool} {fills firstChecks outs : List ℕ} (g : Sur
     pub outs-read : {i : ℕ} (h : ℕ) → i ≡ h → h < 4 → getD outs i 0 ≡ outsIn (view s) h
     outs-read = entry-read outs 4 (outsIn (view s)) (g .out)
 
-    pub fill-read : {i : ℕ} (u : ℕ) → i ≡ u → u < 16 → (byte s (8 + u) ≡ 2 → firstCheck (view s) (u / 4) < 3 * (u / 4) + 3) → getD fills i 0 ≡ listedFill (view s) u
+    pub fill-read : {i : ℕ} (u : ℕ) → i ≡ u → u < 16 → (byte s (8 + u) ≡ 2 → firstCheck (view s) (u / 4) < 3 * (u / 4) + 3)
+        → getD fills i 0 ≡ listedFill (view s) u
     fill-read u ei l h = entry-read fills 16 (knownFill (view s)) (g .filled) u ei l ∙ unfold knownFill in pick-false (listed-kept s u h) _ _
 
     -- of a unit of whose group none is out

@@ -38,7 +38,8 @@ unfolding dealt recordsIn
 dealt-long v m h hn u r a b =
     let n : ℕ = splitPointer m in
     let each : (p : List ℕ → Bool) → length (getD (filterBy p (rows (fillIn v n) (v .slot n))) r (zeros slotBytes)) ≡ slotBytes =
-    λ p. kept-holds (λ x. length x ≡ slotBytes) p (fillIn v n) (v .slot n) (λ k l. h .slot n k hn (omega (arith, fill-most v n))) r (zeros slotBytes) (length-zeros slotBytes) in
+    λ p. kept-holds (λ x. length x ≡ slotBytes) p (fillIn v n) (v .slot n) (λ k l. h .slot n k hn (omega (arith, fill-most v n)))
+    r (zeros slotBytes) (length-zeros slotBytes) in
     by-pick (λ (x : List ℕ). length x ≡ slotBytes) (eqb u m) _ _ (λ _. each (λ x. moves m (keyOf x))) (λ _.
     by-pick (λ (x : List ℕ). length x ≡ slotBytes) (eqb u n) _ _ (λ _. each (λ x. not (moves m (keyOf x)))) (λ _. h .slot u r a b))
 
@@ -85,4 +86,5 @@ module _ {s s₁ : List ℕ} {n m : ℕ} (sp : Split s n m) (e₁ : s₁ ≡ byt
         old-holds = holds-step (levelled-change (ofFirst n) k) new-holds e₄
 
         pub all-added : {s₅ : List ℕ} → k ≡ levelIn (view s) → s₅ ≡ bytes (remade (ofBoth m) (view s₄)) → s₅ ≡ bytes (grown (view s) m)
-        all-added {s₅} ek e₅ = holds-step (remade-change (ofBoth m)) old-holds e₅ .state ∙ (unfold added in bytes-ext _ _ (added-grown (view s) n m k (sp .from) ek))
+        all-added {s₅} ek e₅ =
+            holds-step (remade-change (ofBoth m)) old-holds e₅ .state ∙ (unfold added in bytes-ext _ _ (added-grown (view s) n m k (sp .from) ek))

@@ -59,21 +59,29 @@ module _ (v : Store) (n m : ℕ) (apart : n ≡ m → ⊥) where
   dealing-next t h =
       pick-false (ne-eqb n m apart) _ _ ∙ pick-true (eq-eqb n n refl) _ _ ∙ List·getD-eq-default (kept v n m t) (v .slot n t) {n = t} h
 
-  dealing-goes : (t u r : ℕ) → moves m (keyOf (v .slot n t)) ≡ true → upd2 (dealing v n m t) m (length (gone v n m t)) (v .slot n t) u r ≡ dealing v n m (suc t) u r
+  dealing-goes : (t u r : ℕ) → moves m (keyOf (v .slot n t)) ≡ true
+      → upd2 (dealing v n m t) m (length (gone v n m t)) (v .slot n t) u r ≡ dealing v n m (suc t) u r
   unfolding dealing upd2 pick
   dealing-goes t u r e =
-      rw (kept-yes (λ x. moves m (keyOf x)) t (v .slot n) e, kept-no (λ x. not (moves m (keyOf x))) t (v .slot n) (ap not e), getD-snoc (gone v n m t) (v .slot n t) (v .slot m r) r)
-      (go (eqb u m) (eqb r (length (gone v n m t))) (v .slot n t) (getD (gone v n m t) r (v .slot m r)) (pick (eqb u n) (getD (kept v n m t) r (v .slot n r)) (v .slot u r)))
+      let goes = kept-yes (λ x. moves m (keyOf x)) t (v .slot n) e in
+      let rest = kept-no (λ x. not (moves m (keyOf x))) t (v .slot n) (ap not e) in
+      rw (goes, rest, getD-snoc (gone v n m t) (v .slot n t) (v .slot m r) r)
+      (go (eqb u m) (eqb r (length (gone v n m t))) (v .slot n t) (getD (gone v n m t) r (v .slot m r))
+      (pick (eqb u n) (getD (kept v n m t) r (v .slot n r)) (v .slot u r)))
     where
       go : (a b : Bool) (x y z : List ℕ) → pick (a && b) x (pick a y z) ≡ pick a (pick b x y) z
       go true b x y z = refl
       go false b x y z = refl
 
-  dealing-stays : (t u r : ℕ) → moves m (keyOf (v .slot n t)) ≡ false → upd2 (dealing v n m t) n (length (kept v n m t)) (v .slot n t) u r ≡ dealing v n m (suc t) u r
+  dealing-stays : (t u r : ℕ) → moves m (keyOf (v .slot n t)) ≡ false
+      → upd2 (dealing v n m t) n (length (kept v n m t)) (v .slot n t) u r ≡ dealing v n m (suc t) u r
   unfolding dealing upd2 pick
   dealing-stays t u r e =
-      rw (kept-no (λ x. moves m (keyOf x)) t (v .slot n) e, kept-yes (λ x. not (moves m (keyOf x))) t (v .slot n) (ap not e), getD-snoc (kept v n m t) (v .slot n t) (v .slot n r) r)
-      (go (eqb u m) (eqb u n) (eqb r (length (kept v n m t))) (v .slot n t) (getD (gone v n m t) r (v .slot m r)) (getD (kept v n m t) r (v .slot n r)) (v .slot u r) refl refl)
+      let rest = kept-no (λ x. moves m (keyOf x)) t (v .slot n) e in
+      let stays = kept-yes (λ x. not (moves m (keyOf x))) t (v .slot n) (ap not e) in
+      rw (rest, stays, getD-snoc (kept v n m t) (v .slot n t) (v .slot n r) r)
+      (go (eqb u m) (eqb u n) (eqb r (length (kept v n m t))) (v .slot n t) (getD (gone v n m t) r (v .slot m r))
+      (getD (kept v n m t) r (v .slot n r)) (v .slot u r) refl refl)
     where
       go : (a b c : Bool) (x y z w : List ℕ) → eqb u m ≡ a → eqb u n ≡ b → pick (b && c) x (pick a y (pick b z w)) ≡ pick a y (pick b (pick c x z) w)
       go true true c x y z w p q = absurd (apart (sym (eqb-true u n q) ∙ eqb-true u m p))
@@ -91,7 +99,8 @@ module _ (v : Store) (n m : ℕ) (apart : n ≡ m → ⊥) where
 
   -- what is behind the dealt records is emptied, of unit n and then of unit m
   dealing-cleared : (t u r : ℕ)
-      → pick (eqb u m && leb (length (gone v n m t)) r) (zeros slotBytes) (pick (eqb u n && leb (length (kept v n m t)) r) (zeros slotBytes) (dealing v n m t u r))
+      → pick (eqb u m && leb (length (gone v n m t)) r) (zeros slotBytes)
+      (pick (eqb u n && leb (length (kept v n m t)) r) (zeros slotBytes) (dealing v n m t u r))
       ≡ pick (eqb u m) (getD (gone v n m t) r (zeros slotBytes)) (pick (eqb u n) (getD (kept v n m t) r (zeros slotBytes)) (v .slot u r))
   unfolding dealing pick
   dealing-cleared t u r = go (eqb u m) (eqb u n) refl refl
@@ -132,15 +141,28 @@ module _ (s₀ : List ℕ) (n m count : ℕ) (sp : Split s₀ n m) (ec : count �
   dealt-so-far : (s : List ℕ) (stay left t : ℕ) → t ≤ count → stay + left ≡ t → stay ≡ length (kept (view s₀) n m t) → left ≡ length (gone (view s₀) n m t)
       → s ≡ bytes (withSlots (view s₀) (dealing (view s₀) n m t)) → Dealing s₀ n m count s stay left t
   dealt-so-far s stay left t w f a b e =
-      let h : Holds s₀ s (withSlots (view s₀) (dealing (view s₀) n m t)) = unfold withSlots in record { shaped = shaped t w; size = refl; rest = refl; state = e } in
-      record { within = w; most = most; few = f; stayed = a; went = b; long = holds-length h (sp .sized .long); five = holds-five h; sized = slots-sized _ (sp .sized) h; holds = h }
+      let h : Holds s₀ s (withSlots (view s₀) (dealing (view s₀) n m t)) =
+      unfold withSlots in record { shaped = shaped t w; size = refl; rest = refl; state = e } in
+      record {
+        within = w;
+        most = most;
+        few = f;
+        stayed = a;
+        went = b;
+        long = holds-length h (sp .sized .long);
+        five = holds-five h;
+        sized = slots-sized _ (sp .sized) h;
+        holds = h;
+      }
 
   pub dealing-start : Dealing s₀ n m count s₀ 0 0 0
   dealing-start =
-      dealt-so-far s₀ 0 0 0 (omega arith) refl (sym (ap length (kept-none (λ x. not (moves m (keyOf x))) (view s₀ .slot n)))) (sym (ap length (kept-none (λ x. moves m (keyOf x)) (view s₀ .slot n))))
+      dealt-so-far s₀ 0 0 0 (omega arith) refl (sym (ap length (kept-none (λ x. not (moves m (keyOf x))) (view s₀ .slot n))))
+      (sym (ap length (kept-none (λ x. moves m (keyOf x)) (view s₀ .slot n))))
       (chunks-same data-units s₀ _ (sp .sized .long) (λ u r a b. dealing-none (view s₀) n m apart u r))
 
-  module _ {s : List ℕ} {stay left t key w : ℕ} (d : Dealing s₀ n m count s stay left t) (ht : t < count) (ek : key ≡ keyOf (view s .slot n t)) (ew : w ≡ unitOf (m + 1) key) where
+  module _ {s : List ℕ} {stay left t key w : ℕ} (d : Dealing s₀ n m count s stay left t) (ht : t < count)
+      (ek : key ≡ keyOf (view s .slot n t)) (ew : w ≡ unitOf (m + 1) key) where
     next : view s .slot n t ≡ view s₀ .slot n t
     next =
         let h : Holds s₀ s (withSlots (view s₀) (dealing (view s₀) n m t)) = d .holds in
@@ -154,7 +176,8 @@ module _ (s₀ : List ℕ) (n m count : ℕ) (sp : Split s₀ n m) (ec : count �
     unfolding moves
     same-test = rw (ew, ek, next, add-one)
 
-    put : {s′ : List ℕ} (u q : ℕ) → u < 16 → q ≤ t → s′ ≡ splice (slotAt (byte s 5) u q) slotBytes (view s .slot n t) s → s′ ≡ bytes (withSlots (view s₀) (upd2 (dealing (view s₀) n m t) u q (view s₀ .slot n t)))
+    put : {s′ : List ℕ} (u q : ℕ) → u < 16 → q ≤ t → s′ ≡ splice (slotAt (byte s 5) u q) slotBytes (view s .slot n t) s
+        → s′ ≡ bytes (withSlots (view s₀) (upd2 (dealing (view s₀) n m t) u q (view s₀ .slot n t)))
     put {s′} u q hu hq e =
         let h : Holds s₀ s (withSlots (view s₀) (dealing (view s₀) n m t)) = d .holds in
         chunk-put data-units _ (h .shaped) s (h .state) (byte s 5) (size-at _ (h .shaped) s (h .state)) s′ (view s₀ .slot n t)
@@ -162,22 +185,26 @@ module _ (s₀ : List ℕ) (n m count : ℕ) (sp : Split s₀ n m) (ec : count �
         (e ∙ ap (λ x. splice (slotAt (byte s 5) u q) slotBytes x s) next)
         ∙ ap bytes (chunks-again data-units (view s₀) (dealing (view s₀) n m t) u q (view s₀ .slot n t))
 
-    pub deal-goes : {s′ : List ℕ} → eqb w m ≡ true → s′ ≡ splice (slotAt (byte s 5) m left) slotBytes (view s .slot n t) s → Dealing s₀ n m count s′ stay (left + 1) (t + 1)
+    pub deal-goes : {s′ : List ℕ} → eqb w m ≡ true → s′ ≡ splice (slotAt (byte s 5) m left) slotBytes (view s .slot n t) s
+        → Dealing s₀ n m count s′ stay (left + 1) (t + 1)
     deal-goes {s′} test e =
         let go : moves m (keyOf (view s₀ .slot n t)) ≡ true = sym same-test ∙ test in
         rw (add-one t)
         (dealt-so-far s′ stay (left + 1) (suc t) ht (omega (arith, d .few))
         (d .stayed ∙ sym (ap length (kept-no (λ x. not (moves m (keyOf x))) t (view s₀ .slot n) (ap not go))))
-        (sym (ap length (kept-yes (λ x. moves m (keyOf x)) t (view s₀ .slot n) go) ∙ length-snoc (gone (view s₀) n m t) (view s₀ .slot n t) ∙ omega (arith, d .went)))
+        (sym (ap length (kept-yes (λ x. moves m (keyOf x)) t (view s₀ .slot n) go) ∙ length-snoc (gone (view s₀) n m t) (view s₀ .slot n t)
+        ∙ omega (arith, d .went)))
         (put m left (sp .unit) (omega (arith, d .few)) e
         ∙ rw (d .went) (chunks-ext data-units (view s₀) _ _ (λ u r a b. dealing-goes (view s₀) n m apart t u r go))))
 
-    pub deal-stays : {s′ : List ℕ} → eqb w m ≡ false → s′ ≡ splice (slotAt (byte s 5) n stay) slotBytes (view s .slot n t) s → Dealing s₀ n m count s′ (stay + 1) left (t + 1)
+    pub deal-stays : {s′ : List ℕ} → eqb w m ≡ false → s′ ≡ splice (slotAt (byte s 5) n stay) slotBytes (view s .slot n t) s
+        → Dealing s₀ n m count s′ (stay + 1) left (t + 1)
     deal-stays {s′} test e =
         let stand : moves m (keyOf (view s₀ .slot n t)) ≡ false = sym same-test ∙ test in
         rw (add-one t)
         (dealt-so-far s′ (stay + 1) left (suc t) ht (omega (arith, d .few))
-        (sym (ap length (kept-yes (λ x. not (moves m (keyOf x))) t (view s₀ .slot n) (ap not stand)) ∙ length-snoc (kept (view s₀) n m t) (view s₀ .slot n t) ∙ omega (arith, d .stayed)))
+        (sym (ap length (kept-yes (λ x. not (moves m (keyOf x))) t (view s₀ .slot n) (ap not stand)) ∙ length-snoc (kept (view s₀) n m t) (view s₀ .slot n t)
+        ∙ omega (arith, d .stayed)))
         (d .went ∙ sym (ap length (kept-no (λ x. moves m (keyOf x)) t (view s₀ .slot n) stand)))
         (put n stay (omega (arith, sp .apart, sp .unit)) (omega (arith, d .few)) e
         ∙ rw (d .stayed) (chunks-ext data-units (view s₀) _ _ (λ u r a b. dealing-stays (view s₀) n m apart t u r stand))))
@@ -196,7 +223,8 @@ module _ (s₀ : List ℕ) (n m count : ℕ) (sp : Split s₀ n m) (ec : count �
       holds-step (cleared-change m left) (holds-step (cleared-change n stay) (d .holds) e₁) e₂ .state
       ∙ rw (d .stayed, d .went, all) whole
     where
-      whole : bytes (cleared (cleared (withSlots (view s₀) (dealing (view s₀) n m (fillIn (view s₀) n))) n (length (kept (view s₀) n m (fillIn (view s₀) n)))) m (length (gone (view s₀) n m (fillIn (view s₀) n))))
+      whole : bytes (cleared (cleared (withSlots (view s₀) (dealing (view s₀) n m (fillIn (view s₀) n))) n (length (kept (view s₀) n m (fillIn (view s₀) n)))) m
+          (length (gone (view s₀) n m (fillIn (view s₀) n))))
           ≡ bytes (withSlots (view s₀) (dealt (view s₀) m))
       whole = unfold cleared withSlots dealt recordsIn in
           bytes-ext _ _ (record {

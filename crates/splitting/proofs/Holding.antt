@@ -55,7 +55,8 @@ pub slots-sized : {s₀ s : List ℕ} (f : ℕ → ℕ → List ℕ) → Sized s
 unfolding withSlots view
 slots-sized {s₀} {s} f z h =
     let five : byte s 5 ≡ byte s₀ 5 = holds-five h in
-    let six : byte s 6 ≡ byte s₀ 6 = ap (λ x. byte x 6) (h .state) ∙ byte-front (withSlots (view s₀) f) (h .shaped) 6 (omega arith) ∙ getD-take 8 s₀ 6 0 (omega arith) in
+    let six : byte s 6 ≡ byte s₀ 6 =
+    ap (λ x. byte x 6) (h .state) ∙ byte-front (withSlots (view s₀) f) (h .shaped) 6 (omega arith) ∙ getD-take 8 s₀ 6 0 (omega arith) in
     record {
       some = rw five (z .some);
       ranks = rw five (z .ranks);

@@ -14,7 +14,8 @@ use Rattle.model.specs.Changes.{filterBy, rows}
 
 leb-suc : (a b : ℕ) → leb (suc a) (suc b) ≡ leb a b
 leb-suc a b =
-    same-test (leb (suc a) (suc b)) (leb a b) (λ e. le-leb a b (omega (arith, leb-true (suc a) (suc b) e))) (λ e. le-leb (suc a) (suc b) (omega (arith, leb-true a b e)))
+    same-test (leb (suc a) (suc b)) (leb a b) (λ e. le-leb a b (omega (arith, leb-true (suc a) (suc b) e)))
+    (λ e. le-leb (suc a) (suc b) (omega (arith, leb-true a b e)))
 
 module _ {A : Type 0} where
   -- one element more
@@ -48,7 +49,8 @@ module _ {A : Type 0} where
   unfolding rows
   behind-more xs n f = sym (append-assoc xs (rows n f) (f n ∷ []))
 
-  pub behind-holds : (P : A → Type 0) (xs : List A) (n : ℕ) (f : ℕ → A) → ((k : ℕ) → k < n → P (f k)) → (r : ℕ) (d : A) → P (getD xs r d) → P (getD (xs ++ rows n f) r d)
+  pub behind-holds : (P : A → Type 0) (xs : List A) (n : ℕ) (f : ℕ → A) → ((k : ℕ) → k < n → P (f k)) → (r : ℕ) (d : A) → P (getD xs r d)
+      → P (getD (xs ++ rows n f) r d)
   behind-holds P xs zero f h r d e = rw (behind-none xs f) e
   behind-holds P xs (suc n) f h r d e =
       let ih : P (getD (xs ++ rows n f) r d) = behind-holds P xs n f (λ k l. h k (omega arith)) r d e in
@@ -62,7 +64,8 @@ module _ {A : Type 0} where
   rows-self (suc n) f r =
       let ih : getD (rows n f) r (f r) ≡ f r = rows-self n f r in
       getD-snoc (rows n f) (f n) (f r) r
-      ∙ by-pick (λ x. x ≡ f r) (eqb r (length (rows n f))) (f n) (getD (rows n f) r (f r)) (λ e. ap f (sym (eqb-true r (length (rows n f)) e ∙ length-rows n f))) (λ _. ih)
+      ∙ by-pick (λ x. x ≡ f r) (eqb r (length (rows n f))) (f n) (getD (rows n f) r (f r))
+      (λ e. ap f (sym (eqb-true r (length (rows n f)) e ∙ length-rows n f))) (λ _. ih)
 
   -- ---- what is kept of the first elements
   filter-snoc : (p : A → Bool) (xs : List A) (x : A) → filterBy p (xs ++ (x ∷ [])) ≡ pick (p x) (filterBy p xs ++ (x ∷ [])) (filterBy p xs)
@@ -89,7 +92,8 @@ module _ {A : Type 0} where
   unfolding rows
   kept-no p t f e = filter-snoc p (rows t f) (f t) ∙ pick-false e _ _
 
-  pub kept-holds : (P : A → Type 0) (p : A → Bool) (t : ℕ) (f : ℕ → A) → ((k : ℕ) → k < t → P (f k)) → (r : ℕ) (d : A) → P d → P (getD (filterBy p (rows t f)) r d)
+  pub kept-holds : (P : A → Type 0) (p : A → Bool) (t : ℕ) (f : ℕ → A) → ((k : ℕ) → k < t → P (f k)) → (r : ℕ) (d : A) → P d
+      → P (getD (filterBy p (rows t f)) r d)
   kept-holds P p zero f h r d e = rw (kept-none p f) e
   kept-holds P p (suc t) f h r d e =
       let ih : P (getD (filterBy p (rows t f)) r d) = kept-holds P p t f (λ k l. h k (omega arith)) r d e in

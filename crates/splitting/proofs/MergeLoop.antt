@@ -41,7 +41,8 @@ module _ (v : Store) (n m : ℕ) (apart : n ≡ m → ⊥) where
   unfolding merging
   merging-none u r =
       by-pick (λ x. v .slot u r ≡ x) (eqb u n) _ _
-      (λ e. ap (λ k. v .slot k r) (eqb-true u n e) ∙ sym (ap (λ l. getD l r (v .slot n r)) (behind-none (rows (fillIn v n) (v .slot n)) (v .slot m)) ∙ rows-self (fillIn v n) (v .slot n) r))
+      (λ e. ap (λ k. v .slot k r) (eqb-true u n e)
+      ∙ sym (ap (λ l. getD l r (v .slot n r)) (behind-none (rows (fillIn v n) (v .slot n)) (v .slot m)) ∙ rows-self (fillIn v n) (v .slot n) r))
       (λ e. refl)
 
   merging-next : (t r : ℕ) → merging v n m t m r ≡ v .slot m r
@@ -58,7 +59,8 @@ module _ (v : Store) (n m : ℕ) (apart : n ≡ m → ⊥) where
       go true b x y z = refl
       go false b x y z = refl
 
-  merging-long : (t : ℕ) → Shaped v → n < 16 → m < 16 → fillIn v n ≤ v .size → t ≤ v .size → (u r : ℕ) → u < 16 → r < v .size → length (merging v n m t u r) ≡ slotBytes
+  merging-long : (t : ℕ) → Shaped v → n < 16 → m < 16 → fillIn v n ≤ v .size → t ≤ v .size → (u r : ℕ) → u < 16 → r < v .size
+      → length (merging v n m t u r) ≡ slotBytes
   unfolding merging
   merging-long t h hn hm hf ht u r a b =
       by-pick
@@ -79,7 +81,8 @@ module _ (v : Store) (n m : ℕ) (apart : n ≡ m → ⊥) where
   merging-cleared t u r = rw (le-leb 0 r (omega arith), ← length-joined v n m t) (go (eqb u m) (eqb u n))
     where
       go : (a b : Bool)
-          → pick (a && true) (zeros slotBytes) (pick (b && leb (length (joined v n m t)) r) (zeros slotBytes) (pick b (getD (joined v n m t) r (v .slot n r)) (v .slot u r)))
+          → pick (a && true) (zeros slotBytes) (pick (b && leb (length (joined v n m t)) r) (zeros slotBytes)
+          (pick b (getD (joined v n m t) r (v .slot n r)) (v .slot u r)))
           ≡ pick a (zeros slotBytes) (pick b (getD (joined v n m t) r (zeros slotBytes)) (v .slot u r))
       go true b = refl
       go false true = getD-default (joined v n m t) (v .slot n r) (zeros slotBytes) r
@@ -92,7 +95,8 @@ pub record Merging (s₀ : List ℕ) (n m more : ℕ) (s : List ℕ) (t : ℕ) :
   pub five : byte s 5 ≡ byte s₀ 5
   pub holds : Holds s₀ s (withSlots (view s₀) (merging (view s₀) n m t))
 
-module _ (s₀ : List ℕ) (n m count more : ℕ) (sp : Split s₀ n m) (ec : count ≡ fillIn (view s₀) n) (em : more ≡ fillIn (view s₀) m) (room : count + more ≤ byte s₀ 5) where
+module _ (s₀ : List ℕ) (n m count more : ℕ) (sp : Split s₀ n m) (ec : count ≡ fillIn (view s₀) n) (em : more ≡ fillIn (view s₀) m)
+    (room : count + more ≤ byte s₀ 5) where
   apart : n ≡ m → ⊥
   apart e = omega (arith, sp .apart)
 
@@ -100,8 +104,10 @@ module _ (s₀ : List ℕ) (n m count more : ℕ) (sp : Split s₀ n m) (ec : co
   merged-so-far s t w e =
       let shaped : Shaped (withSlots (view s₀) (merging (view s₀) n m t)) =
       chunks-shaped data-units (view s₀) _ (view-shaped s₀ (sp .sized .long))
-      (merging-long (view s₀) n m apart t (view-shaped s₀ (sp .sized .long)) (omega (arith, sp .apart, sp .unit)) (sp .unit) (omega (arith, size-of s₀)) (omega (arith, size-of s₀))) in
-      let h : Holds s₀ s (withSlots (view s₀) (merging (view s₀) n m t)) = unfold withSlots in record { shaped = shaped; size = refl; rest = refl; state = e } in
+      (merging-long (view s₀) n m apart t (view-shaped s₀ (sp .sized .long)) (omega (arith, sp .apart, sp .unit))
+      (sp .unit) (omega (arith, size-of s₀)) (omega (arith, size-of s₀))) in
+      let h : Holds s₀ s (withSlots (view s₀) (merging (view s₀) n m t)) =
+      unfold withSlots in record { shaped = shaped; size = refl; rest = refl; state = e } in
       record { within = w; long = holds-length h (sp .sized .long); five = holds-five h; holds = h }
 
   pub merging-start : Merging s₀ n m more s₀ 0

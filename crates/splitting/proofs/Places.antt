@@ -179,7 +179,8 @@ module _ (p q o : ℕ → Bool) (e : (c : ℕ) → (p c || q c) ≡ o c) (v : St
     cstate = λ c a. refl;
     slot = λ u r a b. refl;
     check = λ c r a b.
-        pick-or-and (p c) (q c) (eqb (v .cstate c) 1) (madeRecord v c r) (v .check c r) ∙ ap (λ t. pick (t && eqb (v .cstate c) 1) (madeRecord v c r) (v .check c r)) (e c);
+        pick-or-and (p c) (q c) (eqb (v .cstate c) 1) (madeRecord v c r) (v .check c r)
+        ∙ ap (λ t. pick (t && eqb (v .cstate c) 1) (madeRecord v c r) (v .check c r)) (e c);
     rest = refl;
   }
 
@@ -228,7 +229,8 @@ module _ (n m : ℕ) (from : n ≡ splitPointer m) where
 -- ---- a change of the check units that a test picks, made of the bytes: for one test and then for another, and for the three places of a group
 module _ (f : (ℕ → Bool) → Store → Store) (change : (p : ℕ → Bool) → Change (f p))
     (twice : (p q o : ℕ → Bool) → ((c : ℕ) → (p c || q c) ≡ o c) → (v : Store) → Same (f q (f p v)) (f o v)) where
-  pub two-steps : (s : List ℕ) {s₁ s₂ : List ℕ} (p q o : ℕ → Bool) → ((c : ℕ) → (p c || q c) ≡ o c) → Long s → s₁ ≡ bytes (f p (view s)) → s₂ ≡ bytes (f q (view s₁)) → s₂ ≡ bytes (f o (view s))
+  pub two-steps : (s : List ℕ) {s₁ s₂ : List ℕ} (p q o : ℕ → Bool) → ((c : ℕ) → (p c || q c) ≡ o c) → Long s → s₁ ≡ bytes (f p (view s))
+      → s₂ ≡ bytes (f q (view s₁)) → s₂ ≡ bytes (f o (view s))
   two-steps s {s₁} {s₂} p q o e l e₁ e₂ =
       holds-step (change q) (holds-step (change p) (holds-start l) e₁) e₂ .state ∙ bytes-ext _ _ (twice p q o e (view s))
 

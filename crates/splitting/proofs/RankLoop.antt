@@ -35,7 +35,8 @@ module _ (v : Store) (g : ℕ) where
   made-none : (c q : ℕ) → v .check c q ≡ madeTo v g 0 c q
   unfolding madeTo
   made-none c q =
-      sym (pick-false (ap (λ t. inGroup g c && (eqb (v .cstate c) 1 && t)) (le-ltb q 0 (omega arith)) ∙ ap (λ t. inGroup g c && t) (and-false (eqb (v .cstate c) 1)) ∙ and-false (inGroup g c)) _ _)
+      sym (pick-false (ap (λ t. inGroup g c && (eqb (v .cstate c) 1 && t)) (le-ltb q 0 (omega arith))
+      ∙ ap (λ t. inGroup g c && t) (and-false (eqb (v .cstate c) 1)) ∙ and-false (inGroup g c)) _ _)
 
   -- one rank more: the test of the rank, or that of the ranks before it
   one-more : (q t : ℕ) (x y : List ℕ) (a s : Bool)
@@ -65,7 +66,8 @@ module _ (v : Store) (g : ℕ) where
   made-all : (t c q : ℕ) → q < t → madeTo v g t c q ≡ pick (inGroup g c && eqb (v .cstate c) 1) (madeRecord v c q) (v .check c q)
   unfolding madeTo
   made-all t c q l =
-      ap (λ u. pick u (madeRecord v c q) (v .check c q)) (ap (λ u. inGroup g c && (eqb (v .cstate c) 1 && u)) (lt-ltb q t l) ∙ ap (λ u. inGroup g c && u) (and-true (eqb (v .cstate c) 1)))
+      ap (λ u. pick u (madeRecord v c q) (v .check c q))
+      (ap (λ u. inGroup g c && (eqb (v .cstate c) 1 && u)) (lt-ltb q t l) ∙ ap (λ u. inGroup g c && u) (and-true (eqb (v .cstate c) 1)))
 
 pub record Making (s₀ : List ℕ) (g : ℕ) (s : List ℕ) (t : ℕ) : Type 0 where
   pub within : t ≤ byte s₀ 5
@@ -82,7 +84,8 @@ module _ (s₀ : List ℕ) (g : ℕ) (l : Long s₀) (hg : g < 4) where
   made-shaped t =
       let h : Shaped (view s₀) = view-shaped s₀ l in
       chunks-shaped check-units (view s₀) _ h (λ c q a b.
-      by-pick (λ (x : List ℕ). length x ≡ checkBytes) (inGroup g c && (eqb (view s₀ .cstate c) 1 && ltb q t)) _ _ (λ _. made-long (view s₀) h c q a b) (λ _. h .check c q a b))
+      by-pick (λ (x : List ℕ). length x ≡ checkBytes) (inGroup g c && (eqb (view s₀ .cstate c) 1 && ltb q t))
+      _ _ (λ _. made-long (view s₀) h c q a b) (λ _. h .check c q a b))
 
   held : (s : List ℕ) (t : ℕ) → s ≡ bytes (withChecks (view s₀) (madeTo (view s₀) g t)) → Holds s₀ s (withChecks (view s₀) (madeTo (view s₀) g t))
   unfolding withChecks

@@ -68,7 +68,8 @@ body-lent s at h = let size : at + 20 - (at + 4) ≡ bodyBytes = omega arith in 
 
 -- the parity of four bodies is that of the slots
 pub slots-parity : (v : Store) (g r j : ℕ) (a b c d : List ℕ) → a ≡ drop keyBytes (v .slot (4 * g) r) → b ≡ drop keyBytes (v .slot (4 * g + 1) r)
-    → c ≡ drop keyBytes (v .slot (4 * g + 2) r) → d ≡ drop keyBytes (v .slot (4 * g + 3) r) → parity j (fourBodies a b c d) ≡ parity j (λ p. drop keyBytes (v .slot (4 * g + p) r))
+    → c ≡ drop keyBytes (v .slot (4 * g + 2) r) → d ≡ drop keyBytes (v .slot (4 * g + 3) r)
+    → parity j (fourBodies a b c d) ≡ parity j (λ p. drop keyBytes (v .slot (4 * g + p) r))
 unfolding fourBodies
 slots-parity v g r j a b c d ea eb ec ed =
     let none : 4 * g ≡ 4 * g + 0 = omega arith in
@@ -90,7 +91,8 @@ unfolding putCheck
 put-change c r z e =
     checks-change
     (λ t d q. pick (eqb d c && (eqb q r && eqb (t .cstate d) 1)) z (t .check d q))
-    (λ t h d q a b. by-pick (λ (x : List ℕ). length x ≡ checkBytes) (eqb d c && (eqb q r && eqb (t .cstate d) 1)) z (t .check d q) (λ _. e) (λ _. h .check d q a b))
+    (λ t h d q a b. by-pick (λ (x : List ℕ). length x ≡ checkBytes) (eqb d c && (eqb q r && eqb (t .cstate d) 1))
+    z (t .check d q) (λ _. e) (λ _. h .check d q a b))
     (λ s t h d q a b. rw (h .check d q a b, h .cstate d a))
 
 pub state-of : (s : List ℕ) (c : ℕ) → byte s (24 + c) ≡ view s .cstate c
@@ -106,7 +108,8 @@ module _ (s : List ℕ) (c r : ℕ) (keys x : List ℕ) (h : CheckIn s c r) wher
       ∙ chunk-put check-units (view s) (view-shaped s (h .long)) s (sym (bytes-view s (h .long))) b (eb ∙ size-of s) _ (keys ++ x) at c r ea (h .unit)
       (omega (arith, h .rank)) refl
       ∙ chunks-ext check-units (view s) _ _ (λ d q a k. ap (λ t. pick t (keys ++ x) (view s .check d q)) (
-      and-ext (eqb d c) (eqb q r) (eqb q r && eqb (view s .cstate d) 1) (λ e. sym (ap (λ t. eqb q r && t) (eq-eqb _ 1 (ap (λ k. view s .cstate k) (eqb-true d c e) ∙ sym (state-of s c) ∙ on)) ∙ and-true (eqb q r)))))
+      and-ext (eqb d c) (eqb q r) (eqb q r && eqb (view s .cstate d) 1)
+      (λ e. sym (ap (λ t. eqb q r && t) (eq-eqb _ 1 (ap (λ k. view s .cstate k) (eqb-true d c e) ∙ sym (state-of s c) ∙ on)) ∙ and-true (eqb q r)))))
     where
       check-room : at + checkBytes ≤ length s
       check-room = rw (ea, eb) (place-end h)
@@ -115,7 +118,8 @@ module _ (s : List ℕ) (c r : ℕ) (keys x : List ℕ) (h : CheckIn s c r) wher
   unfolding putCheck
   put-nothing off =
       chunks-same check-units s _ (h .long) (λ d q a k. sym (pick-false (
-      and-ext (eqb d c) (eqb q r && eqb (view s .cstate d) 1) false (λ e. ap (λ t. eqb q r && t) (ne-eqb _ 1 (λ one. off (state-of s c ∙ ap (λ k. view s .cstate k) (sym (eqb-true d c e)) ∙ one))) ∙ and-false (eqb q r))
+      and-ext (eqb d c) (eqb q r && eqb (view s .cstate d) 1) false
+      (λ e. ap (λ t. eqb q r && t) (ne-eqb _ 1 (λ one. off (state-of s c ∙ ap (λ k. view s .cstate k) (sym (eqb-true d c e)) ∙ one))) ∙ and-false (eqb q r))
       ∙ and-false (eqb d c)) _ _))
 
 -- ---- a rank of a group
@@ -124,7 +128,8 @@ unfolding rankMade
 rank-change g r =
     checks-change
     (λ t c q. pick (inGroup g c && (eqb q r && eqb (t .cstate c) 1)) (madeRecord t c q) (t .check c q))
-    (λ t h c q a b. by-pick (λ (x : List ℕ). length x ≡ checkBytes) (inGroup g c && (eqb q r && eqb (t .cstate c) 1)) _ _ (λ _. made-long t h c q a b) (λ _. h .check c q a b))
+    (λ t h c q a b. by-pick (λ (x : List ℕ). length x ≡ checkBytes) (inGroup g c && (eqb q r && eqb (t .cstate c) 1))
+    _ _ (λ _. made-long t h c q a b) (λ _. h .check c q a b))
     (λ s t h c q a b. rw (h .check c q a b, h .cstate c a, made-same s t h c q a b))
 
 -- the three check units, one after the other
@@ -163,7 +168,8 @@ module _ (v : Store) (g r : ℕ) (z : ℕ → List ℕ) (made : (j : ℕ) → j 
   }
 
 -- the three records of a rank, as they are put
-module _ {s : List ℕ} {g r : ℕ} (h : RankIn s g r) {z₀ z₁ z₂ : List ℕ} (e₀ : z₀ ≡ madeRecord (view s) (3 * g) r) (e₁ : z₁ ≡ madeRecord (view s) (3 * g + 1) r) (e₂ : z₂ ≡ madeRecord (view s) (3 * g + 2) r) where
+module _ {s : List ℕ} {g r : ℕ} (h : RankIn s g r) {z₀ z₁ z₂ : List ℕ} (e₀ : z₀ ≡ madeRecord (view s) (3 * g) r) (e₁ : z₁ ≡ madeRecord (view s) (3 * g + 1) r)
+    (e₂ : z₂ ≡ madeRecord (view s) (3 * g + 2) r) where
   record-long : (c : ℕ) (z : List ℕ) → c < 12 → z ≡ madeRecord (view s) c r → length z ≡ checkBytes
   record-long c z l e = ap length e ∙ made-long (view s) (view-shaped s (h .long)) c r l (rw (← size-of s) (h .rank))
 

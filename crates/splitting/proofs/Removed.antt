@@ -67,12 +67,14 @@ module _ (v : Store) (m c : ℕ) (x y : List ℕ) (blank : (v .cstate c ≡ 1 �
       ≡ pick (touched m (c / 3)) (pick (eqb (shrunkState v m c) 1) x (zeros checkBytes)) y
   checks-removed =
       by-test
-      (λ t. pick (t && eqb (shrunkState v m c) 1) x (pick (ofFirst m c) (zeros checkBytes) y) ≡ pick t (pick (eqb (shrunkState v m c) 1) x (zeros checkBytes)) y)
+      (λ t. pick (t && eqb (shrunkState v m c) 1) x (pick (ofFirst m c) (zeros checkBytes) y) ≡ pick
+      t (pick (eqb (shrunkState v m c) 1) x (zeros checkBytes)) y)
       (touched m (c / 3))
       (λ _. pick-ext (eqb (shrunkState v m c) 1) x _ x (zeros checkBytes) (λ _. refl) out-of-service ∙ sym (pick-true refl _ y))
       (λ e. pick-false refl x _ ∙ untouched e ∙ sym (pick-false refl _ y))
 
-pub removed-shrunk : (v : Store) (m : ℕ) → ((c r : ℕ) → c < 12 → r < v .size → (v .cstate c ≡ 1 → ⊥) → v .check c r ≡ zeros checkBytes) → Same (removed v m) (shrunk v m)
+pub removed-shrunk : (v : Store) (m : ℕ) → ((c r : ℕ) → c < 12 → r < v .size → (v .cstate c ≡ 1 → ⊥) → v .check c r ≡ zeros checkBytes)
+    → Same (removed v m) (shrunk v m)
 unfolding removed remade wiped levelled marked withSlots withFront withDstates withCstates withChecks madeRecord shrunk
 removed-shrunk v m blank = record {
   front = refl;
@@ -81,7 +83,8 @@ removed-shrunk v m blank = record {
   cstate = λ c l. states-removed v m c;
   slot = λ u r a b. refl;
   check = λ c r a b.
-      ap (λ z. pick (touched m (c / 3) && eqb z 1) (madeRecord (withSlots v (merged v m)) c r) (pick (ofFirst m c) (zeros checkBytes) (v .check c r))) (states-removed v m c)
+      ap (λ z. pick (touched m (c / 3) && eqb z 1) (madeRecord (withSlots v (merged v m)) c r) (pick (ofFirst m c) (zeros checkBytes) (v .check c r)))
+      (states-removed v m c)
       ∙ checks-removed v m c (madeRecord (withSlots v (merged v m)) c r) (v .check c r) (blank c r a b);
   rest = refl;
 }

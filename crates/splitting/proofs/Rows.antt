@@ -40,7 +40,8 @@ pred-of ℕ.zero = refl
 pred-of (suc n) = omega arith
 
 -- ---- both groups, read at the indices i and j
-pub pair-read : (outs : List ℕ) (m : ℕ) {n i j : ℕ} → n ≡ splitPointer m → i ≡ m / 4 → j ≡ n / 4 → (ltb 0 (getD outs i 0) || ltb 0 (getD outs j 0)) ≡ pairOut (λ g. getD outs g 0) m
+pub pair-read : (outs : List ℕ) (m : ℕ) {n i j : ℕ} → n ≡ splitPointer m → i ≡ m / 4 → j ≡ n / 4
+    → (ltb 0 (getD outs i 0) || ltb 0 (getD outs j 0)) ≡ pairOut (λ g. getD outs g 0) m
 unfolding pairOut
 pair-read outs m en ei ej = rw (ei, ej, en)
 
@@ -62,9 +63,12 @@ module _ (s : List ℕ) (ok : Bool) {m : ℕ} (e : m ≡ byte s 6) where
 
   pub shrink-rows : firstOf (refusalsIn ok (view s) Call.shrink) ≡ firstOf (shrinkRows s ok m)
   unfolding firstOf refusalsIn pairOut pairCrowded
-  shrink-rows = rw (← units, ← pred-of m) (ap (λ n. pick (not ok) 1 (pick (leb m 1) 9 n)) (row-pair _ _ 4 ((pairCrowded (view s .size) (fillIn (view s)) (m - 1), 7) ∷ [])))
+  shrink-rows =
+      rw (← units, ← pred-of m) (ap (λ n. pick (not ok) 1 (pick (leb m 1) 9 n))
+      (row-pair _ _ 4 ((pairCrowded (view s .size) (fillIn (view s)) (m - 1), 7) ∷ [])))
 
-  pub raise-rows : firstOf (refusalsIn ok (view s) Call.raise) ≡ firstOf ((not ok, 1) ∷ (ltb 0 (splitPointer m), 9) ∷ (leb 16 m, 9) ∷ (leb 3 (byte s 7), 9) ∷ [])
+  pub raise-rows : firstOf (refusalsIn ok (view s) Call.raise) ≡ firstOf
+      ((not ok, 1) ∷ (ltb 0 (splitPointer m), 9) ∷ (leb 16 m, 9) ∷ (leb 3 (byte s 7), 9) ∷ [])
   unfolding refusalsIn
   raise-rows = rw (← units, level-of s)
 
@@ -82,7 +86,8 @@ blank s h c r a b out =
     same-true (view s .check c r) (zeros checkBytes) (or-other (eqb (view s .cstate c) 1) _ (ne-eqb (view s .cstate c) 1 (unfold view in out)) zero)
 
 -- ---- what the survey says of unit m and of the unit that it is split from
-module _ {s : List ℕ} {ok : Bool} {fills firstChecks outs : List ℕ} (g : Surveyed s ok fills firstChecks outs) (e : ok ≡ true) {m : ℕ} (some : 1 ≤ m) (l : m < 16) where
+module _ {s : List ℕ} {ok : Bool} {fills firstChecks outs : List ℕ} (g : Surveyed s ok fills firstChecks outs)
+    (e : ok ≡ true) {m : ℕ} (some : 1 ≤ m) (l : m < 16) where
   pub outs-pair : pairOut (outsIn (view s)) m ≡ pairOut (λ h. getD outs h 0) m
   unfolding pairOut
   outs-pair = rw (outs-read g e (m / 4) refl (omega arith), outs-read g e (splitPointer m / 4) refl (omega (arith, split-below m some)))
@@ -174,7 +179,8 @@ module _ {s fills : List ℕ} {m n i : ℕ} where
   adds h en ei = (splits h en, h .from n i (en .0) (en .1) ei)
 
   pub removes : {j : ℕ} → Shrinks s fills m → (n ≡ splitPointer (m - 1)) × (n < m - 1) → i ≡ n → j ≡ m - 1
-      → Split s n (m - 1) × Blank s × (getD fills i 0 ≡ fillIn (view s) n) × (getD fills j 0 ≡ fillIn (view s) (m - 1)) × (getD fills i 0 + getD fills j 0 ≤ byte s 5)
+      → Split s n (m - 1) × Blank s × (getD fills i 0 ≡ fillIn (view s) n) × (getD fills j 0 ≡ fillIn
+      (view s) (m - 1)) × (getD fills i 0 + getD fills j 0 ≤ byte s 5)
   removes {j} h en ei ej =
       let from = h .last .from n i (en .0) (en .1) ei in
       let own = h .last .own j ej in

@@ -57,7 +57,8 @@ unfolding cleared
 cleared-change u q =
     slots-change
     (λ t w r. pick (eqb w u && leb q r) (zeros slotBytes) (t .slot w r))
-    (λ t h w r a b. by-pick (λ (x : List ℕ). length x ≡ slotBytes) (eqb w u && leb q r) (zeros slotBytes) (t .slot w r) (λ _. length-zeros slotBytes) (λ _. h .slot w r a b))
+    (λ t h w r a b. by-pick (λ (x : List ℕ). length x ≡ slotBytes) (eqb w u && leb q r) (zeros slotBytes)
+    (t .slot w r) (λ _. length-zeros slotBytes) (λ _. h .slot w r a b))
     (λ s t h w r a b. rw (h .slot w r a b))
 
 -- ---- how many units there are, and the state of one
@@ -107,7 +108,8 @@ module _ (p : ℕ → Bool) where
   wiped-change =
       checks-change
       (λ t c r. pick (p c) (zeros checkBytes) (t .check c r))
-      (λ t h c r a b. by-pick (λ (x : List ℕ). length x ≡ checkBytes) (p c) (zeros checkBytes) (t .check c r) (λ _. length-zeros checkBytes) (λ _. h .check c r a b))
+      (λ t h c r a b. by-pick (λ (x : List ℕ). length x ≡ checkBytes) (p c) (zeros checkBytes)
+      (t .check c r) (λ _. length-zeros checkBytes) (λ _. h .check c r a b))
       (λ s t h c r a b. rw (h .check c r a b))
 
 -- a record made from the data

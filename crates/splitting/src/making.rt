@@ -39,8 +39,11 @@ fn fill_parities(
     first: &[u8; 256],
     second: &[u8; 256],
 )
-    requires { ⌜ RankIn (now s) g r × (length (now x) ≡ bodyBytes) × (length (now y) ≡ bodyBytes) × (length (now z) ≡ bodyBytes) × (now first ≡ firstRow) × (now second ≡ secondRow) ⌝ }
-    ensures { λ _. ⌜ (now (x .exit) ≡ parity 0 (λ p. drop keyBytes (view (now (s .entry)) .slot (4 * g + p) r))) × (now (y .exit) ≡ parity 1 (λ p. drop keyBytes (view (now (s .entry)) .slot (4 * g + p) r))) × (now (z .exit) ≡ parity 2 (λ p. drop keyBytes (view (now (s .entry)) .slot (4 * g + p) r))) ⌝ }
+    requires { ⌜ RankIn (now s) g r × (length (now x) ≡ bodyBytes) × (length (now y) ≡ bodyBytes) × (length (now z) ≡ bodyBytes)
+        × (now first ≡ firstRow) × (now second ≡ secondRow) ⌝ }
+    ensures { λ _. ⌜ (now (x .exit) ≡ parity 0 (λ p. drop keyBytes (view (now (s .entry)) .slot (4 * g + p) r)))
+        × (now (y .exit) ≡ parity 1 (λ p. drop keyBytes (view (now (s .entry)) .slot (4 * g + p) r)))
+        × (now (z .exit) ≡ parity 2 (λ p. drop keyBytes (view (now (s .entry)) .slot (4 * g + p) r))) ⌝ }
 {
     let size = s[lookup::SIZE_AT];
     let a = lookup::slot_at(size, 4 * g, r);

@@ -57,10 +57,13 @@ module _ (s : Store) (u r : ℕ) (key change : List ℕ) where
   -- check unit n of the group follows, or is not in service
   followed-more : (n c q : ℕ) → (due c q ≡ true → c % 3 ≡ n → ⊥) → followed n s u r key change c q ≡ followed (suc n) s u r key change c q
   unfolding followed
-  followed-more n c q h = ap (λ t. pick t (patched (c % 3) (u % 4) key change (s .check c q)) (s .check c q)) (and-ext (due c q) (ltb (c % 3) n) (ltb (c % 3) (suc n)) (λ t. ltb-suc (c % 3) n (h t)))
+  followed-more n c q h =
+      ap (λ t. pick t (patched (c % 3) (u % 4) key change (s .check c q)) (s .check c q))
+      (and-ext (due c q) (ltb (c % 3) n) (ltb (c % 3) (suc n)) (λ t. ltb-suc (c % 3) n (h t)))
 
   followed-on : (n c q : ℕ) → n < 3 → s .cstate (3 * (u / 4) + n) ≡ 1
-      → upd2 (followed n s u r key change) (3 * (u / 4) + n) r (patched n (u % 4) key change (s .check (3 * (u / 4) + n) r)) c q ≡ followed (suc n) s u r key change c q
+      → upd2 (followed n s u r key change) (3 * (u / 4) + n) r (patched n (u % 4) key change (s .check (3 * (u / 4) + n) r))
+      c q ≡ followed (suc n) s u r key change c q
   unfolding upd2
   followed-on n c q l e =
       by-both
@@ -70,7 +73,8 @@ module _ (s : Store) (u r : ℕ) (key change : List ℕ) where
       q
       r
       (λ d f. pick-true refl _ (followed n s u r key change c q) ∙ here d f)
-      (λ k. pick-false refl _ (followed n s u r key change c q) ∙ followed-more n c q (λ t m. k (let g : c / 3 ≡ u / 4 = same-group c q t in omega arith) (same-rank c q t)))
+      (λ k. pick-false refl _ (followed n s u r key change c q)
+      ∙ followed-more n c q (λ t m. k (let g : c / 3 ≡ u / 4 = same-group c q t in omega arith) (same-rank c q t)))
     where
       here : c ≡ 3 * (u / 4) + n → q ≡ r → patched n (u % 4) key change (s .check (3 * (u / 4) + n) r) ≡ followed (suc n) s u r key change c q
       here d f =
@@ -89,7 +93,8 @@ module _ (s : Store) (u r : ℕ) (key change : List ℕ) where
       let d : 3 * (u / 4) + n ≡ c = omega arith in
       e (ap (λ k. s .cstate k) d ∙ eqb-true (s .cstate c) 1 (and-second (eqb (c / 3) (u / 4) && eqb q r) (eqb (s .cstate c) 1) t)))
 
-  followed-long : (n c q : ℕ) → length key ≡ keyBytes → length change ≡ bodyBytes → length (s .check c q) ≡ checkBytes → length (followed n s u r key change c q) ≡ checkBytes
+  followed-long : (n c q : ℕ) → length key ≡ keyBytes → length change ≡ bodyBytes → length (s .check c q) ≡ checkBytes
+      → length (followed n s u r key change c q) ≡ checkBytes
   unfolding followed
   followed-long n c q a b h =
       by-pick
@@ -133,7 +138,12 @@ module _ (s₀ : List ℕ) (u r : ℕ) (key change : List ℕ) (slot : SlotIn s�
   }
 
   follows : (s : List ℕ) (j : ℕ) → j ≤ 3 → s ≡ bytes (after s₀ u r key change j) → Following s₀ u r key change s j
-  follows s j h e = record { within = h; long = ap length e ∙ same-long (after s₀ u r key change j) s₀ (after-shaped j) (slot .long) (after-size j) (after-rest j); state = e }
+  follows s j h e =
+      record {
+        within = h;
+        long = ap length e ∙ same-long (after s₀ u r key change j) s₀ (after-shaped j) (slot .long) (after-size j) (after-rest j);
+        state = e;
+      }
 
   module _ (s : List ℕ) (j : ℕ) (w : Following s₀ u r key change s j) (hj : j < 3) where
     abbrev i : ℕ
@@ -180,7 +190,8 @@ module _ (s₀ : List ℕ) (u r : ℕ) (key change : List ℕ) (slot : SlotIn s�
 
 -- ---- the slot, when all have followed
 all-there : (s : Store) (u r : ℕ) (x : List ℕ)
-    → Same (withSlots (withChecks s (followed 3 s u r (take keyBytes x) (addBody (drop keyBytes (s .slot u r)) (drop keyBytes x)))) (upd2 (withChecks s (followed 3 s u r (take keyBytes x) (addBody (drop keyBytes (s .slot u r)) (drop keyBytes x))) .slot) u r x)) (written s u r x)
+    → Same (withSlots (withChecks s (followed 3 s u r (take keyBytes x) (addBody (drop keyBytes (s .slot u r)) (drop keyBytes x))))
+    (upd2 (withChecks s (followed 3 s u r (take keyBytes x) (addBody (drop keyBytes (s .slot u r)) (drop keyBytes x))) .slot) u r x)) (written s u r x)
 unfolding withSlots withChecks written followed upd2
 all-there s u r x = record {
   front = refl;

@@ -24,7 +24,8 @@ use Rattle.model.specs.Changes.{unitLost}
 use Rattle.writing.specs.Places.{unitAt}
 
 lost-slots : (v : Store) (u b : ℕ) → u < 16 → b ≡ v .size
-    → Same (withDstates (withSlots v (run (v .slot) u 0 b (λ _. zeros slotBytes))) (upd (withSlots v (run (v .slot) u 0 b (λ _. zeros slotBytes)) .dstate) u 2)) (unitLost v u)
+    → Same (withDstates (withSlots v (run (v .slot) u 0 b (λ _. zeros slotBytes))) (upd (withSlots v (run (v .slot) u 0 b (λ _. zeros slotBytes)) .dstate) u 2))
+    (unitLost v u)
 unfolding withDstates withSlots unitLost
 lost-slots v u b hu eb = record {
   front = refl;
@@ -46,7 +47,8 @@ beyond-data c d =
     (λ e. let q : 16 + d ≡ 16 + c = eqb-true (16 + d) (16 + c) e in eq-eqb d c (omega arith))
 
 lost-checks : (v : Store) (c b : ℕ) → b ≡ v .size
-    → Same (withCstates (withChecks v (run (v .check) c 0 b (λ _. zeros checkBytes))) (upd (withChecks v (run (v .check) c 0 b (λ _. zeros checkBytes)) .cstate) c 2)) (unitLost v (16 + c))
+    → Same (withCstates (withChecks v (run (v .check) c 0 b (λ _. zeros checkBytes)))
+    (upd (withChecks v (run (v .check) c 0 b (λ _. zeros checkBytes)) .cstate) c 2)) (unitLost v (16 + c))
 unfolding withCstates withChecks unitLost upd
 lost-checks v c b eb = record {
   front = refl;
@@ -139,4 +141,5 @@ module _ (s₀ s′ z : List ℕ) (b from to at : ℕ) (long : Long s₀) (eb : 
       (λ w. w < 28 → from ≡ unitAt b w → to ≡ unitAt b (w + 1) → at ≡ 8 + w → s′ ≡ set s at 2 → s′ ≡ bytes (unitLost (view s₀) w))
       w
       (λ l hw ef et ea es. lost-data w l (ef ∙ data-at b w (omega arith)) (et ∙ data-at b (w + 1) (omega arith)) ea es)
-      (λ c hw ef et ea es. lost-check c (omega arith) (ef ∙ nth-check b (16 + c) c (omega arith)) (et ∙ nth-check b (16 + c + 1) (c + 1) (omega arith)) (omega arith) es)
+      (λ c hw ef et ea es. lost-check c (omega arith) (ef ∙ nth-check b (16 + c) c (omega arith))
+      (et ∙ nth-check b (16 + c + 1) (c + 1) (omega arith)) (omega arith) es)

@@ -56,7 +56,8 @@ returns-3 c =
     let test = out .before .before in
     let here = placed test in
     let s = start (look test) .args .s in
-    let serves : (byte (s .now) (8 + look test .look-up .result .unit) ≡ 2 → ⊥) = λ h. out .if2 .left (out .before .state .ensures ∙ sym (state-byte _ _) ∙ h) in
+    let serves : (byte (s .now) (8 + look test .look-up .result .unit) ≡ 2 → ⊥) =
+    λ h. out .if2 .left (out .before .state .ensures ∙ sym (state-byte _ _) ∙ h) in
     let there = stands _ _ _ _ (sym (test .if1 .left) ∙ number (look test)) (here .home) (here .found) serves in
     lent-body _ _ (s .ptr .0) (s .ptr .1) _ _ there (at .slot-at .ensures .0)
 

@@ -49,7 +49,8 @@ loop-again c =
     let z = at .before in
     let l = z .before .before .before in
     let e = l .before .before .before in
-    making-turn (e .pre .0) (e .pre .1) (l .loop .inv) (search needs) (at .check-at .ensures .0) (c .before .before .copy .ensures ∙ z .check-record .ensures) (simp add-sub-cancel-left)
+    making-turn (e .pre .0) (e .pre .1) (l .loop .inv) (search needs) (at .check-at .ensures .0)
+    (c .before .before .copy .ensures ∙ z .check-record .ensures) (simp add-sub-cancel-left)
 
 returns : tie.Need-returns Inv-loop μ-loop
 returns c =

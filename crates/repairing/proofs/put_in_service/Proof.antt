@@ -26,7 +26,8 @@ loop-again c =
     let read = filling-read (l .inv) in
     ⊎-elim
     (λ w. rw (w .1) (filling-turn 1 (l .inv) (search needs) (served-out _ (sym read ∙ w .0 .taken))))
-    (λ w. rw (w .1) (rw (set-getD (l .states) (l .i) 0) at (filling-turn (byte (l .states) (l .i)) (l .inv) (search needs) (read ∙ served-in _ (λ e. w .0 .left (read ∙ e))))))
+    (λ w. rw (w .1) (rw (set-getD (l .states) (l .i) 0) at (filling-turn (byte (l .states) (l .i)) (l .inv) (search needs)
+    (read ∙ served-in _ (λ e. w .0 .left (read ∙ e))))))
     (c .if1 .came)
 
 returns : tie.Need-returns Inv-loop μ-loop

@@ -8,7 +8,8 @@ use lib.ListN.{length, getD}
 use Rattle.buffer.specs.Bytes.{part, splice}
 use Rattle.model.specs.Places.{data-units}
 use Rattle.model.specs.LayoutLaws.{rank-within}
-use Rattle.repairing.proofs.Rebuilding.{Rebuilding, rebuilding-start, rebuilding-recipe, rebuilding-keys, rebuilding-rank, rebuilding-turn, rebuilding-end}
+use Rattle.repairing.proofs.Rebuilding.{Rebuilding, rebuilding-start, rebuilding-recipe, rebuilding-keys, rebuilding-rank, rebuilding-turn}
+use Rattle.repairing.proofs.Rebuilding.{rebuilding-end}
 use Rattle.repairing.proofs.rebuild_unit.Statement.{statement}
 use Rattle.repairing.proofs.rebuild_unit.Tie as tie
 
@@ -25,7 +26,9 @@ rebuild-slot-requires : tie.Need-rebuild-slot-requires Inv-loop μ-loop
 rebuild-slot-requires c κs =
     let l = c .before .before .before in
     let e = l .before .before .before in
-    (search needs, rebuilding-recipe (e .pre .0) (l .loop .inv), omega (arith, rebuilding-rank (e .pre .0) (l .loop .inv) (search needs)), rebuilding-keys (e .pre .0) (l .loop .inv) (e .pre .2), e .pre .1)
+    let recipe = rebuilding-recipe (e .pre .0) (l .loop .inv) in
+    let keys = rebuilding-keys (e .pre .0) (l .loop .inv) (e .pre .2) in
+    (search needs, recipe, omega (arith, rebuilding-rank (e .pre .0) (l .loop .inv) (search needs)), keys, e .pre .1)
 
 part-copy-end : tie.Need-part-copy-end Inv-loop μ-loop
 part-copy-end c =
@@ -45,7 +48,8 @@ loop-again c =
     let z = at .before .before in
     let l = z .before .before .before .before in
     let e = l .before .before .before in
-    rebuilding-turn (e .pre .0) (l .loop .inv) (search needs) (at .slot-at .ensures .0) (c .before .before .copy .ensures ∙ z .rebuild-slot .ensures) (simp add-sub-cancel-left)
+    rebuilding-turn (e .pre .0) (l .loop .inv) (search needs) (at .slot-at .ensures .0)
+    (c .before .before .copy .ensures ∙ z .rebuild-slot .ensures) (simp add-sub-cancel-left)
 
 returns : tie.Need-returns Inv-loop μ-loop
 returns c =

@@ -4,7 +4,8 @@ use mathlib.Core.Path.{refl, sym, _∙_}
 use mathlib.Core.Logic.{⊎-elim}
 use Prim.Native.Nat.{_-_}
 use Rattle.lookup.specs.States.{state-byte}
-use Rattle.repairing.proofs.Restoring.{Restoring, restoring-start, restoring-unit, restoring-members, restoring-first-check, restoring-off, restoring-on, restoring-end}
+use Rattle.repairing.proofs.Restoring.{Restoring, restoring-start, restoring-unit, restoring-members, restoring-first-check, restoring-off, restoring-on}
+use Rattle.repairing.proofs.Restoring.{restoring-end}
 use Rattle.repairing.proofs.rebuild_units.Statement.{statement}
 use Rattle.repairing.proofs.rebuild_units.Tie as tie
 
@@ -25,7 +26,9 @@ weights-requires c κs =
     let t = c .before .before in
     let l = t .before .before .before in
     let e = l .before .before .before .before in
-    (restoring-unit (e .pre .0) (l .loop .inv) (search needs) refl, state-byte _ _ ∙ sym (t .state .ensures) ∙ c .before .if1 .taken, restoring-members (e .pre .0) (l .loop .inv) (search needs) refl _ (l .before .members .ensures), e .pre .1)
+    let members = restoring-members (e .pre .0) (l .loop .inv) (search needs) refl _ (l .before .members .ensures) in
+    let out = state-byte _ _ ∙ sym (t .state .ensures) ∙ c .before .if1 .taken in
+    (restoring-unit (e .pre .0) (l .loop .inv) (search needs) refl, out, members, e .pre .1)
 
 keys-at-requires : tie.Need-keys-at-requires Inv-loop μ-loop
 keys-at-requires c κs =

@@ -19,7 +19,8 @@ returns : tie.Need-returns
 returns c =
     let m = c .before .before .before .before .before .before in
     let d = m .before .before .before .before .before in
-    group-repaired (d .before .before .before .before .before .pre .0) (d .rebuild-units .ensures) (m .make-units .ensures) (c .before .before .serve-units .ensures)
+    group-repaired (d .before .before .before .before .before .pre .0) (d .rebuild-units .ensures) (m .make-units .ensures)
+    (c .before .before .serve-units .ensures)
 
 pub repair-group-spec : {M : Type 1} → statement M
 repair-group-spec =

@@ -43,15 +43,20 @@ returns-4 : tie.Need-returns-4
 unfolding firstOf refusalsIn pick
 returns-4 c =
     let k = c .before .before .before .before in
-    simp (k .before .before .before .before .if1 .left, k .before .before .if2 .left, ← units-of, ← k .before .byte-at .ensures, k .if3 .left, ← c .before .beyond .ensures, c .if4 .taken)
+    let m = k .before in
+    let good = m .before in
+    simp (good .before .before .if1 .left, good .if2 .left, ← units-of, ← m .byte-at .ensures, k .if3 .left, ← c .before .beyond .ensures, c .if4 .taken)
 
 returns-5 : tie.Need-returns-5
 unfolding firstOf refusalsIn pick
 returns-5 c =
     let k = c .before .before .before .before in
-    simp (k .before .before .before .before .if1 .left, k .before .before .if2 .left, ← units-of, ← k .before .byte-at .ensures, k .if3 .left, ← c .before .beyond .ensures, c .if4 .left)
+    let m = k .before in
+    let good = m .before in
+    simp (good .before .before .if1 .left, good .if2 .left, ← units-of, ← m .byte-at .ensures, k .if3 .left, ← c .before .beyond .ensures, c .if4 .left)
 
 pub repair-number-spec : {M : Type 1} → statement M
 repair-number-spec =
     tie.close
-    (tie.spec returns returns-2 (λ c. search needs) (λ c κs. search needs) (λ c. omega (arith, ltb-false)) returns-3 (λ c κs. search needs) array-read-beyond beyond-requires returns-4 returns-5)
+    (tie.spec returns returns-2 (λ c. search needs) (λ c κs. search needs) (λ c. omega (arith, ltb-false)) returns-3
+    (λ c κs. search needs) array-read-beyond beyond-requires returns-4 returns-5)

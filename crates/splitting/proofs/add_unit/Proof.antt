@@ -59,7 +59,8 @@ returns c =
     let d = k .before .before .before .before in
     let e = d .before .before .before .before in
     let sp = e .pre .0 in
-    all-added sp (d .deal-out .ensures) (k .mark .ensures) _ (f .set-first .ensures) (f2 .set-first2 .ensures) (level-of (e .args .s .now)) (g .make-groups .ensures)
+    all-added sp (d .deal-out .ensures) (k .mark .ensures) _ (f .set-first .ensures) (f2 .set-first2 .ensures)
+    (level-of (e .args .s .now)) (g .make-groups .ensures)
 
 pub add-unit-spec : {M : Type 1} → statement M
 add-unit-spec =

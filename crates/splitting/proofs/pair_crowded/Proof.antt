@@ -20,7 +20,8 @@ returns c =
     let at = own .before in
     let into = at .before in
     let from = into .before in
-    simp (c .wide5 .ensures .0, own .wide4 .ensures .0, at .wide3 .ensures .0, into .wide2 .ensures .0, from .wide .ensures .0, from .before .split-pointer .ensures .0)
+    let n = from .before .split-pointer .ensures .0 in
+    simp (c .wide5 .ensures .0, own .wide4 .ensures .0, at .wide3 .ensures .0, into .wide2 .ensures .0, from .wide .ensures .0, n)
 
 pub pair-crowded-spec : {M : Type 1} → statement M
 pair-crowded-spec =

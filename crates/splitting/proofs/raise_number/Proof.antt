@@ -25,7 +25,9 @@ returns-2 c =
     let m = next .before in
     let ok = m .before in
     let a = ok .before .before .args in
-    simp (raise-rows (a .s .now) (a .ok) (m .byte-at .ensures), ok .if1 .left, ← next .split-pointer .ensures .0, ← level .byte-at2 .ensures, c .row3 .ensures, c .before .row2 .ensures, c .before .before .row .ensures)
+    let rows = raise-rows (a .s .now) (a .ok) (m .byte-at .ensures) in
+    let w = c .before in
+    simp (rows, ok .if1 .left, ← next .split-pointer .ensures .0, ← level .byte-at2 .ensures, c .row3 .ensures, w .row2 .ensures, w .before .row .ensures)
 
 pub raise-number-spec : {M : Type 1} → statement M
 raise-number-spec =

@@ -45,7 +45,8 @@ returns-3 c =
     let size = out .before .before .before in
     let some = size .before in
     let a = start some .args in
-    let pair = pair-rows (start some .pre) (good some) (last some .0) (last some .1) (out .pair-out .ensures) (size .byte-at2 .ensures) (crowded .pair-crowded .ensures) in
+    let pair =
+    pair-rows (start some .pre) (good some) (last some .0) (last some .1) (out .pair-out .ensures) (size .byte-at2 .ensures) (crowded .pair-crowded .ensures) in
     simp (
       shrink-rows (a .s .now) (a .survey .sound) (some .before .byte-at .ensures),
       some .before .before .if1 .left,

@@ -49,7 +49,8 @@ loop-again c =
     (λ w.
     following-on _ _ _ _ _ (e .pre .0) (search (needs, key)) (search (needs, change)) _ _ (l .loop .inv) (search needs) _ _ _
     (rw (c .before .before .wide .ensures .0) at (w .0 .taken)) refl (w .1 .ensures .0) (w .6 ∙ rw (w .3 .ensures) (simp add-sub-cancel-left)))
-    (λ w. rw (w .1) (following-off _ _ _ _ _ (e .pre .0) (search (needs, key)) (search (needs, change)) _ _ (l .loop .inv) (search needs) (rw (c .before .before .wide .ensures .0) at (w .0 .left))))
+    (λ w. rw (w .1) (following-off _ _ _ _ _ (e .pre .0) (search (needs, key)) (search (needs, change)) _ _ (l .loop .inv) (search needs)
+    (rw (c .before .before .wide .ensures .0) at (w .0 .left))))
     (c .if1 .came)
 
 returns : tie.Need-returns Inv-loop μ-loop

@@ -22,8 +22,10 @@ returns c =
     let to = clear .before .before in
     let e = to .before .before .before .before in
     let n : ℕ = to .slot-at2 .result - to .before .slot-at .result in
-    let room : to .before .slot-at .result + n ≤ length (e .args .s .now) = omega (arith, unit-end (e .args .s .now) (e .args .u) (e .pre .0) (e .pre .1), to .slot-at2 .ensures .0, to .before .slot-at .ensures .0) in
-    clear-from (e .args .s .now) _ _ (to .before .slot-at .result) (to .slot-at2 .result) n (e .args .u) (e .args .q) (e .pre .0) refl (to .before .slot-at .ensures .0) (to .slot-at2 .ensures .0) refl (e .pre .1) (e .pre .2)
+    let room : to .before .slot-at .result + n ≤ length (e .args .s .now) =
+    omega (arith, unit-end (e .args .s .now) (e .args .u) (e .pre .0) (e .pre .1), to .slot-at2 .ensures .0, to .before .slot-at .ensures .0) in
+    clear-from (e .args .s .now) _ _ (to .before .slot-at .result) (to .slot-at2 .result) n (e .args .u) (e .args .q) (e .pre .0) refl
+    (to .before .slot-at .ensures .0) (to .slot-at2 .ensures .0) refl (e .pre .1) (e .pre .2)
     (rw (clear .clear .ensures ∙ ap zeros (length-part (to .before .slot-at .result) n (e .args .s .now) room)) refl)
 
 pub clear-from-spec : {M : Type 1} → statement M

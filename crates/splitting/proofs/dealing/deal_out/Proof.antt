@@ -35,7 +35,8 @@ move-record-requires c κs =
     let e = l .before .before in
     let taken = k .before .before .loop-test .taken in (
       deal-from (e .args .s .now) _ _ _ (e .pre .0) (e .pre .1) (l .loop .inv) taken (k .key-at .ensures) (u .unit-of .ensures .0),
-      deal-to (e .args .s .now) _ _ _ (e .pre .0) (e .pre .1) (l .loop .inv) taken (k .key-at .ensures) (u .unit-of .ensures .0) _ _ (e .pre .0 .unit) (omega (arith, l .loop .inv .few)),
+      deal-to (e .args .s .now) _ _ _ (e .pre .0) (e .pre .1) (l .loop .inv) taken (k .key-at .ensures)
+          (u .unit-of .ensures .0) _ _ (e .pre .0 .unit) (omega (arith, l .loop .inv .few)),
     )
 
 add-gone : tie.Need-add-gone Inv-loop μ-loop
@@ -51,7 +52,8 @@ move-record-requires-2 c κs =
     let e = l .before .before in
     let taken = k .before .before .loop-test .taken in (
       deal-from (e .args .s .now) _ _ _ (e .pre .0) (e .pre .1) (l .loop .inv) taken (k .key-at .ensures) (u .unit-of .ensures .0),
-      deal-to (e .args .s .now) _ _ _ (e .pre .0) (e .pre .1) (l .loop .inv) taken (k .key-at .ensures) (u .unit-of .ensures .0) _ _ (omega (arith, e .pre .0 .apart, e .pre .0 .unit)) (omega (arith, l .loop .inv .few)),
+      deal-to (e .args .s .now) _ _ _ (e .pre .0) (e .pre .1) (l .loop .inv) taken (k .key-at .ensures) (u .unit-of .ensures .0) _ _
+          (omega (arith, e .pre .0 .apart, e .pre .0 .unit)) (omega (arith, l .loop .inv .few)),
     )
 
 add-kept : tie.Need-add-kept Inv-loop μ-loop
@@ -67,15 +69,18 @@ loop-again c =
     let e = l .before .before in
     let taken = k .before .before .loop-test .taken in
     ⊎-elim
-    (λ w. rw (w .5, w .6, w .7) (deal-goes (e .args .s .now) _ _ _ (e .pre .0) (e .pre .1) (l .loop .inv) taken (k .key-at .ensures) (u .unit-of .ensures .0) (w .0 .taken) (w .2 .ensures)))
-    (λ w. rw (w .5, w .6, w .7) (deal-stays (e .args .s .now) _ _ _ (e .pre .0) (e .pre .1) (l .loop .inv) taken (k .key-at .ensures) (u .unit-of .ensures .0) (w .0 .left) (w .2 .ensures)))
+    (λ w. rw (w .5, w .6, w .7) (deal-goes (e .args .s .now) _ _ _ (e .pre .0) (e .pre .1) (l .loop .inv) taken
+    (k .key-at .ensures) (u .unit-of .ensures .0) (w .0 .taken) (w .2 .ensures)))
+    (λ w. rw (w .5, w .6, w .7) (deal-stays (e .args .s .now) _ _ _ (e .pre .0) (e .pre .1) (l .loop .inv) taken
+    (k .key-at .ensures) (u .unit-of .ensures .0) (w .0 .left) (w .2 .ensures)))
     (c .if1 .came)
 
 clear-from-requires : tie.Need-clear-from-requires Inv-loop μ-loop
 clear-from-requires c κs =
     let l = c .before .before in
     let e = l .before .before in
-    (l .loop .inv .sized .long, omega (arith, e .pre .0 .apart, e .pre .0 .unit), omega (arith, l .loop .inv .five, l .loop .inv .few, l .loop .inv .within, l .loop .inv .most))
+    let inv = l .loop .inv in
+    (inv .sized .long, omega (arith, e .pre .0 .apart, e .pre .0 .unit), omega (arith, inv .five, inv .few, inv .within, inv .most))
 
 clear-from-requires-2 : tie.Need-clear-from-requires-2 Inv-loop μ-loop
 clear-from-requires-2 c κs =

@@ -66,7 +66,8 @@ returns c =
     let x = k .before .before in
     let l = x .before in
     let e = l .before .before in
-    merging-end (e .args .s .now) _ _ _ _ (e .pre .0) (e .pre .1) (e .pre .2) (e .pre .3) (l .loop .inv) (x .loop-test .left) (k .clear-from .ensures) (k2 .clear-from2 .ensures)
+    merging-end (e .args .s .now) _ _ _ _ (e .pre .0) (e .pre .1) (e .pre .2) (e .pre .3) (l .loop .inv)
+    (x .loop-test .left) (k .clear-from .ensures) (k2 .clear-from2 .ensures)
 
 pub merge-into-spec : {M : Type 1} → statement M
 merge-into-spec =

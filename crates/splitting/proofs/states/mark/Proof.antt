@@ -12,7 +12,9 @@ slice-write-s-2 : tie.Need-slice-write-s-2
 slice-write-s-2 c = let e = c .before .before in simp length-set (omega (arith, e .pre .0, e .pre .1, c .wide .ensures .0))
 
 returns : tie.Need-returns
-returns c = let e = c .before .before in set-marks (e .args .s .now) _ (e .args .m) (e .args .u) (e .args .state) (e .pre .0) (ap (λ x. 8 + x) (c .wide .ensures .0)) (e .pre .1)
+returns c =
+    let e = c .before .before in
+    set-marks (e .args .s .now) _ (e .args .m) (e .args .u) (e .args .state) (e .pre .0) (ap (λ x. 8 + x) (c .wide .ensures .0)) (e .pre .1)
 
 pub mark-spec : {M : Type 1} → statement M
 mark-spec =
