@@ -17,7 +17,8 @@ use Rattle.model.specs.Reads.{totalIn}
 use Rattle.model.specs.Sound.{sound}
 use Rattle.model.specs.Numbers.{Call, teach, correct, erase, read, readInPlace, list, unitOut, repair, grow, shrink, raise, firstOf, refusalsIn, numberIn}
 use Rattle.model.specs.RowLaws.{first-low, free-first, numbered-in, row-holds, row-fails, row-pair}
-use Rattle.model.specs.Perform.{refusal, plain, copied, lent, listed, output, reply, placeIn, givenIn, grantedIn, answerIn, afterIn, outcome, perform, laidOut, layOutNumber, layOut}
+use Rattle.model.specs.Perform.{refusal, plain, copied, lent, listed, output, reply, placeIn}
+use Rattle.model.specs.Perform.{givenIn, grantedIn, answerIn, afterIn, outcome, perform, laidOut, layOutNumber, layOut}
 use Rattle.model.specs.Demand1.{Refuses, Misused, LaysOut}
 
 -- ---- the numbers are those of the table
