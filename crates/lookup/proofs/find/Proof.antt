@@ -67,17 +67,5 @@ returns c =
 pub find-spec : {M : Type 1} → statement M
 find-spec =
     tie.close
-    (tie.spec
-    Inv-loop
-    μ-loop
-    loop-holds
-    sub-i
-    (λ c κs. search needs)
-    mul-load32
-    add-load32
-    load32-requires
-    (λ c. search needs)
-    loop-again
-    (λ c. search needs)
-    loop-again-2
-    returns)
+    (tie.spec Inv-loop μ-loop loop-holds sub-i (λ c κs. search needs) mul-load32 add-load32 load32-requires (λ c. search needs) loop-again
+    (λ c. search needs) loop-again-2 returns)

@@ -30,10 +30,4 @@ returns-2 c =
 pub keys-of-spec : {M : Type 1} → statement M
 keys-of-spec =
     tie.close
-    (tie.spec
-    (λ c κs. search needs)
-    keys-at-requires
-    returns
-    (λ c. search needs)
-    (λ c κs. search needs)
-    returns-2)
+    (tie.spec (λ c κs. search needs) keys-at-requires returns (λ c. search needs) (λ c κs. search needs) returns-2)

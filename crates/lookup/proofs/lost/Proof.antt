@@ -41,15 +41,5 @@ returns-2 c = lost-none (c .before .before .before .args .s .now) (λ g l. c .be
 pub lost-spec : {M : Type 1} → statement M
 lost-spec =
     tie.close
-    (tie.spec
-    Inv-loop
-    μ-loop
-    (λ c. missing-start)
-    (λ c κs. search needs)
-    (λ c. search needs)
-    beyond-requires
-    returns
-    (λ c. search needs)
-    (λ c. search needs)
-    loop-again
-    returns-2)
+    (tie.spec Inv-loop μ-loop (λ c. missing-start) (λ c κs. search needs) (λ c. search needs) beyond-requires returns (λ c. search needs)
+    (λ c. search needs) loop-again returns-2)

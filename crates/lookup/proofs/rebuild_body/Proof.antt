@@ -55,15 +55,5 @@ returns c =
 pub rebuild-body-spec : {M : Type 1} → statement M
 rebuild-body-spec =
     tie.close
-    (tie.spec
-    (λ c. search needs)
-    held-requires
-    (λ c. search needs)
-    held-requires-2
-    (λ c. search needs)
-    held-requires-3
-    (λ c. search needs)
-    held-requires-4
-    rebuild-body-requires
-    (λ c. search needs)
-    returns)
+    (tie.spec (λ c. search needs) held-requires (λ c. search needs) held-requires-2 (λ c. search needs) held-requires-3 (λ c. search needs)
+    held-requires-4 rebuild-body-requires (λ c. search needs) returns)

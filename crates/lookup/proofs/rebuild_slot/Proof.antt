@@ -104,25 +104,6 @@ returns-2 c =
 pub rebuild-slot-spec : {M : Type 1} → statement M
 rebuild-slot-spec =
     tie.close
-    (tie.spec
-    (λ c κs. search needs)
-    (λ c. search needs)
-    add-at
-    load32-requires
-    (λ c κs. search needs)
-    (λ c. search needs)
-    (λ c. search needs)
-    (λ c. search needs)
-    add-copy
-    (λ c. search needs)
-    (λ c. search needs)
-    part-copy-end-2
-    copy-requires
-    (λ c. search needs)
-    (λ c. search needs)
-    (λ c. search needs)
-    rebuild-body-requires
-    (λ c. search needs)
-    returns
-    (λ c. search needs)
-    returns-2)
+    (tie.spec (λ c κs. search needs) (λ c. search needs) add-at load32-requires (λ c κs. search needs) (λ c. search needs) (λ c. search needs)
+    (λ c. search needs) add-copy (λ c. search needs) (λ c. search needs) part-copy-end-2 copy-requires (λ c. search needs) (λ c. search needs)
+    (λ c. search needs) rebuild-body-requires (λ c. search needs) returns (λ c. search needs) returns-2)

@@ -43,16 +43,5 @@ returns-2 c =
 pub unit-of-spec : {M : Type 1} → statement M
 unit-of-spec =
     tie.close
-    (tie.spec
-    (λ c κs. search needs)
-    (λ c κs. search needs)
-    (λ c. search needs)
-    add-if1
-    (λ c κs. search needs)
-    (λ c. search needs)
-    (λ c. search needs)
-    narrow-requires
-    returns
-    (λ c. search needs)
-    narrow-requires-2
-    returns-2)
+    (tie.spec (λ c κs. search needs) (λ c κs. search needs) (λ c. search needs) add-if1 (λ c κs. search needs) (λ c. search needs) (λ c. search needs)
+    narrow-requires returns (λ c. search needs) narrow-requires-2 returns-2)

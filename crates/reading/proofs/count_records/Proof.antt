@@ -55,11 +55,4 @@ returns-4 c =
 pub count-records-spec : {M : Type 1} → statement M
 count-records-spec =
     tie.close
-    (tie.spec
-    returns
-    lost-requires
-    returns-2
-    (λ c κs. search needs)
-    (λ c. search needs)
-    returns-3
-    returns-4)
+    (tie.spec returns lost-requires returns-2 (λ c κs. search needs) (λ c. search needs) returns-3 returns-4)

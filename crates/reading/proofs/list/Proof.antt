@@ -43,11 +43,4 @@ returns-2 c =
 pub list-spec : {M : Type 1} → statement M
 list-spec =
     tie.close
-    (tie.spec
-    (λ c κs. search needs)
-    count-records-requires
-    returns
-    (λ c κs. search needs)
-    write-records-requires
-    (λ c. search needs)
-    returns-2)
+    (tie.spec (λ c κs. search needs) count-records-requires returns (λ c κs. search needs) write-records-requires (λ c. search needs) returns-2)

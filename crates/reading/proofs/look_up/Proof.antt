@@ -112,25 +112,6 @@ returns-6 c =
 pub look-up-spec : {M : Type 1} → statement M
 look-up-spec =
     tie.close
-    (tie.spec
-    (λ c κs. search needs)
-    returns
-    (λ c κs. search needs)
-    returns-2
-    (λ c κs. search needs)
-    returns-3
-    shared-slice-read-unit-of
-    unit-of-requires
-    (λ c κs. search needs)
-    array-read-gone
-    gone-requires
-    (λ c κs. search needs)
-    returns-4
-    (λ c κs. search needs)
-    array-read-n
-    (λ c κs. search needs)
-    array-read-first-check
-    listed-rank-requires
-    (λ c κs. search needs)
-    returns-5
-    returns-6)
+    (tie.spec (λ c κs. search needs) returns (λ c κs. search needs) returns-2 (λ c κs. search needs) returns-3 shared-slice-read-unit-of
+    unit-of-requires (λ c κs. search needs) array-read-gone gone-requires (λ c κs. search needs) returns-4 (λ c κs. search needs) array-read-n
+    (λ c κs. search needs) array-read-first-check listed-rank-requires (λ c κs. search needs) returns-5 returns-6)

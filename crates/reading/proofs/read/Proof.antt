@@ -43,10 +43,4 @@ returns-2 c =
 pub read-spec : {M : Type 1} → statement M
 read-spec =
     tie.close
-    (tie.spec
-    (λ c κs. search needs)
-    look-up-requires
-    returns
-    copy-body-requires
-    (λ c. search needs)
-    returns-2)
+    (tie.spec (λ c κs. search needs) look-up-requires returns copy-body-requires (λ c. search needs) returns-2)

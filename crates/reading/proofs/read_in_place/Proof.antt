@@ -63,23 +63,6 @@ returns-3 c =
 pub read-in-place-spec : {M : Type 1} → statement M
 read-in-place-spec =
     tie.close
-    (tie.spec
-    (λ c κs. search needs)
-    look-up-requires
-    (λ c. search needs)
-    (λ c. search needs)
-    (λ c. search needs)
-    returns
-    (λ c κs. search needs)
-    (λ c. search needs)
-    (λ c. search needs)
-    (λ c. search needs)
-    returns-2
-    shared-slice-read-slot-at
-    (λ c κs. search needs)
-    (λ c. search needs)
-    (λ c. search needs)
-    (λ c. search needs)
-    (λ c. search needs)
-    part-result-end-3
-    returns-3)
+    (tie.spec (λ c κs. search needs) look-up-requires (λ c. search needs) (λ c. search needs) (λ c. search needs) returns (λ c κs. search needs)
+    (λ c. search needs) (λ c. search needs) (λ c. search needs) returns-2 shared-slice-read-slot-at (λ c κs. search needs) (λ c. search needs)
+    (λ c. search needs) (λ c. search needs) (λ c. search needs) part-result-end-3 returns-3)

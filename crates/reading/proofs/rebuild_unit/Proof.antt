@@ -66,21 +66,6 @@ returns c =
 pub rebuild-unit-spec : {M : Type 1} → statement M
 rebuild-unit-spec =
     tie.close
-    (tie.spec
-    Inv-loop
-    μ-loop
-    members-requires
-    weights-requires
-    keys-at-requires
-    (λ c. (omega arith, appending-start))
-    (λ c. omega arith)
-    (λ c. search needs)
-    (λ c. search needs)
-    part-rebuild-slot-end
-    rebuild-slot-requires
-    (λ c. omega arith)
-    (λ c. search needs)
-    (λ c. search needs)
-    loop-again
-    (λ c. c .before .loop .inv .1 .long)
-    returns)
+    (tie.spec Inv-loop μ-loop members-requires weights-requires keys-at-requires (λ c. (omega arith, appending-start)) (λ c. omega arith)
+    (λ c. search needs) (λ c. search needs) part-rebuild-slot-end rebuild-slot-requires (λ c. omega arith) (λ c. search needs) (λ c. search needs)
+    loop-again (λ c. c .before .loop .inv .1 .long) returns)

@@ -82,23 +82,6 @@ returns c =
 pub write-records-spec : {M : Type 1} → statement M
 write-records-spec =
     tie.close
-    (tie.spec
-    Inv-loop
-    μ-loop
-    (λ c. appending-start)
-    (λ c κs. search needs)
-    (λ c. search needs)
-    (λ c κs. search needs)
-    (λ c. search needs)
-    add-end
-    (λ c κs. search needs)
-    (λ c. search needs)
-    (λ c. search needs)
-    (λ c. search needs)
-    part-copy-unit-end
-    copy-unit-requires
-    (λ c. search needs)
-    (λ c. search needs)
-    loop-again
-    (λ c. c .before .loop .inv .long)
-    returns)
+    (tie.spec Inv-loop μ-loop (λ c. appending-start) (λ c κs. search needs) (λ c. search needs) (λ c κs. search needs) (λ c. search needs) add-end
+    (λ c κs. search needs) (λ c. search needs) (λ c. search needs) (λ c. search needs) part-copy-unit-end copy-unit-requires (λ c. search needs)
+    (λ c. search needs) loop-again (λ c. c .before .loop .inv .long) returns)

@@ -69,30 +69,7 @@ returns c = following-end (c .before .before .before .before .pre .0) (c .before
 pub check-record-spec : {M : Type 1} → statement M
 check-record-spec =
     tie.close
-    (tie.spec
-    Inv-loop
-    μ-loop
-    (λ c. search needs)
-    loop-holds
-    (λ c. search needs)
-    (λ c. search needs)
-    (λ c κs. search needs)
-    (λ c. search needs)
-    (λ c. search needs)
-    (λ c. search needs)
-    (λ c. search needs)
-    part-copy-end
-    copy-requires
-    (λ c. search needs)
-    (λ c. search needs)
-    (λ c. search needs)
-    (λ c. search needs)
-    (λ c. search needs)
-    part-copy-end-2
-    copy-requires-2
-    (λ c. search needs)
-    follow-requires
-    (λ c. search needs)
-    (λ c. search needs)
-    loop-again
-    returns)
+    (tie.spec Inv-loop μ-loop (λ c. search needs) loop-holds (λ c. search needs) (λ c. search needs) (λ c κs. search needs) (λ c. search needs)
+    (λ c. search needs) (λ c. search needs) (λ c. search needs) part-copy-end copy-requires (λ c. search needs) (λ c. search needs)
+    (λ c. search needs) (λ c. search needs) (λ c. search needs) part-copy-end-2 copy-requires-2 (λ c. search needs) follow-requires
+    (λ c. search needs) (λ c. search needs) loop-again returns)

@@ -61,19 +61,5 @@ returns c =
 pub rebuild-units-spec : {M : Type 1} → statement M
 rebuild-units-spec =
     tie.close
-    (tie.spec
-    Inv-loop
-    μ-loop
-    members-requires
-    loop-holds
-    (λ c. search needs)
-    (λ c. search needs)
-    (λ c κs. search needs)
-    weights-requires
-    keys-at-requires
-    rebuild-unit-requires
-    (λ c. search needs)
-    (λ c. search needs)
-    loop-again
-    (λ c. search needs)
-    returns)
+    (tie.spec Inv-loop μ-loop members-requires loop-holds (λ c. search needs) (λ c. search needs) (λ c κs. search needs) weights-requires
+    keys-at-requires rebuild-unit-requires (λ c. search needs) (λ c. search needs) loop-again (λ c. search needs) returns)

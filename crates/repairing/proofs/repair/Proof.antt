@@ -45,14 +45,5 @@ returns-2 c =
 pub repair-spec : {M : Type 1} → statement M
 repair-spec =
     tie.close
-    (tie.spec
-    (λ c κs. search needs)
-    repair-number-requires
-    (λ c. search needs)
-    returns
-    cast-g
-    (λ c κs. search needs)
-    array-read-repair-group
-    repair-group-requires
-    (λ c. search needs)
-    returns-2)
+    (tie.spec (λ c κs. search needs) repair-number-requires (λ c. search needs) returns cast-g (λ c κs. search needs) array-read-repair-group
+    repair-group-requires (λ c. search needs) returns-2)

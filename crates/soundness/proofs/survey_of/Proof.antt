@@ -73,22 +73,6 @@ returns-6 c =
 pub survey-of-spec : {M : Type 1} → statement M
 survey-of-spec =
     tie.close
-    (tie.spec
-    (λ c κs. search needs)
-    (λ c κs. search needs)
-    returns
-    units-placed-requires
-    (λ c κs. search needs)
-    returns-2
-    groups-placed-requires
-    (λ c κs. search needs)
-    returns-3
-    first-checks-of-requires
-    count-units-requires
-    (λ c κs. search needs)
-    returns-4
-    checks-good-requires
-    (λ c κs. search needs)
-    returns-5
-    outs-of-requires
-    returns-6)
+    (tie.spec (λ c κs. search needs) (λ c κs. search needs) returns units-placed-requires (λ c κs. search needs) returns-2 groups-placed-requires
+    (λ c κs. search needs) returns-3 first-checks-of-requires count-units-requires (λ c κs. search needs) returns-4 checks-good-requires
+    (λ c κs. search needs) returns-5 outs-of-requires returns-6)

@@ -65,13 +65,5 @@ returns c =
 pub add-unit-spec : {M : Type 1} → statement M
 add-unit-spec =
     tie.close
-    (tie.spec
-    slice-read-level
-    deal-out-requires
-    add-mark
-    mark-requires
-    set-first-requires
-    set-first-requires-2
-    make-groups-requires
-    (λ c. search needs)
-    returns)
+    (tie.spec slice-read-level deal-out-requires add-mark mark-requires set-first-requires set-first-requires-2 make-groups-requires
+    (λ c. search needs) returns)

@@ -50,15 +50,5 @@ returns-2 c =
 pub grow-spec : {M : Type 1} → statement M
 grow-spec =
     tie.close
-    (tie.spec
-    (λ c κs. search needs)
-    grow-number-requires
-    (λ c. search needs)
-    returns
-    (λ c κs. search needs)
-    split-pointer-requires
-    (λ c κs. search needs)
-    array-read-add-unit
-    add-unit-requires
-    (λ c. search needs)
-    returns-2)
+    (tie.spec (λ c κs. search needs) grow-number-requires (λ c. search needs) returns (λ c κs. search needs) split-pointer-requires
+    (λ c κs. search needs) array-read-add-unit add-unit-requires (λ c. search needs) returns-2)

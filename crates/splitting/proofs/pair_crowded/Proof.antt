@@ -26,14 +26,5 @@ returns c =
 pub pair-crowded-spec : {M : Type 1} → statement M
 pair-crowded-spec =
     tie.close
-    (tie.spec
-    (λ c κs. search needs)
-    (λ c κs. search needs)
-    array-read-wide
-    (λ c κs. search needs)
-    (λ c κs. search needs)
-    array-read-wide-2
-    (λ c κs. search needs)
-    (λ c κs. search needs)
-    (λ c. search needs)
-    returns)
+    (tie.spec (λ c κs. search needs) (λ c κs. search needs) array-read-wide (λ c κs. search needs) (λ c κs. search needs) array-read-wide-2
+    (λ c κs. search needs) (λ c κs. search needs) (λ c. search needs) returns)

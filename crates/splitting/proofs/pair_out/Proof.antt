@@ -33,11 +33,4 @@ returns-2 c =
 pub pair-out-spec : {M : Type 1} → statement M
 pair-out-spec =
     tie.close
-    (tie.spec
-    (λ c κs. search needs)
-    array-read-own
-    (λ c κs. search needs)
-    (λ c κs. search needs)
-    array-read-other
-    returns
-    returns-2)
+    (tie.spec (λ c κs. search needs) array-read-own (λ c κs. search needs) (λ c κs. search needs) array-read-other returns returns-2)

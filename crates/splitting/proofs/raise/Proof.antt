@@ -50,13 +50,4 @@ returns-2 c =
 pub raise-spec : {M : Type 1} → statement M
 raise-spec =
     tie.close
-    (tie.spec
-    (λ c κs. search needs)
-    raise-number-requires
-    (λ c. search needs)
-    returns
-    slice-read-s
-    add-s
-    slice-write-s
-    (λ c. search needs)
-    returns-2)
+    (tie.spec (λ c κs. search needs) raise-number-requires (λ c. search needs) returns slice-read-s add-s slice-write-s (λ c. search needs) returns-2)

@@ -32,12 +32,5 @@ returns-2 c =
 pub raise-number-spec : {M : Type 1} → statement M
 raise-number-spec =
     tie.close
-    (tie.spec
-    returns
-    (λ c κs. search needs)
-    split-pointer-requires
-    (λ c κs. search needs)
-    (λ c κs. search needs)
-    (λ c κs. search needs)
-    (λ c κs. search needs)
-    returns-2)
+    (tie.spec returns (λ c κs. search needs) split-pointer-requires (λ c κs. search needs) (λ c κs. search needs) (λ c κs. search needs)
+    (λ c κs. search needs) returns-2)

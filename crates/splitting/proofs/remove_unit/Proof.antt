@@ -56,11 +56,4 @@ returns c =
 pub remove-unit-spec : {M : Type 1} → statement M
 remove-unit-spec =
     tie.close
-    (tie.spec
-    merge-into-requires
-    mark-requires
-    set-first-requires
-    clear-first-requires
-    make-groups-requires
-    (λ c. search needs)
-    returns)
+    (tie.spec merge-into-requires mark-requires set-first-requires clear-first-requires make-groups-requires (λ c. search needs) returns)

@@ -58,18 +58,5 @@ returns-2 c =
 pub shrink-spec : {M : Type 1} → statement M
 shrink-spec =
     tie.close
-    (tie.spec
-    (λ c κs. search needs)
-    shrink-number-requires
-    (λ c. search needs)
-    returns
-    (λ c κs. search needs)
-    sub-m
-    split-pointer-requires
-    (λ c κs. search needs)
-    array-read-remove-unit
-    (λ c κs. search needs)
-    array-read-remove-unit-2
-    remove-unit-requires
-    (λ c. search needs)
-    returns-2)
+    (tie.spec (λ c κs. search needs) shrink-number-requires (λ c. search needs) returns (λ c κs. search needs) sub-m split-pointer-requires
+    (λ c κs. search needs) array-read-remove-unit (λ c κs. search needs) array-read-remove-unit-2 remove-unit-requires (λ c. search needs) returns-2)

@@ -59,14 +59,5 @@ returns-3 c =
 pub shrink-number-spec : {M : Type 1} → statement M
 shrink-number-spec =
     tie.close
-    (tie.spec
-    returns
-    (λ c κs. search needs)
-    returns-2
-    sub-m
-    (λ c κs. search needs)
-    (λ c κs. last (c .before .before .before))
-    (λ c κs. last (c .before .before .before .before))
-    (λ c κs. search needs)
-    (λ c κs. search needs)
-    returns-3)
+    (tie.spec returns (λ c κs. search needs) returns-2 sub-m (λ c κs. search needs) (λ c κs. last (c .before .before .before))
+    (λ c κs. last (c .before .before .before .before)) (λ c κs. search needs) (λ c κs. search needs) returns-3)

@@ -41,14 +41,5 @@ returns-3 c =
 pub erase-spec : {M : Type 1} → statement M
 erase-spec =
     tie.close
-    (tie.spec
-    (λ c κs. search needs)
-    (λ c. search needs)
-    returns
-    (λ c. search needs)
-    returns-2
-    (λ c κs. search needs)
-    sub-erase-at
-    erase-at-requires
-    (λ c. search needs)
-    returns-3)
+    (tie.spec (λ c κs. search needs) (λ c. search needs) returns (λ c. search needs) returns-2 (λ c κs. search needs) sub-erase-at erase-at-requires
+    (λ c. search needs) returns-3)

@@ -36,16 +36,5 @@ returns c =
 pub erase-at-spec : {M : Type 1} → statement M
 erase-at-spec =
     tie.close
-    (tie.spec
-    (λ c. search needs)
-    (λ c κs. search needs)
-    (λ c. search needs)
-    (λ c. search needs)
-    (λ c. search needs)
-    (λ c. search needs)
-    part-copy-end
-    (λ c κs. search needs)
-    (λ c κs. search needs)
-    write-slot-requires-2
-    (λ c. search needs)
-    returns)
+    (tie.spec (λ c. search needs) (λ c κs. search needs) (λ c. search needs) (λ c. search needs) (λ c. search needs) (λ c. search needs) part-copy-end
+    (λ c κs. search needs) (λ c κs. search needs) write-slot-requires-2 (λ c. search needs) returns)

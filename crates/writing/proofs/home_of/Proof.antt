@@ -105,21 +105,6 @@ returns-5 c =
 pub home-of-spec : {M : Type 1} → statement M
 home-of-spec =
     tie.close
-    (tie.spec
-    (λ c κs. search needs)
-    returns
-    (λ c κs. search needs)
-    returns-2
-    (λ c κs. search needs)
-    (λ c κs. search needs)
-    returns-3
-    shared-slice-read-unit-of
-    unit-of-requires
-    (λ c κs. search needs)
-    array-read-out
-    (λ c κs. search needs)
-    returns-4
-    (λ c κs. search needs)
-    array-read-fill
-    rank-requires
-    returns-5)
+    (tie.spec (λ c κs. search needs) returns (λ c κs. search needs) returns-2 (λ c κs. search needs) (λ c κs. search needs) returns-3
+    shared-slice-read-unit-of unit-of-requires (λ c κs. search needs) array-read-out (λ c κs. search needs) returns-4 (λ c κs. search needs)
+    array-read-fill rank-requires returns-5)

@@ -43,12 +43,5 @@ returns-2 c =
 pub unit-out-spec : {M : Type 1} → statement M
 unit-out-spec =
     tie.close
-    (tie.spec
-    (λ c κs. search needs)
-    (λ c κs. search needs)
-    (λ c. search needs)
-    returns
-    cast-clear-unit
-    clear-unit-requires
-    (λ c. search needs)
+    (tie.spec (λ c κs. search needs) (λ c κs. search needs) (λ c. search needs) returns cast-clear-unit clear-unit-requires (λ c. search needs)
     returns-2)

@@ -51,18 +51,5 @@ returns-2 c =
 pub count-units-spec : {M : Type 1} → statement M
 count-units-spec =
     tie.close
-    (tie.spec
-    Inv-loop
-    μ-loop
-    (λ c. (passing-start, filling-start, refl))
-    (λ c κs. search needs)
-    (λ c. search needs)
-    unit-count-requires
-    (λ c κs. search needs)
-    returns
-    (λ c κs. search needs)
-    (λ c. search needs)
-    (λ c. search needs)
-    (λ c. search needs)
-    loop-again
-    returns-2)
+    (tie.spec Inv-loop μ-loop (λ c. (passing-start, filling-start, refl)) (λ c κs. search needs) (λ c. search needs) unit-count-requires
+    (λ c κs. search needs) returns (λ c κs. search needs) (λ c. search needs) (λ c. search needs) (λ c. search needs) loop-again returns-2)

@@ -89,26 +89,7 @@ returns-4 c =
 pub served-count-spec : {M : Type 1} → statement M
 served-count-spec =
     tie.close
-    (tie.spec
-    (λ c. search needs)
-    (λ c. search needs)
-    (λ c κs. search needs)
-    (λ c κs. search needs)
-    reach-requires
-    returns
-    (λ c. search needs)
-    (λ c. search needs)
-    (λ c. search needs)
-    (λ c. search needs)
-    zero-between-requires
-    returns-2
-    (λ c. search needs)
-    (λ c. search needs)
-    (λ c κs. search needs)
-    (λ c κs. search needs)
-    (λ c. search needs)
-    (λ c. search needs)
-    same-column-requires
-    returns-3
-    (λ c. search needs)
+    (tie.spec (λ c. search needs) (λ c. search needs) (λ c κs. search needs) (λ c κs. search needs) reach-requires returns (λ c. search needs)
+    (λ c. search needs) (λ c. search needs) (λ c. search needs) zero-between-requires returns-2 (λ c. search needs) (λ c. search needs)
+    (λ c κs. search needs) (λ c κs. search needs) (λ c. search needs) (λ c. search needs) same-column-requires returns-3 (λ c. search needs)
     returns-4)

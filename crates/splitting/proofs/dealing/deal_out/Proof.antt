@@ -102,21 +102,5 @@ returns c =
 pub deal-out-spec : {M : Type 1} → statement M
 deal-out-spec =
     tie.close
-    (tie.spec
-    Inv-loop
-    μ-loop
-    loop-holds
-    key-at-requires
-    add-unit-of
-    (λ c κs. search needs)
-    move-record-requires
-    add-gone
-    move-record-requires-2
-    add-kept
-    (λ c. search needs)
-    (λ c. search needs)
-    loop-again
-    clear-from-requires
-    clear-from-requires-2
-    (λ c. search needs)
-    returns)
+    (tie.spec Inv-loop μ-loop loop-holds key-at-requires add-unit-of (λ c κs. search needs) move-record-requires add-gone move-record-requires-2
+    add-kept (λ c. search needs) (λ c. search needs) loop-again clear-from-requires clear-from-requires-2 (λ c. search needs) returns)

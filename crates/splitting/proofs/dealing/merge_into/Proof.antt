@@ -72,17 +72,5 @@ returns c =
 pub merge-into-spec : {M : Type 1} → statement M
 merge-into-spec =
     tie.close
-    (tie.spec
-    Inv-loop
-    μ-loop
-    loop-holds
-    add-move-record
-    move-record-requires
-    (λ c. search needs)
-    (λ c. search needs)
-    loop-again
-    add-clear-from
-    clear-from-requires
-    clear-from-requires-2
-    (λ c. search needs)
-    returns)
+    (tie.spec Inv-loop μ-loop loop-holds add-move-record move-record-requires (λ c. search needs) (λ c. search needs) loop-again add-clear-from
+    clear-from-requires clear-from-requires-2 (λ c. search needs) returns)

@@ -29,21 +29,6 @@ returns c =
 pub move-record-spec : {M : Type 1} → statement M
 move-record-spec =
     tie.close
-    (tie.spec
-    (λ c. search needs)
-    (λ c κs. search needs)
-    (λ c κs. search needs)
-    (λ c. search needs)
-    (λ c. search needs)
-    (λ c. search needs)
-    (λ c. search needs)
-    part-copy-end
-    (λ c κs. search needs)
-    (λ c. search needs)
-    (λ c. search needs)
-    (λ c. search needs)
-    part-copy-end-2
-    (λ c. search needs)
-    (λ c κs. search needs)
-    (λ c. search needs)
-    returns)
+    (tie.spec (λ c. search needs) (λ c κs. search needs) (λ c κs. search needs) (λ c. search needs) (λ c. search needs) (λ c. search needs)
+    (λ c. search needs) part-copy-end (λ c κs. search needs) (λ c. search needs) (λ c. search needs) (λ c. search needs) part-copy-end-2
+    (λ c. search needs) (λ c κs. search needs) (λ c. search needs) returns)

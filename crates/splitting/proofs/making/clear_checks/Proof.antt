@@ -37,14 +37,5 @@ returns c =
 pub clear-checks-spec : {M : Type 1} → statement M
 clear-checks-spec =
     tie.close
-    (tie.spec
-    (λ c. search needs)
-    (λ c κs. search needs)
-    (λ c. search needs)
-    (λ c. search needs)
-    clear-unit-requires-2
-    (λ c. search needs)
-    (λ c. search needs)
-    clear-unit-requires-3
-    (λ c. search needs)
-    returns)
+    (tie.spec (λ c. search needs) (λ c κs. search needs) (λ c. search needs) (λ c. search needs) clear-unit-requires-2 (λ c. search needs)
+    (λ c. search needs) clear-unit-requires-3 (λ c. search needs) returns)

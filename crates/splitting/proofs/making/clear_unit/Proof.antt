@@ -31,13 +31,5 @@ returns c =
 pub clear-unit-spec : {M : Type 1} → statement M
 clear-unit-spec =
     tie.close
-    (tie.spec
-    (λ c. search needs)
-    (λ c κs. search needs)
-    (λ c κs. search needs)
-    (λ c. search needs)
-    (λ c. search needs)
-    part-clear-end
-    (λ c κs. search needs)
-    (λ c. search needs)
-    returns)
+    (tie.spec (λ c. search needs) (λ c κs. search needs) (λ c κs. search needs) (λ c. search needs) (λ c. search needs) part-clear-end
+    (λ c κs. search needs) (λ c. search needs) returns)

@@ -78,26 +78,6 @@ returns c =
 pub copy-keys-spec : {M : Type 1} → statement M
 copy-keys-spec =
     tie.close
-    (tie.spec
-    Inv-loop
-    μ-loop
-    shared-slice-read-b
-    loop-holds
-    mul-slot-at
-    add-slot-at
-    (λ c κs. search needs)
-    add-copy
-    (λ c. search needs)
-    (λ c. search needs)
-    part-copy-end
-    (λ c. search needs)
-    (λ c. search needs)
-    (λ c. search needs)
-    part-copy-end-2
-    (λ c κs. search needs)
-    add-at
-    (λ c. search needs)
-    (λ c. search needs)
-    loop-again
-    (λ c. search needs)
-    returns)
+    (tie.spec Inv-loop μ-loop shared-slice-read-b loop-holds mul-slot-at add-slot-at (λ c κs. search needs) add-copy (λ c. search needs)
+    (λ c. search needs) part-copy-end (λ c. search needs) (λ c. search needs) (λ c. search needs) part-copy-end-2 (λ c κs. search needs) add-at
+    (λ c. search needs) (λ c. search needs) loop-again (λ c. search needs) returns)

@@ -71,41 +71,9 @@ returns c =
 pub fill-parities-spec : {M : Type 1} → statement M
 fill-parities-spec =
     tie.close
-    (tie.spec
-    (λ c. search needs)
-    (λ c. search needs)
-    (λ c κs. search needs)
-    (λ c. search needs)
-    (λ c. search needs)
-    (λ c κs. search needs)
-    (λ c. search needs)
-    (λ c. search needs)
-    (λ c κs. search needs)
-    (λ c. search needs)
-    (λ c. search needs)
-    (λ c κs. search needs)
-    (λ c. search needs)
-    (λ c. search needs)
-    (λ c. search needs)
-    (λ c. search needs)
-    part-fill-end
-    (λ c. search needs)
-    (λ c. search needs)
-    (λ c. search needs)
-    (λ c. search needs)
-    part-fill-end-2
-    (λ c. search needs)
-    (λ c. search needs)
-    (λ c. search needs)
-    (λ c. search needs)
-    part-fill-end-3
-    (λ c. search needs)
-    (λ c. search needs)
-    (λ c. search needs)
-    (λ c. search needs)
-    part-fill-end-4
-    fill-requires
-    (λ c. search needs)
-    (λ c. search needs)
-    (λ c. search needs)
-    returns)
+    (tie.spec (λ c. search needs) (λ c. search needs) (λ c κs. search needs) (λ c. search needs) (λ c. search needs) (λ c κs. search needs)
+    (λ c. search needs) (λ c. search needs) (λ c κs. search needs) (λ c. search needs) (λ c. search needs) (λ c κs. search needs) (λ c. search needs)
+    (λ c. search needs) (λ c. search needs) (λ c. search needs) part-fill-end (λ c. search needs) (λ c. search needs) (λ c. search needs)
+    (λ c. search needs) part-fill-end-2 (λ c. search needs) (λ c. search needs) (λ c. search needs) (λ c. search needs) part-fill-end-3
+    (λ c. search needs) (λ c. search needs) (λ c. search needs) (λ c. search needs) part-fill-end-4 fill-requires (λ c. search needs)
+    (λ c. search needs) (λ c. search needs) returns)

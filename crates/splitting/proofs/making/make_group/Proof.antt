@@ -49,19 +49,5 @@ returns-2 c =
 pub make-group-spec : {M : Type 1} → statement M
 make-group-spec =
     tie.close
-    (tie.spec
-    Inv-loop
-    μ-loop
-    (λ c κs. search needs)
-    (λ c. search needs)
-    (λ c. search needs)
-    (λ c. search needs)
-    returns
-    (λ c. search needs)
-    loop-holds
-    make-rank-requires
-    add-r
-    (λ c. search needs)
-    loop-again
-    (λ c. search needs)
-    returns-2)
+    (tie.spec Inv-loop μ-loop (λ c κs. search needs) (λ c. search needs) (λ c. search needs) (λ c. search needs) returns (λ c. search needs)
+    loop-holds make-rank-requires add-r (λ c. search needs) loop-again (λ c. search needs) returns-2)

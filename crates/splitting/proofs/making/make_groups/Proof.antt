@@ -39,12 +39,5 @@ returns-2 c =
 pub make-groups-spec : {M : Type 1} → statement M
 make-groups-spec =
     tie.close
-    (tie.spec
-    (λ c κs. search needs)
-    (λ c κs. search needs)
-    (λ c κs. search needs)
-    make-group-requires-2
-    (λ c. search needs)
-    returns
-    (λ c. search needs)
-    returns-2)
+    (tie.spec (λ c κs. search needs) (λ c κs. search needs) (λ c κs. search needs) make-group-requires-2 (λ c. search needs) returns
+    (λ c. search needs) returns-2)

@@ -55,20 +55,6 @@ returns c =
 pub make-rank-spec : {M : Type 1} → statement M
 make-rank-spec =
     tie.close
-    (tie.spec
-    (λ c. search needs)
-    (λ c κs. search needs)
-    (λ c. search needs)
-    (λ c. search needs)
-    (λ c. search needs)
-    (λ c κs. search needs)
-    (λ c. search needs)
-    (λ c κs. search needs)
-    (λ c. search needs)
-    (λ c. search needs)
-    put-check-requires-2
-    (λ c. search needs)
-    (λ c. search needs)
-    put-check-requires-3
-    (λ c. search needs)
-    returns)
+    (tie.spec (λ c. search needs) (λ c κs. search needs) (λ c. search needs) (λ c. search needs) (λ c. search needs) (λ c κs. search needs)
+    (λ c. search needs) (λ c κs. search needs) (λ c. search needs) (λ c. search needs) put-check-requires-2 (λ c. search needs) (λ c. search needs)
+    put-check-requires-3 (λ c. search needs) returns)

@@ -30,17 +30,5 @@ returns c =
 pub set-checks-spec : {M : Type 1} → statement M
 set-checks-spec =
     tie.close
-    (tie.spec
-    (λ c κs. search needs)
-    (λ c. search needs)
-    (λ c. search needs)
-    (λ c κs. search needs)
-    (λ c. search needs)
-    (λ c κs. search needs)
-    (λ c. search needs)
-    slice-write-s-2
-    (λ c κs. search needs)
-    (λ c. search needs)
-    slice-write-s-3
-    (λ c. search needs)
-    returns)
+    (tie.spec (λ c κs. search needs) (λ c. search needs) (λ c. search needs) (λ c κs. search needs) (λ c. search needs) (λ c κs. search needs)
+    (λ c. search needs) slice-write-s-2 (λ c κs. search needs) (λ c. search needs) slice-write-s-3 (λ c. search needs) returns)

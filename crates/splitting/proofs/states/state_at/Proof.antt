@@ -13,6 +13,4 @@ returns-2 c = sym (pick-false (c .if1 .left) 1 0)
 pub state-at-spec : {M : Type 1} → statement M
 state-at-spec =
     tie.close
-    (tie.spec
-    returns
-    returns-2)
+    (tie.spec returns returns-2)
