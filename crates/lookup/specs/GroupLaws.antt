@@ -46,7 +46,7 @@ next-ext : (on go : ℕ → Bool) → ((m : ℕ) → m < 7 → on m ≡ go m) �
 unfolding next
 next-ext on go h a = ap (λ x. a + x) (first-ext (7 - a) _ _ (λ k l. h (a + k) (omega arith)))
 
-pub four-ext : (on go : ℕ → Bool) → ((m : ℕ) → m < 7 → on m ≡ go m) → firstFour on ≡ firstFour go
+four-ext : (on go : ℕ → Bool) → ((m : ℕ) → m < 7 → on m ≡ go m) → firstFour on ≡ firstFour go
 unfolding firstFour
 four-ext on go h =
     let n = next-ext on go h in
@@ -76,7 +76,7 @@ module _ (s : List ℕ) (g : ℕ) where
   four-states = four-ext _ _ (serves-ext _ _ _ _ data-states check-states)
 
 -- four members of the group serve
-pub group-enough : {s : List ℕ} → Sized s → (g : ℕ) → g < 4 → beyondIn (view s) g ≡ false → 4 ≤ count 7 (servesIn (view s) g)
+group-enough : {s : List ℕ} → Sized s → (g : ℕ) → g < 4 → beyondIn (view s) g ≡ false → 4 ≤ count 7 (servesIn (view s) g)
 unfolding beyondIn servesIn view
 group-enough {s} h g l e = enough _ _ (λ j k. h .checks (3 * g + j) (omega arith)) e
 

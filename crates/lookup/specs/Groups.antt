@@ -1,11 +1,10 @@
 -- Units that can be read or rebuilt: their groups are not beyond recovery. Assumes nothing.
-use Prim.Native.Nat.{ℕ, _+_, _-_, _/_, _<_}
+use Prim.Native.Nat.{ℕ, _+_, _/_, _<_}
 use mathlib.Core.Path.{_≡_}
-use mathlib.Core.Bool.{Bool, false, not, _&&_}
+use mathlib.Core.Bool.{Bool, false, _&&_}
 use mathlib.Core.List.{List}
 use lib.Dec.{eqb}
 use Rattle.buffer.specs.Bytes.{byte}
-use Rattle.group.specs.Members.{beyond}
 use Rattle.model.specs.Layout.{Store, view}
 use Rattle.model.specs.Reads.{beyondIn}
 use Rattle.lookup.specs.Sized.{Sized}

@@ -5,7 +5,6 @@ use mathlib.Core.Path.{_≡_}
 use mathlib.Core.List.{List}
 use lib.Dec.{eqb}
 use Rattle.buffer.specs.Choice.{pick}
-use Rattle.buffer.specs.Range.{first}
 use Rattle.buffer.specs.Bytes.{byte, part}
 use Rattle.buffer.specs.Strided.{Within}
 use Rattle.group.specs.Widths.{keyBytes, slotBytes, checkBytes}

@@ -108,7 +108,7 @@ pub slot-own : (s : List ℕ) (u r : ℕ) → (byte s (8 + u) ≡ 2 → ⊥) →
 unfolding wholeSlot view
 slot-own s u r h = sym (pick-false (ne-eqb (byte s (8 + u)) 2 h) _ _)
 
-pub slot-part : (s : List ℕ) (u r : ℕ) → part (slotAt (byte s 5) u r) slotBytes s ≡ view s .slot u r
+slot-part : (s : List ℕ) (u r : ℕ) → part (slotAt (byte s 5) u r) slotBytes s ≡ view s .slot u r
 unfolding view
 slot-part s u r = refl
 

@@ -1,12 +1,10 @@
 -- The verdicts of read and list: each way out of the cascade gives the number of the first row that holds. Assumes nothing.
 use Prim.Native.Nat.{ℕ, suc, _+_, _*_, _/_, _≤_, _<_}
-use mathlib.Core.Path.{_≡_, refl, sym, ap, _∙_}
-use mathlib.Core.Bool.{Bool, true, false, _&&_}
+use mathlib.Core.Path.{_≡_, refl, sym, _∙_}
+use mathlib.Core.Bool.{Bool, true, false}
 use mathlib.Core.List.{List}
 use native.Mathlib.Omega.{arith}
-use lib.Dec.{eqb}
 use lib.ListN.{getD}
-use lib.Seq.{getD-take}
 use borrow.Author.Tests.{eq-eqb, ne-eqb, lt-ltb, le-ltb, le-leb, lt-leb}
 use Rattle.buffer.specs.Choice.{pick}
 use Rattle.buffer.specs.ChoiceLaws.{by-test, pick-false}
@@ -15,9 +13,8 @@ use Rattle.buffer.specs.Range.{sum}
 use Rattle.buffer.specs.RangeLaws.{sum-ext}
 use Rattle.buffer.specs.Bytes.{byte}
 use Rattle.group.specs.Widths.{bodyBytes, slotBytes}
-use Rattle.model.specs.Units.{unitOf}
-use Rattle.model.specs.Layout.{view, unitsIn}
-use Rattle.model.specs.Reads.{homeIn, outsIn, beyondIn, firstCheck, listedFill, listedRank, lostIn, totalIn}
+use Rattle.model.specs.Layout.{view}
+use Rattle.model.specs.Reads.{homeIn, beyondIn, listedFill, listedRank, lostIn, totalIn}
 use Rattle.model.specs.Numbers.{firstOf}
 use Rattle.soundness.specs.Survey.{Surveyed}
 use Rattle.soundness.specs.SurveyLaws.{found-sized, fill-read, first-check-read}
@@ -50,7 +47,7 @@ module _ (s : List ℕ) (ok : Bool) (k n : ℕ) where
   unsound key room h = rw (ne-eqb k 0 key, eq-eqb n bodyBytes room, h)
 
 -- a unit that is not lost can be read or rebuilt
-pub safe-unit : {s : List ℕ} {u : ℕ} → Sized s → u < 16 → goneIn (view s) u ≡ false → Recoverable s u
+safe-unit : {s : List ℕ} {u : ℕ} → Sized s → u < 16 → goneIn (view s) u ≡ false → Recoverable s u
 unfolding view
 safe-unit {s} {u} h l e =
     record {

@@ -14,7 +14,6 @@ use Rattle.buffer.specs.RangeLaws.{getD-entries}
 use Rattle.buffer.specs.Bytes.{byte}
 use Rattle.model.specs.Layout.{view}
 use Rattle.model.specs.Reads.{fillIn, firstCheck, outsIn, listedFill}
-use Rattle.model.specs.Sound.{sound}
 use Rattle.lookup.specs.Sized.{Sized}
 use Rattle.lookup.specs.SizedLaws.{sound-sized}
 use Rattle.lookup.specs.KeyLaws.{own-fill, listed-fill-small}

@@ -93,11 +93,11 @@ module _ {s : List ℕ} {ok : Bool} {fills firstChecks outs : List ℕ} (g : Sur
   outs-pair = rw (outs-read g e (m / 4) refl (omega arith), outs-read g e (splitPointer m / 4) refl (omega (arith, split-below m some)))
 
   module _ (free : pairOut (outsIn (view s)) m ≡ false) where
-    pub unit-fill : {i : ℕ} → i ≡ m → getD fills i 0 ≡ fillIn (view s) m
+    unit-fill : {i : ℕ} → i ≡ m → getD fills i 0 ≡ fillIn (view s) m
     unfolding pairOut
     unit-fill ei = own-fill-read g e m ei l (or-first (ltb 0 (outsIn (view s) (m / 4))) _ free)
 
-    pub from-fill : {n i : ℕ} → n ≡ splitPointer m → n < m → i ≡ n → getD fills i 0 ≡ fillIn (view s) n
+    from-fill : {n i : ℕ} → n ≡ splitPointer m → n < m → i ≡ n → getD fills i 0 ≡ fillIn (view s) n
     unfolding pairOut
     from-fill {n} en k ei =
         own-fill-read g e n ei (omega arith) (ap (λ u. ltb 0 (outsIn (view s) (u / 4))) en ∙ or-second (ltb 0 (outsIn (view s) (m / 4))) _ free)
@@ -134,7 +134,7 @@ pair g e some few free =
       from = λ n i. from-fill g e some few free;
     }
 
-pub splits : {s fills : List ℕ} {m n : ℕ} → Pair s fills m → (n ≡ splitPointer m) × (n < m) → Split s n m
+splits : {s fills : List ℕ} {m n : ℕ} → Pair s fills m → (n ≡ splitPointer m) × (n < m) → Split s n m
 splits h en = record { sized = sound-sized (h .tested); from = en .0; apart = en .1; unit = h .few }
 
 -- the last unit, and room for its records

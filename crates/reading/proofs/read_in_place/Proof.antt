@@ -6,7 +6,6 @@ use borrow.Author.Needs.{needs}
 use Rattle.buffer.specs.Bytes.{byte, zeros}
 use Rattle.buffer.specs.ByteLaws.{length-zeros}
 use Rattle.group.specs.Widths.{bodyBytes}
-use Rattle.model.specs.Layout.{slotAt}
 use Rattle.model.specs.Numbers.{Call, numberIn}
 use Rattle.lookup.specs.SizedLaws.{slot-fits}
 use Rattle.lookup.specs.States.{state-byte}
