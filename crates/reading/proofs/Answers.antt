@@ -11,7 +11,7 @@ use Rattle.buffer.specs.Choice.{pick}
 use Rattle.buffer.specs.ChoiceLaws.{pick-true, pick-false}
 use Rattle.buffer.specs.TestLaws.{and-true, and-false-first, and-false-second}
 use Rattle.buffer.specs.Bytes.{byte, zeros, part}
-use Rattle.group.specs.Widths.{keyBytes, bodyBytes}
+use Rattle.group.specs.Widths.{keyBytes, bodyBytes, slotBytes}
 use Rattle.lookup.specs.KeyLaws.{own-rank}
 use Rattle.lookup.specs.Parts.{part-start}
 use Rattle.model.specs.Layout.{view, slotAt}
@@ -84,13 +84,13 @@ module _ (s : List ℕ) (k : ℕ) where
 
   -- or the 16 bytes behind the key of a slot
   pub lent-body : (block o slot at : ℕ) → placeIn s k ≡ record { at = slot + keyBytes; size = bodyBytes } → at ≡ slot
-      → (outcome (lent (take (at + 20 - (at + 4)) (drop (at + 4) s))) s ≡ perform s (Call.readInPlace k))
-      × ((take (at + 20 - (at + 4)) (drop (at + 4) s) ≡ part (placeIn s k .at) (placeIn s k .size) s)
+      → (outcome (lent (take (at + slotBytes - (at + 4)) (drop (at + 4) s))) s ≡ perform s (Call.readInPlace k))
+      × ((take (at + slotBytes - (at + 4)) (drop (at + 4) s) ≡ part (placeIn s k .at) (placeIn s k .size) s)
       × (placeIn s k .size ≡ bodyBytes → _≡_ {A = ℕ × ℕ} (block, at + 4 + o) (block, o + placeIn s k .at)))
   unfolding part
   lent-body block o slot at e f =
       let there : placeIn s k .at ≡ slot + keyBytes = ap (λ (q : Place). q .at) e in
-      let width : at + 20 - (at + 4) ≡ 16 = omega arith in
-      let here : take (at + 20 - (at + 4)) (drop (at + 4) s) ≡ part (placeIn s k .at) (placeIn s k .size) s =
+      let width : at + slotBytes - (at + 4) ≡ bodyBytes = omega arith in
+      let here : take (at + slotBytes - (at + 4)) (drop (at + 4) s) ≡ part (placeIn s k .at) (placeIn s k .size) s =
       rw (width, f) (sym (ap (λ (q : Place). part (q .at) (q .size) s) e)) in
       (lent-part _ here, (here, λ _. part-start block o (at + 4) (placeIn s k .at) (omega arith)))

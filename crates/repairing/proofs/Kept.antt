@@ -20,7 +20,7 @@ use Rattle.group.specs.Widths.{keyBytes, keysBytes, slotBytes}
 use Rattle.group.specs.Members.{serves, beyond, firstFour}
 use Rattle.group.specs.MembersLaws.{serves-data}
 use Rattle.group.specs.Rebuilding.{rebuilt}
-use Rattle.model.specs.Layout.{Store, bytes, view, checkAt, keyOf}
+use Rattle.model.specs.Layout.{Store, bytes, view, checkAt, keyOf, headerBytes}
 use Rattle.model.specs.Places.{Long, data-units}
 use Rattle.model.specs.Parts.{withSlots}
 use Rattle.model.specs.LayoutLaws.{Shaped, Same, bytes-view, view-shaped, view-bytes, header, apart, length-header}
@@ -33,8 +33,8 @@ use Rattle.lookup.specs.Slots.{Recipe}
 use Rattle.lookup.specs.SlotLaws.{body-rebuilt}
 
 -- ---- the header of a store
-header-read : (t : Store) → Shaped t → part 0 36 (bytes t) ≡ header t
-header-read t h = ap (part 0 36) (apart data-units t) ∙ part-seam 36 (header t) _ (length-header t h)
+header-read : (t : Store) → Shaped t → part 0 headerBytes (bytes t) ≡ header t
+header-read t h = ap (part 0 36) (apart data-units t) ∙ part-seam headerBytes (header t) _ (length-header t h)
 
 -- ---- s is s₀ with these slots, which are the old ones in the units that are not out
 pub record Rewritten (s₀ s : List ℕ) (f : ℕ → ℕ → List ℕ) : Type 0 where

@@ -37,9 +37,9 @@ module _ (s : List ℕ) (g r p b at : ℕ) (eb : b ≡ byte s 5) (ea : at ≡ sl
   unfolding slotsOf view part
   key-lent = let w : at + 4 - at ≡ 4 = omega arith in rw (w, ← eb, ← ea) (sym (take-take keyBytes slotBytes (drop at s) (omega arith)))
 
-  pub body-lent : take (at + 20 - (at + 4)) (drop (at + 4) s) ≡ drop keyBytes (slotsOf (view s) g r p)
+  pub body-lent : take (at + slotBytes - (at + 4)) (drop (at + 4) s) ≡ drop keyBytes (slotsOf (view s) g r p)
   unfolding slotsOf view part
-  body-lent = let w : at + 20 - (at + 4) ≡ 16 = omega arith in rw (w, ← eb, ← ea) (sym (drop-part at keyBytes bodyBytes s))
+  body-lent = let w : at + slotBytes - (at + 4) ≡ bodyBytes = omega arith in rw (w, ← eb, ← ea) (sym (drop-part at keyBytes bodyBytes s))
 
 -- the record of check place j when the first t places have followed
 pub record Following (s : List ℕ) (g j r : ℕ) (x : List ℕ) (t : ℕ) : Type 0 where

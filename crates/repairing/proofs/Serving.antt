@@ -14,7 +14,7 @@ use Rattle.buffer.specs.Bytes.{byte, part, splice}
 use Rattle.buffer.specs.SpliceLaws.{length-part, length-splice, part-splice-before, drop-right}
 use Rattle.buffer.specs.ByteLaws.{byte-part, byte-splice-before, byte-splice-inside, byte-splice-behind}
 use Rattle.group.specs.Widths.{slotBytes, checkBytes}
-use Rattle.model.specs.Layout.{bytes, view, storeBytes, slotAt, checkAt, changed}
+use Rattle.model.specs.Layout.{bytes, view, storeBytes, slotAt, checkAt, changed, headerBytes}
 use Rattle.model.specs.Places.{Long}
 use Rattle.model.specs.LayoutLaws.{bytes-ext, bytes-view}
 use Rattle.repairing.specs.Groups.{Group}
@@ -38,7 +38,7 @@ served-in x n = sym (pick-false (ne-eqb x 2 n) 1 x)
 -- ---- other state bytes: what stands before them and behind them is as it was
 record Restated (s s′ : List ℕ) : Type 0 where
   front : part 0 8 s′ ≡ part 0 8 s
-  behind : (o : ℕ) → 36 ≤ o → drop o s′ ≡ drop o s
+  behind : (o : ℕ) → headerBytes ≤ o → drop o s′ ≡ drop o s
   size : length s′ ≡ length s
 
 restated-store : {s s′ : List ℕ} → Restated s s′ → Long s
@@ -61,7 +61,7 @@ restated-store {s} {s′} k long =
 record Served (at n : ℕ) (s s′ : List ℕ) : Type 0 where
   low : 8 ≤ at
   high : at + n ≤ 36
-  room : 36 ≤ length s
+  room : headerBytes ≤ length s
   state : s′ ≡ splice at n (map inService (part at n s)) s
 
 module _ {at n : ℕ} {s s′ : List ℕ} (h : Served at n s s′) where

@@ -17,6 +17,7 @@ use Rattle.model.specs.Layout.{view, slotAt, checkAt}
 use Rattle.model.specs.Reads.{firstCheck, outsIn}
 use Rattle.lookup.specs.Keys.{keysAt}
 use Rattle.buffer.specs.Strided.{strided32}
+use Rattle.group.specs.Widths.{slotBytes, checkBytes}
 use Rattle.soundness.specs.Keys.{fillOf, reached, sameKeys, noKeys, sameLists}
 use Rattle.soundness.specs.Pieces.{Kept, zeroBetween, dataKeys, columnKeys, unkept, dataFill, columnFill, unitZero, restZero, checkZero}
 use Rattle.soundness.proofs.Places.{data-list, column-list}
@@ -65,38 +66,40 @@ first-check-before s c e =
 
 -- ---- what the callees found at the places that the code computed: unit u's slots at `at`, its b ranks as `w`, its column at `to`
 module _ (s : List ℕ) (u : ℕ) {w : ℕ} (width : w ≡ byte s 5) where
-  pub data-fill : {at n : ℕ} → at ≡ slotAt (byte s 5) u 0 → n ≡ reached w (byte s 6) u (strided32 s at 20) → n ≡ dataFill s u
+  pub data-fill : {at n : ℕ} → at ≡ slotAt (byte s 5) u 0 → n ≡ reached w (byte s 6) u (strided32 s at slotBytes) → n ≡ dataFill s u
   unfolding dataFill
   data-fill e f = f ∙ ap₂ (λ b key. reached b (byte s 6) u key) width (data-list s u e)
 
-  pub column-fill : {to n : ℕ} → to ≡ keysAt s u → n ≡ reached w (byte s 6) u (strided32 s to 32) → n ≡ columnFill s u
+  pub column-fill : {to n : ℕ} → to ≡ keysAt s u → n ≡ reached w (byte s 6) u (strided32 s to checkBytes) → n ≡ columnFill s u
   unfolding columnFill
   column-fill e f = f ∙ ap₂ (λ b key. reached b (byte s 6) u key) width (column-list s u e)
 
   -- the end of its slots
-  end : {at : ℕ} → at ≡ slotAt (byte s 5) u 0 → at + 20 * w ≡ slotAt (byte s 5) u 0 + 20 * byte s 5
-  end e = ap₂ (λ a b. a + 20 * b) e width
+  end : {at : ℕ} → at ≡ slotAt (byte s 5) u 0 → at + slotBytes * w ≡ slotAt (byte s 5) u 0 + slotBytes * byte s 5
+  end e = ap₂ (λ a b. a + slotBytes * b) e width
 
-  pub unit-zero : {at : ℕ} {r : Bool} → at ≡ slotAt (byte s 5) u 0 → r ≡ zeroBetween s at (at + 20 * w) → r ≡ unitZero s u
+  pub unit-zero : {at : ℕ} {r : Bool} → at ≡ slotAt (byte s 5) u 0 → r ≡ zeroBetween s at (at + slotBytes * w) → r ≡ unitZero s u
   unfolding unitZero
   unit-zero e h = h ∙ ap₂ (zeroBetween s) e (end e)
 
-  pub rest-zero : {at n : ℕ} {r : Bool} → at ≡ slotAt (byte s 5) u 0 → n ≡ dataFill s u → r ≡ zeroBetween s (at + 20 * n) (at + 20 * w) → r ≡ restZero s u
+  pub rest-zero : {at n : ℕ} {r : Bool} → at ≡ slotAt (byte s 5) u 0 → n ≡ dataFill s u → r ≡ zeroBetween s (at + slotBytes * n) (at + slotBytes * w)
+      → r ≡ restZero s u
   unfolding restZero
-  rest-zero e f h = h ∙ ap₂ (zeroBetween s) (ap₂ (λ a k. a + 20 * k) e f) (end e)
+  rest-zero e f h = h ∙ ap₂ (zeroBetween s) (ap₂ (λ a k. a + slotBytes * k) e f) (end e)
 
-  pub column-same : {at to : ℕ} {r : Bool} → at ≡ slotAt (byte s 5) u 0 → to ≡ keysAt s u → r ≡ sameKeys w (strided32 s at 20) (strided32 s to 32)
+  pub column-same : {at to : ℕ} {r : Bool} → at ≡ slotAt (byte s 5) u 0 → to ≡ keysAt s u
+      → r ≡ sameKeys w (strided32 s at slotBytes) (strided32 s to checkBytes)
       → r ≡ sameKeys (byte s 5) (dataKeys s u) (columnKeys s u)
   column-same e f h = h ∙ ap₂ (sameKeys w) (data-list s u e) (column-list s u f) ∙ ap (λ b. sameKeys b (dataKeys s u) (columnKeys s u)) width
 
-  pub column-none : {to n k : ℕ} {r : Bool} → to ≡ keysAt s u → n ≡ k → r ≡ noKeys n w (strided32 s to 32) → r ≡ noKeys k (byte s 5) (columnKeys s u)
-  column-none {to} {k = k} e f h = h ∙ ap₂ (λ i b. noKeys i b (strided32 s to 32)) f width ∙ ap (noKeys k (byte s 5)) (column-list s u e)
+  pub column-none : {to n k : ℕ} {r : Bool} → to ≡ keysAt s u → n ≡ k → r ≡ noKeys n w (strided32 s to checkBytes) → r ≡ noKeys k (byte s 5) (columnKeys s u)
+  column-none {to} {k = k} e f h = h ∙ ap₂ (λ i b. noKeys i b (strided32 s to checkBytes)) f width ∙ ap (noKeys k (byte s 5)) (column-list s u e)
 
 -- ---- and of a check unit
 module _ (s : List ℕ) (c : ℕ) {w at : ℕ} (width : w ≡ byte s 5) (place : at ≡ checkAt (byte s 5) c 0) where
-  pub check-unit-zero : {r : Bool} → r ≡ zeroBetween s at (at + 32 * w) → r ≡ checkZero s c
+  pub check-unit-zero : {r : Bool} → r ≡ zeroBetween s at (at + checkBytes * w) → r ≡ checkZero s c
   unfolding checkZero
-  check-unit-zero h = h ∙ ap₂ (zeroBetween s) place (ap₂ (λ a b. a + 32 * b) place width)
+  check-unit-zero h = h ∙ ap₂ (zeroBetween s) place (ap₂ (λ a b. a + checkBytes * b) place width)
 
   pub check-unit-same : {r : Bool} {k to : ℕ} → k ≡ firstCheck (view s) (c / 3) → to ≡ checkAt (byte s 5) k 0 → r ≡ sameLists s to at w
       → r ≡ sameLists s (checkAt (byte s 5) (firstCheck (view s) (c / 3)) 0) (checkAt (byte s 5) c 0) (byte s 5)

@@ -12,6 +12,7 @@ use Rattle.model.specs.LayoutLaws.{key-first}
 use Rattle.model.specs.Reads.{firstCheck, listedKey}
 use Rattle.lookup.specs.KeyLaws.{unit-key}
 use Rattle.buffer.specs.Strided.{strided32}
+use Rattle.group.specs.Widths.{checkBytes}
 use Rattle.soundness.specs.Pieces.{dataKeys, columnKeys}
 
 module _ (s : List ℕ) where
@@ -21,12 +22,12 @@ module _ (s : List ℕ) where
   slot-key u r = sym (unit-key s u r)
 
   -- the key at a place of a check record
-  pub check-key : (c p r : ℕ) → p < 4 → keyOf (part (4 * p) 4 (view s .check c r)) ≡ strided32 s (checkAt (byte s 5) c 0 + 4 * p) 32 r
+  pub check-key : (c p r : ℕ) → p < 4 → keyOf (part (4 * p) 4 (view s .check c r)) ≡ strided32 s (checkAt (byte s 5) c 0 + 4 * p) checkBytes r
   unfolding keyOf view strided32
   check-key c p r h =
-      let at : checkAt (byte s 5) c r + (4 * p + 0) ≡ checkAt (byte s 5) c 0 + 4 * p + 32 * r = omega arith in
-      be32-part (4 * p) 4 (part (checkAt (byte s 5) c r) 32 s) 0 (omega arith)
-      ∙ be32-part (checkAt (byte s 5) c r) 32 s (4 * p + 0) (omega arith)
+      let at : checkAt (byte s 5) c r + (4 * p + 0) ≡ checkAt (byte s 5) c 0 + 4 * p + checkBytes * r = omega arith in
+      be32-part (4 * p) 4 (part (checkAt (byte s 5) c r) checkBytes s) 0 (omega arith)
+      ∙ be32-part (checkAt (byte s 5) c r) checkBytes s (4 * p + 0) (omega arith)
       ∙ ap (be32 s) at
 
   -- the keys listed for a unit: its own, or, where it is out, those of the first check unit in service

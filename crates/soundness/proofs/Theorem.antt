@@ -17,6 +17,7 @@ use Rattle.model.specs.Reads.{fillIn, firstCheck, listedKey, listedFill}
 use Rattle.model.specs.SoundSays.{in-range}
 use Rattle.model.specs.Sound.{same, ranges, unitsPlaced, groupsPlaced, zeroed, keysKnown, keysPlaced, listsAgree, sound}
 use Rattle.buffer.specs.Strided.{strided32}
+use Rattle.group.specs.Widths.{slotBytes, checkBytes}
 use Rattle.soundness.specs.Keys.{fillOf, isNew, ownAndNew}
 use Rattle.soundness.specs.Pieces.{Ranged, placed, groupPlaced, columnKeys, unkept, unitGood, checkGood, pieces}
 use Rattle.soundness.proofs.Joined.{and-assoc}
@@ -58,7 +59,7 @@ module _ (s : List ℕ) where
   place-column g p r h k =
       let e : (4 * g + p) / 4 ≡ g = omega arith in
       let f : (4 * g + p) % 4 ≡ p = omega arith in
-      ap₂ (λ i j. strided32 s (checkAt (byte s 5) (firstCheck (view s) i) 0 + 4 * j) 32 r) e f
+      ap₂ (λ i j. strided32 s (checkAt (byte s 5) (firstCheck (view s) i) 0 + 4 * j) checkBytes r) e f
 
   -- check unit c in service lists, for each place of its group, the keys of the unit there
   abbrev Agree : ℕ → Type 0
@@ -126,10 +127,10 @@ module _ (s : List ℕ) where
 
   -- ---- the zeros
   slotsZero : ℕ → Bool
-  slotsZero u = all (byte s 5) (λ r. (eqb (byte s (8 + u)) 1 && ltb r (fillIn (view s) u)) || same (view s .slot u r) (zeros 20))
+  slotsZero u = all (byte s 5) (λ r. (eqb (byte s (8 + u)) 1 && ltb r (fillIn (view s) u)) || same (view s .slot u r) (zeros slotBytes))
 
   checksZero : ℕ → Bool
-  checksZero c = all (byte s 5) (λ r. eqb (byte s (24 + c)) 1 || same (view s .check c r) (zeros 32))
+  checksZero c = all (byte s 5) (λ r. eqb (byte s (24 + c)) 1 || same (view s .check c r) (zeros checkBytes))
 
   zeroing : zeroed (view s) ≡ (all 16 slotsZero && all 12 checksZero)
   unfolding zeroed slotsZero checksZero view

@@ -17,6 +17,7 @@ use Rattle.model.specs.Layout.{view, keyOf, slotAt}
 use Rattle.model.specs.Reads.{fillIn, firstCheck, listedKey, listedFill}
 use Rattle.model.specs.Sound.{same, keysKnown}
 use Rattle.buffer.specs.Strided.{strided32}
+use Rattle.group.specs.Widths.{slotBytes}
 use Rattle.soundness.specs.Keys.{fillOf, ownAndNew, reached, sameKeys, noKeys}
 use Rattle.soundness.specs.Pieces.{Ranged, placed, dataKeys, columnKeys, unkept, dataFill, columnFill, lostFill, unitZero, restZero}
 use Rattle.soundness.specs.Pieces.{served, lost, absent, unitGood, unitFill}
@@ -30,7 +31,7 @@ use Rattle.soundness.proofs.Good.{no-fill}
 
 -- the clauses of soundness that speak of data unit u
 pub record Unit (s : List ℕ) (u : ℕ) : Type 0 where
-  pub zero : (r : ℕ) → r < byte s 5 → ((eqb (byte s (8 + u)) 1 && ltb r (fillIn (view s) u)) || same (view s .slot u r) (zeros 20)) ≡ true
+  pub zero : (r : ℕ) → r < byte s 5 → ((eqb (byte s (8 + u)) 1 && ltb r (fillIn (view s) u)) || same (view s .slot u r) (zeros slotBytes)) ≡ true
   pub keys : (not (keysKnown (view s) u) || keysGood (byte s 5) (byte s 6) u (λ r. keyOf (listedKey (view s) u r))) ≡ true
   pub lists : unkept s (u / 4) ≡ false → (r : ℕ) → r < byte s 5 → columnKeys s u r ≡ keyOf (listedKey (view s) u r)
 
@@ -46,9 +47,10 @@ module _ (s : List ℕ) (u : ℕ) where
   unfolding fillIn fillOf view
   fill-in = first-ext (byte s 5) _ _ (λ r _. ap (λ k. eqb k 0) (slot-key s u r))
 
-  data-zero : (n : ℕ) → Zero s (slotAt (byte s 5) u 0 + 20 * n) (slotAt (byte s 5) u 0 + 20 * byte s 5) → (r : ℕ) → n ≤ r → r < byte s 5 → dataKeys s u r ≡ 0
+  data-zero : (n : ℕ) → Zero s (slotAt (byte s 5) u 0 + slotBytes * n) (slotAt (byte s 5) u 0 + slotBytes * byte s 5) → (r : ℕ) → n ≤ r → r < byte s 5
+      → dataKeys s u r ≡ 0
   unfolding dataKeys strided32
-  data-zero n z r l k = key-zero s (slotAt (byte s 5) u 0 + 20 * r) (λ i p q. z i (omega arith) (omega arith))
+  data-zero n z r l k = key-zero s (slotAt (byte s 5) u 0 + slotBytes * r) (λ i p q. z i (omega arith) (omega arith))
 
   -- whether a unit's keys are known, by its state
   known-served : byte s (8 + u) ≡ 1 → keysKnown (view s) u ≡ true
@@ -130,15 +132,16 @@ module _ (s : List ℕ) (u : ℕ) where
       (λ _ _. omega arith)
 
 module _ (s : List ℕ) (ok : Ranged s) (u : ℕ) (low : u < 16) where
-  fits : slotAt (byte s 5) u 0 + 20 * byte s 5 ≤ length s
+  fits : slotAt (byte s 5) u 0 + slotBytes * byte s 5 ≤ length s
   fits = omega (arith, row-within 16 u (byte s 5) low, ok .long)
 
   -- the whole unit is zero
-  whole : unitZero s u ≡ true → Zero s (slotAt (byte s 5) u 0 + 20 * 0) (slotAt (byte s 5) u 0 + 20 * byte s 5)
+  whole : unitZero s u ≡ true → Zero s (slotAt (byte s 5) u 0 + slotBytes * 0) (slotAt (byte s 5) u 0 + slotBytes * byte s 5)
   unfolding unitZero
   whole h i p q = zero-range s _ _ (omega arith) fits h i (omega arith) q
 
-  blank : unitZero s u ≡ true → (r : ℕ) → r < byte s 5 → ((eqb (byte s (8 + u)) 1 && ltb r (fillIn (view s) u)) || same (view s .slot u r) (zeros 20)) ≡ true
+  blank : unitZero s u ≡ true → (r : ℕ) → r < byte s 5 → ((eqb (byte s (8 + u)) 1 && ltb r (fillIn (view s) u)) || same (view s .slot u r) (zeros slotBytes))
+      ≡ true
   blank h r l = behind (eqb (byte s (8 + u)) 1) (ltb r (fillIn (view s) u)) _ (slot-zero s u fits 0 (whole h) r (omega arith) l)
 
   unblank : (byte s (8 + u) ≡ 1 → ⊥) → Unit s u → unitZero s u ≡ true
@@ -157,7 +160,7 @@ module _ (s : List ℕ) (ok : Ranged s) (u : ℕ) (low : u < 16) where
     Front = all (fillOf (byte s 5) (dataKeys s u)) (ownAndNew (byte s 6) u (dataKeys s u)) ≡ true
 
     Rest : Type 0
-    Rest = Zero s (slotAt (byte s 5) u 0 + 20 * fillOf (byte s 5) (dataKeys s u)) (slotAt (byte s 5) u 0 + 20 * byte s 5)
+    Rest = Zero s (slotAt (byte s 5) u 0 + slotBytes * fillOf (byte s 5) (dataKeys s u)) (slotAt (byte s 5) u 0 + slotBytes * byte s 5)
 
     front-of : leb (dataFill s u) 64 ≡ true → Front
     unfolding dataFill Front
@@ -195,7 +198,7 @@ module _ (s : List ℕ) (ok : Ranged s) (u : ℕ) (low : u < 16) where
     unit-served g =
         let k = good-parts (byte s 5) (byte s 6) u (dataKeys s u) (rw (known-served s u state, own) at (g .keys)) in
         let n : ℕ = fillOf (byte s 5) (dataKeys s u) in
-        let z : Zero s (slotAt (byte s 5) u 0 + 20 * n) (slotAt (byte s 5) u 0 + 20 * byte s 5) =
+        let z : Zero s (slotAt (byte s 5) u 0 + slotBytes * n) (slotAt (byte s 5) u 0 + slotBytes * byte s 5) =
         zero-slots s u fits n (λ r l w.
         or-left (eqb (byte s (8 + u)) 1) (ltb r (fillIn (view s) u)) _ (le-ltb r (fillIn (view s) u) (omega (arith, fill-in s u))) (g .zero r w)) in
         and-true

@@ -15,6 +15,7 @@ use Rattle.buffer.specs.ByteLaws.{byte-part, byte-zeros, zeros-of}
 use Rattle.model.specs.Layout.{view, slotAt, checkAt}
 use Rattle.model.specs.Sound.{same}
 use Rattle.model.specs.SoundLaws.{same-true, same-of}
+use Rattle.group.specs.Widths.{slotBytes, checkBytes}
 use Rattle.soundness.specs.Pieces.{zeroBetween}
 
 -- ---- a range of zeros
@@ -55,29 +56,29 @@ module _ (s : List ℕ) where
       same-of (part at n s) (zeros n) (zeros-of n (part at n s) (length-part at n s l) (λ i k. byte-part at n s i k ∙ z (at + i) (omega arith) (omega arith)))
 
   -- ---- the slots of a unit from rank n on
-  module _ (u : ℕ) (fits : slotAt (byte s 5) u 0 + 20 * byte s 5 ≤ length s) where
-    pub slot-zero : (n : ℕ) → Zero s (slotAt (byte s 5) u 0 + 20 * n) (slotAt (byte s 5) u 0 + 20 * byte s 5)
-        → (r : ℕ) → n ≤ r → r < byte s 5 → same (view s .slot u r) (zeros 20) ≡ true
+  module _ (u : ℕ) (fits : slotAt (byte s 5) u 0 + slotBytes * byte s 5 ≤ length s) where
+    pub slot-zero : (n : ℕ) → Zero s (slotAt (byte s 5) u 0 + slotBytes * n) (slotAt (byte s 5) u 0 + slotBytes * byte s 5)
+        → (r : ℕ) → n ≤ r → r < byte s 5 → same (view s .slot u r) (zeros slotBytes) ≡ true
     unfolding view
-    slot-zero n z r l k = zero-part (slotAt (byte s 5) u r) 20 (omega arith) (λ i p q. z i (omega arith) (omega arith))
+    slot-zero n z r l k = zero-part (slotAt (byte s 5) u r) slotBytes (omega arith) (λ i p q. z i (omega arith) (omega arith))
 
-    pub zero-slots : (n : ℕ) → ((r : ℕ) → n ≤ r → r < byte s 5 → same (view s .slot u r) (zeros 20) ≡ true)
-        → Zero s (slotAt (byte s 5) u 0 + 20 * n) (slotAt (byte s 5) u 0 + 20 * byte s 5)
+    pub zero-slots : (n : ℕ) → ((r : ℕ) → n ≤ r → r < byte s 5 → same (view s .slot u r) (zeros slotBytes) ≡ true)
+        → Zero s (slotAt (byte s 5) u 0 + slotBytes * n) (slotAt (byte s 5) u 0 + slotBytes * byte s 5)
     unfolding view
     zero-slots n h i l k =
-        let r : ℕ = (i - slotAt (byte s 5) u 0) / 20 in
-        part-zero (slotAt (byte s 5) u r) 20 (h r (omega arith) (omega arith)) i (omega arith) (omega arith)
+        let r : ℕ = (i - slotAt (byte s 5) u 0) / slotBytes in
+        part-zero (slotAt (byte s 5) u r) slotBytes (h r (omega arith) (omega arith)) i (omega arith) (omega arith)
 
   -- ---- the records of a check unit
-  module _ (c : ℕ) (fits : checkAt (byte s 5) c 0 + 32 * byte s 5 ≤ length s) where
-    pub check-zero : Zero s (checkAt (byte s 5) c 0) (checkAt (byte s 5) c 0 + 32 * byte s 5)
-        → (r : ℕ) → r < byte s 5 → same (view s .check c r) (zeros 32) ≡ true
+  module _ (c : ℕ) (fits : checkAt (byte s 5) c 0 + checkBytes * byte s 5 ≤ length s) where
+    pub check-zero : Zero s (checkAt (byte s 5) c 0) (checkAt (byte s 5) c 0 + checkBytes * byte s 5)
+        → (r : ℕ) → r < byte s 5 → same (view s .check c r) (zeros checkBytes) ≡ true
     unfolding view
-    check-zero z r k = zero-part (checkAt (byte s 5) c r) 32 (omega arith) (λ i p q. z i (omega arith) (omega arith))
+    check-zero z r k = zero-part (checkAt (byte s 5) c r) checkBytes (omega arith) (λ i p q. z i (omega arith) (omega arith))
 
-    pub zero-checks : ((r : ℕ) → r < byte s 5 → same (view s .check c r) (zeros 32) ≡ true)
-        → Zero s (checkAt (byte s 5) c 0) (checkAt (byte s 5) c 0 + 32 * byte s 5)
+    pub zero-checks : ((r : ℕ) → r < byte s 5 → same (view s .check c r) (zeros checkBytes) ≡ true)
+        → Zero s (checkAt (byte s 5) c 0) (checkAt (byte s 5) c 0 + checkBytes * byte s 5)
     unfolding view
     zero-checks h i l k =
-        let r : ℕ = (i - checkAt (byte s 5) c 0) / 32 in
-        part-zero (checkAt (byte s 5) c r) 32 (h r (omega arith)) i (omega arith) (omega arith)
+        let r : ℕ = (i - checkAt (byte s 5) c 0) / checkBytes in
+        part-zero (checkAt (byte s 5) c r) checkBytes (h r (omega arith)) i (omega arith) (omega arith)

@@ -8,6 +8,7 @@ use Rattle.buffer.specs.Choice.{pick}
 use Rattle.buffer.specs.Range.{all, first}
 use Rattle.buffer.specs.Bytes.{byte, be32}
 use Rattle.model.specs.Units.{powerBelow, splitPointer, unitOf}
+use Rattle.group.specs.Widths.{checkBytes}
 
 -- the place of a key in the table of stamps
 unfoldable pub placeOf : ℕ → ℕ
@@ -51,4 +52,4 @@ samePair s x y = eqb (be32 s x) (be32 s y) && eqb (be32 s (x + 4)) (be32 s (y + 
 
 -- the four keys of each of b check records are the same in two check units
 unfoldable pub sameLists : List ℕ → ℕ → ℕ → ℕ → Bool
-sameLists s x y b = all b (λ r. samePair s (x + 32 * r) (y + 32 * r) && samePair s (x + 32 * r + 8) (y + 32 * r + 8))
+sameLists s x y b = all b (λ r. samePair s (x + checkBytes * r) (y + checkBytes * r) && samePair s (x + checkBytes * r + 8) (y + checkBytes * r + 8))

@@ -15,6 +15,7 @@ use Rattle.model.specs.Reads.{firstCheck}
 use Rattle.model.specs.Sound.{ranges, checksIn, checksAllowed}
 use Rattle.buffer.specs.Strided.{strided32}
 use Rattle.lookup.specs.Keys.{keysAt}
+use Rattle.group.specs.Widths.{slotBytes, checkBytes}
 use Rattle.soundness.specs.Keys.{reached, sameKeys, noKeys, sameLists}
 
 -- what the later pieces rely on: the store's units lie within the bytes
@@ -46,10 +47,10 @@ groupPlaced s g =
 
 -- ---- a data unit: its own keys, and those that the first check unit in service of its group lists for it
 unfoldable pub dataKeys : List ℕ → ℕ → ℕ → ℕ
-dataKeys s u = strided32 s (slotAt (byte s 5) u 0) 20
+dataKeys s u = strided32 s (slotAt (byte s 5) u 0) slotBytes
 
 unfoldable pub columnKeys : List ℕ → ℕ → ℕ → ℕ
-columnKeys s u = strided32 s (keysAt s u) 32
+columnKeys s u = strided32 s (keysAt s u) checkBytes
 
 -- no check unit of the group is in service
 unfoldable pub unkept : List ℕ → ℕ → Bool
@@ -67,10 +68,10 @@ lostFill s u = pick (unkept s (u / 4)) 0 (columnFill s u)
 
 -- its slots are zero: all of them, and those behind its keys
 unfoldable pub unitZero : List ℕ → ℕ → Bool
-unitZero s u = zeroBetween s (slotAt (byte s 5) u 0) (slotAt (byte s 5) u 0 + 20 * byte s 5)
+unitZero s u = zeroBetween s (slotAt (byte s 5) u 0) (slotAt (byte s 5) u 0 + slotBytes * byte s 5)
 
 unfoldable pub restZero : List ℕ → ℕ → Bool
-restZero s u = zeroBetween s (slotAt (byte s 5) u 0 + 20 * dataFill s u) (slotAt (byte s 5) u 0 + 20 * byte s 5)
+restZero s u = zeroBetween s (slotAt (byte s 5) u 0 + slotBytes * dataFill s u) (slotAt (byte s 5) u 0 + slotBytes * byte s 5)
 
 -- in service: its keys, zeros behind them, and the keys listed for it
 unfoldable pub served : List ℕ → ℕ → Bool
@@ -100,7 +101,7 @@ sameAsFirst s c =
     eqb (firstCheck (view s) (c / 3)) c || sameLists s (checkAt (byte s 5) (firstCheck (view s) (c / 3)) 0) (checkAt (byte s 5) c 0) (byte s 5)
 
 unfoldable pub checkZero : List ℕ → ℕ → Bool
-checkZero s c = zeroBetween s (checkAt (byte s 5) c 0) (checkAt (byte s 5) c 0 + 32 * byte s 5)
+checkZero s c = zeroBetween s (checkAt (byte s 5) c 0) (checkAt (byte s 5) c 0 + checkBytes * byte s 5)
 
 unfoldable pub checkGood : List ℕ → ℕ → Bool
 checkGood s c = pick (eqb (byte s (24 + c)) 1) (sameAsFirst s c) (checkZero s c)

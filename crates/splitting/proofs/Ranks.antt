@@ -36,10 +36,10 @@ use Rattle.splitting.proofs.Places.{by-place}
 
 -- ---- the slots of a rank, as code lends their parts
 pub slot-parts : (s : List ℕ) (u r at : ℕ) → at ≡ slotAt (byte s 5) u r
-    → (part at (at + 4 - at) s ≡ take keyBytes (view s .slot u r)) × (part (at + 4) (at + 20 - (at + 4)) s ≡ drop keyBytes (view s .slot u r))
+    → (part at (at + 4 - at) s ≡ take keyBytes (view s .slot u r)) × (part (at + 4) (at + slotBytes - (at + 4)) s ≡ drop keyBytes (view s .slot u r))
 slot-parts s u r at ea =
     let key : at + 4 - at ≡ keyBytes = omega arith in
-    let body : at + 20 - (at + 4) ≡ bodyBytes = omega arith in
+    let body : at + slotBytes - (at + 4) ≡ bodyBytes = omega arith in
     let slot : part at slotBytes s ≡ view s .slot u r = slot-lent s (byte s 5) at u r refl ea in (
       rw (key, ← slot) (unfold part in sym (take-take keyBytes slotBytes (drop at s) (omega arith))),
       rw (body, ← slot) (sym (drop-part at keyBytes bodyBytes s)),
@@ -63,8 +63,8 @@ module _ {s : List ℕ} {g r : ℕ} (h : RankIn s g r) where
   rank-check held c l = record { long = holds-long held; unit = l; rank = rw (holds-five held) (h .rank) }
 
 -- a body, as it is lent
-pub body-lent : (s : List ℕ) (at : ℕ) → at + slotBytes ≤ length s → length (part (at + 4) (at + 20 - (at + 4)) s) ≡ bodyBytes
-body-lent s at h = let size : at + 20 - (at + 4) ≡ bodyBytes = omega arith in rw size (length-part (at + 4) bodyBytes s (omega arith))
+pub body-lent : (s : List ℕ) (at : ℕ) → at + slotBytes ≤ length s → length (part (at + 4) (at + slotBytes - (at + 4)) s) ≡ bodyBytes
+body-lent s at h = let size : at + slotBytes - (at + 4) ≡ bodyBytes = omega arith in rw size (length-part (at + 4) bodyBytes s (omega arith))
 
 -- the parity of four bodies is that of the slots
 pub slots-parity : (v : Store) (g r j : ℕ) (a b c d : List ℕ) → a ≡ drop keyBytes (v .slot (4 * g) r) → b ≡ drop keyBytes (v .slot (4 * g + 1) r)

@@ -9,6 +9,7 @@ use Rattle.buffer.specs.Bytes.{be32, zeros}
 use Rattle.model.specs.Layout.{view, keyOf}
 use Rattle.model.specs.Reads.{listedKey}
 use Rattle.buffer.specs.Strided.{strided32}
+use Rattle.group.specs.Widths.{checkBytes}
 use Rattle.lookup.specs.Keys.{Lists}
 use Rattle.lookup.specs.KeyLaws.{lists-key}
 use Rattle.lookup.specs.SlotLaws.{recipe-keys, out-key-long, body-rebuilt, slot-rebuilt, slot-none}
@@ -62,7 +63,9 @@ rebuild-body-requires c κs =
     let p = start .pre in
     let keys = start .args .keys in
     let r = start .args .r in
-    let key = part-lent (start .args .s .now) (keys + 32 * at .wide .result) 4 (keys + 32 * r) (ap (λ (n : ℕ). keys + 32 * n) (at .wide .ensures .0))
+    let key =
+    part-lent (start .args .s .now) (keys + checkBytes * at .wide .result) 4 (keys + checkBytes * r)
+    (ap (λ (n : ℕ). keys + checkBytes * n) (at .wide .ensures .0))
     ∙ recipe-keys (p .1) (p .3) .bytes r in
     let long : length (copied .copy .last .0) ≡ 4 = ap length (copied .copy .ensures ∙ key) ∙ out-key-long (p .1 .unit) r (p .2) (p .1 .out) in
     let room = body-room (start .args .out .now) (copied .copy .last .0) (p .0) long in
@@ -91,9 +94,9 @@ returns-2 c =
     let keys = start .args .keys in
     let r = start .args .r in
     let lists = recipe-keys (p .1) (p .3) in
-    let place = ap (λ (n : ℕ). keys + 32 * n) (at .wide .ensures .0) in
+    let place = ap (λ (n : ℕ). keys + checkBytes * n) (at .wide .ensures .0) in
     let k : copied .copy .last .0 ≡ listedKey (view (start .args .s .now)) (start .args .u) r =
-    copied .copy .ensures ∙ part-lent (start .args .s .now) (keys + 32 * at .wide .result) 4 (keys + 32 * r) place ∙ lists .bytes r in
+    copied .copy .ensures ∙ part-lent (start .args .s .now) (keys + checkBytes * at .wide .result) 4 (keys + checkBytes * r) place ∙ lists .bytes r in
     let some : (keyOf (listedKey (view (start .args .s .now)) (start .args .u) r) ≡ 0 → ⊥) =
     λ z. test .if1 .left (key-read lists r (at .wide .result) (at .wide .ensures .0) (read .load32 .ensures) ∙ z) in
     two-parts (start .args .out .now) (copied .copy .last .0) (p .0)

@@ -9,6 +9,7 @@ use Rattle.lookup.specs.SizedLaws.{slots-fit}
 use Rattle.lookup.specs.States.{state-byte}
 use Rattle.lookup.specs.SlotLaws.{own-slots}
 use Rattle.buffer.specs.SpliceLaws.{part-lent}
+use Rattle.group.specs.Widths.{slotBytes}
 use Rattle.reading.proofs.copy_unit.Statement.{statement}
 use Rattle.reading.proofs.copy_unit.Tie as tie
 
@@ -35,8 +36,8 @@ returns-2 c =
     let s = start .args .s .now in
     let u = start .args .u in
     copied .copy .ensures
-    ∙ part-lent s (at .slot-at .result) (20 * wide .wide .result) (slotAt (byte s 5) u 0) (at .slot-at .ensures .0)
-    ∙ ap (λ (n : ℕ). part (slotAt (byte s 5) u 0) (20 * n) s) (wide .wide .ensures .0)
+    ∙ part-lent s (at .slot-at .result) (slotBytes * wide .wide .result) (slotAt (byte s 5) u 0) (at .slot-at .ensures .0)
+    ∙ ap (λ (n : ℕ). part (slotAt (byte s 5) u 0) (slotBytes * n) s) (wide .wide .ensures .0)
     ∙ own-slots s u (start .args .n) (λ h. test .if1 .left (test .before .state .ensures ∙ sym (state-byte s u) ∙ h))
     (slots-fit (start .pre .0 .sized) u (start .args .n) (start .pre .0 .unit) (start .pre .1))
 

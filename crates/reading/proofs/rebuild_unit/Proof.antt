@@ -16,7 +16,7 @@ use Rattle.reading.proofs.rebuild_unit.Statement.{statement}
 use Rattle.reading.proofs.rebuild_unit.Tie as tie
 
 abbrev Inv-loop : tie.InvT-loop
-Inv-loop s u n c out₀ table members weights keys at₀ r₀ out at r = (at ≡ 20 * r) × Appending (wholeSlot (view s) u) n out₀ out r at
+Inv-loop s u n c out₀ table members weights keys at₀ r₀ out at r = (at ≡ slotBytes * r) × Appending (wholeSlot (view s) u) n out₀ out r at
 
 abbrev μ-loop : tie.MeasureT-loop
 μ-loop s u n c out₀ table members weights keys at₀ r₀ out at r = n - r
@@ -39,7 +39,7 @@ rebuild-slot-requires c κs =
     let l = turn .before in
     let start = l .before .before .before .before .before .before in
     let p = start .pre in
-    let long = length-lent (l .loop .out) (l .loop .at) 20 (omega (arith, l .loop .inv .1 .long, p .3)) in
+    let long = length-lent (l .loop .out) (l .loop .at) slotBytes (omega (arith, l .loop .inv .1 .long, p .3)) in
     (long, l .before .before .weights .ensures, omega (arith, p .2), l .before .keys-at .ensures, p .4)
 
 loop-again : tie.Need-loop-again Inv-loop μ-loop
@@ -51,9 +51,9 @@ loop-again c =
     let p = start .pre in
     let o = l .loop .out in
     let at = l .loop .at in
-    let written = put-lent o (built .rebuild-slot .last .0) at 20 ∙ ap (λ x. splice at 20 x o) (built .rebuild-slot .ensures) in
+    let written = put-lent o (built .rebuild-slot .last .0) at slotBytes ∙ ap (λ x. splice at slotBytes x o) (built .rebuild-slot .ensures) in
     let long = sym (length-whole (p .0) (l .loop .r) (omega (arith, p .2))) in
-    (omega arith, appending-turn 20 (l .loop .inv .1) (turn .loop-test .taken) long (omega (arith, l .loop .inv .1 .long, p .3)) written)
+    (omega arith, appending-turn slotBytes (l .loop .inv .1) (turn .loop-test .taken) long (omega (arith, l .loop .inv .1 .long, p .3)) written)
 
 returns : tie.Need-returns Inv-loop μ-loop
 returns c =

@@ -12,6 +12,7 @@ use Rattle.model.specs.Reads.{listedFill, wholeSlot}
 use Rattle.lookup.specs.KeyLaws.{listed-fill-small}
 use Rattle.lookup.specs.GroupLaws.{whole-unit}
 use Rattle.buffer.specs.SpliceLaws.{length-lent, put-lent}
+use Rattle.group.specs.Widths.{slotBytes}
 use Rattle.reading.proofs.Lists.{fill-at, first-check-at, records, records-long, records-fit, listing-is}
 use Rattle.reading.proofs.write_records.Statement.{statement}
 use Rattle.reading.proofs.write_records.Tie as tie
@@ -31,7 +32,7 @@ fill : (c : tie.After-wide Inv-loop μ-loop)
 fill c = fill-at (start c .pre .1) (c .before .loop-test .taken) (c .wide .ensures .0)
 
 fits : (c : tie.After-wide Inv-loop μ-loop)
-    → length (tab (c .before .before .loop .u) (records (start c .args .s .now))) + 20 * getD (start c .args .t2) (c .wide .result) 0
+    → length (tab (c .before .before .loop .u) (records (start c .args .s .now))) + slotBytes * getD (start c .args .t2) (c .wide .result) 0
     ≤ length (start c .args .out .now)
 fits c = records-fit (start c .pre .0) (c .before .before .loop .u) _ _ (c .before .loop-test .taken) (fill c) (start c .pre .2)
 
@@ -54,8 +55,8 @@ copy-unit-requires c κs =
     let u = read .before .loop-test .taken in
     let p = start read .pre in
     let long =
-    length-lent (l .out) (l .at) (20 * wide .wide2 .result) (omega (arith, l .inv .place, l .inv .long, wide .wide2 .ensures .0, fits read))
-    ∙ ap (λ (n : ℕ). 20 * n) (wide .wide2 .ensures .0) in
+    length-lent (l .out) (l .at) (slotBytes * wide .wide2 .result) (omega (arith, l .inv .place, l .inv .long, wide .wide2 .ensures .0, fits read))
+    ∙ ap (λ (n : ℕ). slotBytes * n) (wide .wide2 .ensures .0) in
     (whole-unit (p .0) _ u, rw (fill read) (listed-fill-small _ (l .u)), long, p .3, first-check-at (p .1) u (kept .wide3 .ensures .0))
 
 loop-again : tie.Need-loop-again Inv-loop μ-loop
@@ -66,7 +67,7 @@ loop-again c =
     let l = read .before .before .loop in
     let u = read .before .loop-test .taken in
     let s = start read .args .s .now in
-    let w : ℕ = 20 * wide .wide2 .result in
+    let w : ℕ = slotBytes * wide .wide2 .result in
     let here : copied .copy-unit .last .1 .1 .1 .1 .0 ≡ records s (l .u) =
     copied .copy-unit .ensures ∙ ap (λ (n : ℕ). tab n (wholeSlot (view s) (l .u))) (fill read) in
     appending-turn w (l .inv) u (omega (arith, wide .wide2 .ensures .0, fill read, records-long (start read .pre .0) (l .u) u))

@@ -6,6 +6,7 @@ use Rattle.buffer.specs.ByteLaws.{length-bytes32}
 use Rattle.buffer.specs.SpliceLaws.{splice-next, splice-whole}
 use Rattle.model.specs.Layout.{slotOf}
 use borrow.Author.Needs.{needs}
+use Rattle.group.specs.Widths.{slotBytes}
 use Rattle.writing.proofs.put_record.Statement.{statement}
 use Rattle.writing.proofs.put_record.Tie as tie
 
@@ -16,7 +17,7 @@ returns c =
     let a = p .before .before .before .before .args in
     rw (c .before .before .copy .ensures, p .put32 .ensures)
     (splice-next 0 4 16 (bytes32 (a .key)) (a .body .now) (a .slot .now) (omega arith) (length-bytes32 (a .key))
-    ∙ splice-whole 20 _ (a .slot .now) (omega arith))
+    ∙ splice-whole slotBytes _ (a .slot .now) (omega arith))
 
 pub put-record-spec : {M : Type 1} → statement M
 put-record-spec =

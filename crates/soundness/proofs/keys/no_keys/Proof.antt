@@ -6,13 +6,14 @@ use borrow.Author.Needs.{needs}
 use Rattle.buffer.specs.TestLaws.{is-eq, is-ne}
 use Rattle.buffer.specs.LoopTests.{passing-end}
 use Rattle.buffer.specs.Strided.{strided32}
+use Rattle.group.specs.Widths.{checkBytes}
 use Rattle.soundness.specs.Keys.{noKeys}
 use Rattle.soundness.proofs.Runs.{Behind, behind-start, behind-turn, behind-fail}
 use Rattle.soundness.proofs.keys.no_keys.Statement.{statement}
 use Rattle.soundness.proofs.keys.no_keys.Tie as tie
 
 abbrev Inv-loop : tie.InvT-loop
-Inv-loop s column n b r₀ r = Behind (λ i. eqb (strided32 s column 32 i) 0) n b r
+Inv-loop s column n b r₀ r = Behind (λ i. eqb (strided32 s column checkBytes i) 0) n b r
 
 abbrev μ-loop : tie.MeasureT-loop
 μ-loop s column n b r₀ r = b - r

@@ -4,12 +4,13 @@ use mathlib.Core.Bool.{_&&_, and-false}
 use borrow.Author.Needs.{needs}
 use Rattle.buffer.specs.TestLaws.{is-no, is-yes, and-true, and-false-first}
 use Rattle.buffer.specs.LoopTests.{Passing, passing-start, passing-turn, passing-fail, passing-end}
+use Rattle.group.specs.Widths.{checkBytes}
 use Rattle.soundness.specs.Keys.{samePair, sameLists}
 use Rattle.soundness.proofs.keys.same_lists.Statement.{statement}
 use Rattle.soundness.proofs.keys.same_lists.Tie as tie
 
 abbrev Inv-loop : tie.InvT-loop
-Inv-loop s x y b r₀ r = Passing (λ i. samePair s (x + 32 * i) (y + 32 * i) && samePair s (x + 32 * i + 8) (y + 32 * i + 8)) b r
+Inv-loop s x y b r₀ r = Passing (λ i. samePair s (x + checkBytes * i) (y + checkBytes * i) && samePair s (x + checkBytes * i + 8) (y + checkBytes * i + 8)) b r
 
 abbrev μ-loop : tie.MeasureT-loop
 μ-loop s x y b r₀ r = b - r

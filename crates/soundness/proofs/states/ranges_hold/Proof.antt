@@ -8,6 +8,7 @@ use lib.ListN.{length}
 use borrow.Author.Needs.{needs}
 use Rattle.buffer.specs.TestLaws.{is-eq, is-ne, is-le, not-le}
 use Rattle.model.specs.Sound.{ranges}
+use Rattle.model.specs.Layout.{storeBytes}
 use Rattle.soundness.proofs.states.ranges_hold.Statement.{statement}
 use Rattle.soundness.proofs.states.ranges_hold.Tie as tie
 
@@ -19,7 +20,7 @@ returns-2 : tie.Need-returns-2
 unfolding ranges
 returns-2 c =
     let size = c .before .before .before in
-    let width = ap (λ n. 36 + 704 * n) (size .wide .ensures .0 ∙ size .before .byte-at2 .ensures) in
+    let width = ap (λ n. storeBytes n) (size .wide .ensures .0 ∙ size .before .byte-at2 .ensures) in
     simp (is-ne (c .before .index .ensures ∙ c .before .before .get32 .ensures) width (c .if2 .taken), and-false)
 
 returns-3 : tie.Need-returns-3
@@ -58,14 +59,14 @@ returns-9 c =
     let width = long .before .before .before .wide .ensures .0 ∙ b in
     rw (
       is-eq (version .before .byte-at .ensures) refl (version .if1 .left),
-      is-eq (long .before .index .ensures ∙ long .before .before .get32 .ensures) (ap (λ n. 36 + 704 * n) width) (long .if2 .left),
+      is-eq (long .before .index .ensures ∙ long .before .before .get32 .ensures) (ap (λ n. storeBytes n) width) (long .if2 .left),
       is-le refl b (units .before .before .if3 .left),
       is-le b refl (units .before .if4 .left),
       is-le refl (units .byte-at3 .ensures) (level .before .before .if5 .left),
       is-le (units .byte-at3 .ensures) refl (level .before .if6 .left),
       is-le refl (level .byte-at4 .ensures) (c .before .if7 .left),
       is-le (level .byte-at4 .ensures) refl (c .if8 .left),
-    ) (ap (λ n. leb (36 + 704 * n) (length (version .before .before .before .args .s .now))) width)
+    ) (ap (λ n. leb (storeBytes n) (length (version .before .before .before .args .s .now))) width)
 
 pub ranges-hold-spec : {M : Type 1} → statement M
 ranges-hold-spec =

@@ -9,6 +9,7 @@ use Rattle.buffer.specs.Bytes.{byte}
 use Rattle.buffer.specs.TestLaws.{is-no, is-yes, is-le, not-le}
 use Rattle.buffer.specs.Strided.{strided32, Within}
 use Rattle.lookup.specs.Keys.{keysAt}
+use Rattle.group.specs.Widths.{checkBytes}
 use Rattle.soundness.specs.Pieces.{columnFill, unkept, unitZero, lost, lostFill}
 use Rattle.soundness.proofs.Places.{within-column, column-place}
 use Rattle.soundness.proofs.Endings.{reached-le, is-unkept, is-kept, column-fill, unit-zero, column-none}
@@ -38,7 +39,7 @@ ranks c = slots c .before .before .wide .result
 abbrev place : tie.After-wide2 → ℕ
 place c = c .before .checks-at .result + 4 * c .wide2 .result
 
-within : (c : tie.After-wide2) → Within (store c) (place c) 32 (ranks c)
+within : (c : tie.After-wide2) → Within (store c) (place c) checkBytes (ranks c)
 within c = within-column (c .before .checks-at .result) (c .wide2 .result) (search needs) (search needs)
 
 kept : (c : tie.After-wide2) → unkept (store c) (unit c / 4) ≡ false
@@ -74,7 +75,7 @@ returns-3 c = (simp (kept (c .before .before .before), not-le (fill (c .before))
 no-keys-requires : tie.Need-no-keys-requires
 no-keys-requires c κs =
     let at = c .before .before .before in
-    (within at, reached-le (ranks at) (byte (store at) 6) (unit at) (strided32 (store at) (place at) 32) (c .before .reach .ensures .0) (c .if3 .left))
+    (within at, reached-le (ranks at) (byte (store at) 6) (unit at) (strided32 (store at) (place at) checkBytes) (c .before .reach .ensures .0) (c .if3 .left))
 
 returns-4 : tie.Need-returns-4
 unfolding lost pick

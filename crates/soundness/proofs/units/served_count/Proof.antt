@@ -9,6 +9,7 @@ use Rattle.buffer.specs.Choice.{pick}
 use Rattle.buffer.specs.Bytes.{byte}
 use Rattle.buffer.specs.TestLaws.{is-no, is-yes, is-le, not-le}
 use Rattle.buffer.specs.Strided.{strided32}
+use Rattle.group.specs.Widths.{slotBytes}
 use Rattle.soundness.specs.Keys.{sameKeys}
 use Rattle.soundness.specs.Pieces.{dataKeys, columnKeys, unkept, dataFill, restZero, served}
 use Rattle.soundness.proofs.Places.{within-slots, within-column, column-place}
@@ -44,7 +45,7 @@ zero-between-requires c κs =
     let slots = found .before .before in
     let a = start found .args in
     let l =
-    reached-le (slots .before .wide .result) (byte (a .s .now) 6) (a .u) (strided32 (a .s .now) (slots .slots-at .result) 20)
+    reached-le (slots .before .wide .result) (byte (a .s .now) 6) (a .u) (strided32 (a .s .now) (slots .slots-at .result) slotBytes)
     (found .reach .ensures .0) (c .if1 .left) in
     (omega arith, omega arith)
 

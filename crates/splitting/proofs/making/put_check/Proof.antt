@@ -4,7 +4,7 @@ use Prim.Native.Nat.{_+_, _-_}
 use mathlib.Core.Path.{_≡_, refl, sym, ap, _∙_}
 use native.Mathlib.Omega.{arith}
 use Rattle.buffer.specs.Bytes.{byte, splice}
-use Rattle.group.specs.Widths.{keysBytes, bodyBytes}
+use Rattle.group.specs.Widths.{keysBytes, bodyBytes, checkBytes}
 use Rattle.model.specs.LayoutLaws.{place-end}
 use Rattle.splitting.proofs.Ranks.{put-serving, put-nothing}
 use Rattle.splitting.proofs.making.put_check.Statement.{statement}
@@ -31,7 +31,7 @@ returns c =
     let w = i .before .before in
     let e = w .before .before in
     let keys : at .check-at .result + 16 - at .check-at .result ≡ keysBytes = omega arith in
-    let rest : at .check-at .result + 32 - (at .check-at .result + 16) ≡ bodyBytes = omega arith in
+    let rest : at .check-at .result + checkBytes - (at .check-at .result + 16) ≡ bodyBytes = omega arith in
     rw (k2 .copy2 .ensures, k .copy .ensures, keys, rest)
     (put-serving (e .args .s .now) (e .args .c) (e .args .r) (e .args .t4) (e .args .t5) (e .pre) _ (at .check-at .result)
     (ap (λ x. byte (e .args .s .now) (24 + x)) (sym (w .wide .ensures .0)) ∙ i .if1 .taken) (search (needs, e .good .1 .1 .1 .0)) refl
