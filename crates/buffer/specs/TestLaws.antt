@@ -1,9 +1,9 @@
 -- Tests of numbers, and tests joined by "and" or by "or". Assumes nothing.
-use mathlib.Core.Path.{_≡_, refl, sym, ap, _∙_}
+use mathlib.Core.Path.{_≡_, refl, sym, _∙_}
 use mathlib.Core.Bool.{Bool, true, false, not, _&&_, _||_, true≢false}
 use Prim.Native.Nat.{ℕ, suc, _≤_, _<_}
 use native.Mathlib.Omega.{arith}
-use lib.Bits.{bitOr, bitXor, or-add-and, xor-add-and, xor-self, and-le-l, and-le-r}
+use lib.Bits.{bitOr, or-add-and, and-le-l, and-le-r}
 use lib.Dec.{eqb, leb, ltb}
 use borrow.Author.Tests.{lt-ltb, le-ltb, le-leb, lt-leb, eq-eqb, ne-eqb, eqb-true, eqb-false, ltb-true, not-true, not-false}
 use Rattle.buffer.specs.ChoiceLaws.{by-test}
@@ -101,15 +101,6 @@ or-zero a b =
     let x : a ≡ 0 = eqb-true a 0 (and-first (eqb a 0) (eqb b 0) h) in
     let y : b ≡ 0 = eqb-true b 0 (and-second (eqb a 0) (eqb b 0) h) in
     eq-eqb (bitOr a b) 0 (omega (arith, or-add-and a b)))
-
--- ---- two numbers joined by "exclusive or" are 0 where they are the same
-pub xor-zero : (a b : ℕ) → eqb (bitXor a b) 0 ≡ eqb a b
-xor-zero a b =
-    same-test
-    (eqb (bitXor a b) 0)
-    (eqb a b)
-    (λ h. let z : bitXor a b ≡ 0 = eqb-true (bitXor a b) 0 h in eq-eqb a b (omega (arith, xor-add-and a b, and-le-l a b, and-le-r a b)))
-    (λ h. eq-eqb (bitXor a b) 0 (ap (λ x. bitXor a x) (sym (eqb-true a b h)) ∙ xor-self a))
 
 -- ---- a bound that grows by one
 pub ltb-suc : (a n : ℕ) → (a ≡ n → ⊥) → ltb a n ≡ ltb a (suc n)

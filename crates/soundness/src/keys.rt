@@ -93,18 +93,19 @@ pub fn reach(
     r
 }
 
-// Whether the slots of a unit have the keys that a check unit lists for it. The differences are or-ed and tested once: no branch depends on a key.
+// Whether the slots of a unit have the keys that a check unit lists for it.
 pub fn same_column(s: &[u8], slots: usize, column: usize, b: usize) -> bool
     requires { ⌜ Within (now s) slots slotBytes b × Within (now s) column checkBytes b ⌝ }
     ensures { λ r. ⌜ r ≡ sameKeys b (strided32 (now (s .entry)) slots slotBytes) (strided32 (now (s .entry)) column checkBytes) ⌝ }
 {
-    let mut differ: u32 = 0;
     let mut r = 0;
     while r < b {
-        differ = differ | (key(s, slots, group::SLOT, r) ^ key(s, column, group::CHECK, r));
+        if key(s, slots, group::SLOT, r) != key(s, column, group::CHECK, r) {
+            return false;
+        }
         r += 1;
     }
-    differ == 0
+    true
 }
 
 // Whether a check unit lists no key from rank n on.
