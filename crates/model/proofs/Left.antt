@@ -1,19 +1,17 @@
 -- The store that a granted call leaves, part by part, of any sound store: read back from the bytes (`left-same`), and for a repair (`repair-left`).
 -- Assumes nothing.
-use Prim.Native.Nat.{ℕ, _+_, _*_, _/_, _%_, _≤_, _<_}
+use Prim.Native.Nat.{ℕ, _<_}
 use mathlib.Core.Path.{_≡_, refl}
 use mathlib.Core.List.{List}
-use mathlib.Core.Bool.{Bool, true, false, _||_}
+use mathlib.Core.Bool.{true, false}
 use native.Mathlib.Omega.{arith}
-use lib.Dec.{eqb}
-use borrow.Author.Tests.{eq-eqb, eqb-true, ltb-false, not-false}
-use Rattle.buffer.specs.Choice.{pick}
-use Rattle.buffer.specs.ChoiceLaws.{by-test, pick-true}
+use borrow.Author.Tests.{eq-eqb, ltb-false, not-false}
+use Rattle.buffer.specs.ChoiceLaws.{pick-true}
 use Rattle.model.specs.Layout.{Store, bytes, view}
 use Rattle.model.specs.LayoutLaws.{Shaped, Same, view-bytes, view-shaped}
 use Rattle.model.specs.Reads.{beyondIn}
 use Rattle.model.specs.Sound.{sound}
-use Rattle.model.specs.SoundSays.{ranged, Stateful, check-states}
+use Rattle.model.specs.SoundSays.{ranged, states-low}
 use Rattle.model.specs.Changes.{repaired}
 use Rattle.model.specs.Numbers.{Call, repair, refusalsIn, numberIn}
 use Rattle.model.specs.RowLaws.{Free}
@@ -23,14 +21,6 @@ use Rattle.model.specs.MadeAnew.{leftBy}
 use Rattle.model.proofs.history.alike.Alike.{Alike, alike-refl, left-shaped}
 use Rattle.model.proofs.history.alike.Repaired.{repaired-alike}
 
--- a state that a unit may have
-state-most : (p : Bool) (n : ℕ) → Stateful p n → n ≤ 2
-unfolding pick
-state-most true n e =
-    by-test (λ (t : Bool). (t || eqb n 2) ≡ true → n ≤ 2) (eqb n 1)
-    (λ q _. omega (arith, eqb-true n 1 q)) (λ _ z. omega (arith, eqb-true n 2 z)) e
-state-most false n e = omega (arith, eqb-true n 0 e)
-
 -- ---- a sound store
 
 module _ (s : List ℕ) (ok : sound s ≡ true) where
@@ -39,11 +29,6 @@ module _ (s : List ℕ) (ok : sound s ≡ true) where
 
   pub itself : Alike (view s) (view s)
   itself = alike-refl (view s) shaped
-
-  pub states-low : (c : ℕ) → c < 12 → view s .cstate c ≤ 2
-  states-low c l =
-      let k : 3 * (c / 3) + c % 3 ≡ c = omega arith in
-      rw k at (state-most _ (view s .cstate (3 * (c / 3) + c % 3)) (check-states s ok (c / 3) (c % 3) (omega arith) (omega arith)))
 
 -- ---- a granted call
 

@@ -28,7 +28,8 @@ use Rattle.model.specs.Sound.{sound}
 use Rattle.model.specs.Recovered.{HeldBodies}
 use Rattle.model.specs.history.Typed.{Bytes}
 use Rattle.model.proofs.history.alike.LedgerOf.{bytes-part}
-use Rattle.model.proofs.Left.{shaped, states-low}
+use Rattle.model.specs.SoundSays.{states-low}
+use Rattle.model.proofs.Left.{shaped}
 
 -- what stands behind the first k bytes is a body
 body-is : (n k : ℕ) (x : List ℕ) → length x ≡ k + n → Bytes x → IsBody n (drop k x)
