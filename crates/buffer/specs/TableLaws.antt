@@ -1,9 +1,9 @@
 -- Laws of lists that are made of chunks, and of functions changed at one place. Chunk i of a table of chunks of w bytes starts at w * i.
 -- Assumes nothing.
-use mathlib.Core.Path.{_≡_, refl, sym, ap, _∙_}
+use mathlib.Core.Path.{_≡_, refl, sym, ap, ap₂, _∙_}
 use mathlib.Core.Logic.{_⊎_, inl, inr}
 use mathlib.Core.List.{List, [], _∷_, _++_, append-assoc, append-nil}
-use Prim.Native.Nat.{ℕ, zero, suc, _+_, _*_, _≤_, _<_}
+use Prim.Native.Nat.{ℕ, zero, suc, _+_, _*_, _-_, _≤_, _<_}
 use native.Mathlib.Nat.{le-suc-iff, mul-le-mul-left, mul-zero, mul-suc, add-zero, add-suc, not-suc-le-zero, zero-add}
 use native.Mathlib.Numerals.{add-one}
 use native.Mathlib.Omega.{arith}
@@ -52,6 +52,12 @@ pub tab-append : (n m : ℕ) (f : ℕ → List ℕ) → tab (n + m) f ≡ tab n 
 unfolding tab
 tab-append n zero f = rw add-zero (sym (append-nil (tab n f)))
 tab-append n (suc m) f = rw (add-suc, tab, tab-append n m f) (append-assoc (tab n f) (tab m (λ k. f (n + k))) (f (n + m)))
+
+-- a table taken apart into rows, g i chunks in row i
+pub tab-rows : (n : ℕ) (g : ℕ → ℕ) (f : ℕ → List ℕ) → tab (sum n g) f ≡ tab n (λ i. tab (g i) (λ r. f (sum i g + r)))
+unfolding tab sum
+tab-rows zero g f = refl
+tab-rows (suc n) g f = rw (tab-append (sum n g) (g n) f, tab-rows n g f)
 
 -- the chunks before chunk i, and chunk i, are no longer than all
 pub tab-room : (n i : ℕ) (f : ℕ → List ℕ) → i < n → length (tab i f) + length (f i) ≤ length (tab n f)
@@ -103,6 +109,25 @@ part-tab (suc n) w f h i o m l k = go (le-suc-iff .0 l) (part-tab n w f hn i o m
 pub part-chunk : (n w : ℕ) (f : ℕ → List ℕ) → Wide n w f → (i : ℕ) → i < n → part (w * i) w (tab n f) ≡ f i
 part-chunk n w f h i l =
     ap (λ j. part j w (tab n f)) (sym (add-zero (w * i))) ∙ part-tab n w f h i 0 w l (omega arith) ∙ part-whole w (f i) (omega (arith, h i l))
+
+-- rows of chunks of w bytes, g i of them in row i, one behind the other: the chunk at place r of row i
+pub part-rows : (n w : ℕ) (g : ℕ → ℕ) (f : ℕ → ℕ → List ℕ) → ((i r : ℕ) → i < n → r < g i → length (f i r) ≡ w) → (i r : ℕ) → i < n → r < g i
+    → part (w * (sum i g + r)) w (tab n (λ i. tab (g i) (f i))) ≡ f i r
+part-rows n w g f h i r l m =
+    let row : ℕ → List ℕ = λ i. tab (g i) (f i) in
+    let k : ℕ = n - suc i in
+    let whole : n ≡ i + (1 + k) = omega arith in
+    let here : i + 0 ≡ i = omega arith in
+    let at : w * (sum i g + r) ≡ w * sum i g + w * r = omega arith in
+    let inside : w * suc r ≤ w * g i = mul-le-mul-left w m in
+    let long : length (row i) ≡ w * g i = length-tab (g i) w (f i) (λ q d. h i q l d) in
+    let before : length (tab i row) ≡ w * sum i g = length-tab-sum i w row g (λ q d. length-tab (g q) w (f q) (λ t e. h q t (omega arith) e)) in
+    ap₂ (λ (o : ℕ) (x : List ℕ). part o w x) at
+    (ap (λ j. tab j row) whole ∙ tab-append i (1 + k) row
+    ∙ ap (λ x. tab i row ++ x) (tab-append 1 k (λ j. row (i + j)) ∙ ap (λ x. x ++ tab k (λ j. row (i + (1 + j)))) (tab-one (λ j. row (i + j)) ∙ ap row here)))
+    ∙ part-right (w * sum i g) (w * r) w (tab i row) _ before
+    ∙ part-left (w * r) w (row i) _ (omega arith)
+    ∙ part-chunk (g i) w (f i) (λ q d. h i q l d) r m
 
 -- a byte, and a number, of a chunk
 pub byte-tab : (n w : ℕ) (f : ℕ → List ℕ) → Wide n w f → (i o : ℕ) → i < n → o < w → byte (tab n f) (w * i + o) ≡ byte (f i) o

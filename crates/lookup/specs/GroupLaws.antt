@@ -139,3 +139,12 @@ module _ (s : List ℕ) where
       let f : ℕ → Bool = goneIn (view s) in
       let z : count 16 f ≤ 0 = ltb-false 0 (count 16 f) e in
       count-zero 16 f (omega arith) u l
+
+-- a unit that is not lost can be read or rebuilt
+pub safe-unit : {s : List ℕ} {u : ℕ} → Sized s → u < 16 → goneIn (view s) u ≡ false → Recoverable s u
+unfolding view
+safe-unit {s} {u} h l e = record { sized = h; unit = l; whole = λ out. rw (eq-eqb (byte s (8 + u)) 2 out) at e }
+
+-- where no unit is lost, each can be
+pub safe-store : {s : List ℕ} → Sized s → lostIn (view s) ≡ false → Whole s
+safe-store {s} h e = record { sized = h; units = λ u l. safe-unit h l (none-lost s e u l) .whole }

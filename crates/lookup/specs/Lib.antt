@@ -9,3 +9,4 @@ pub mod Groups
 pub mod GroupLaws
 pub mod Slots
 pub mod SlotLaws
+pub mod ListingLaws

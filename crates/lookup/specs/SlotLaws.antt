@@ -13,7 +13,7 @@ use Rattle.buffer.specs.ChoiceLaws.{by-pick, pick-true, pick-false}
 use Rattle.buffer.specs.RangeLaws.{below-four}
 use Rattle.buffer.specs.Bytes.{byte, zeros, part}
 use Rattle.buffer.specs.SpliceLaws.{length-part, part-part}
-use Rattle.buffer.specs.ByteLaws.{length-zeros}
+use Rattle.buffer.specs.ByteLaws.{be32-left, length-zeros}
 use Rattle.buffer.specs.Table.{tab}
 use Rattle.buffer.specs.TableLaws.{tab-ext, tab-parts}
 use Rattle.group.specs.Widths.{keyBytes, keysBytes, bodyBytes, slotBytes, checkBytes}
@@ -24,13 +24,13 @@ use Rattle.group.specs.Four.{fourBodies}
 use Rattle.group.specs.WeighedLaws.{length-weighed, weighed-ext}
 use Rattle.model.specs.Layout.{view, slotAt, checkAt, keyOf}
 use Rattle.model.specs.Reads.{servesIn, holds, firstCheck, listedKey, listedFill, wholeSlot}
-use Rattle.model.specs.ReadLaws.{listed-some}
+use Rattle.model.specs.ReadLaws.{listed-some, own-key}
 use Rattle.lookup.specs.Sized.{Sized}
 use Rattle.lookup.specs.SizedLaws.{slot-fits, check-fits}
 use Rattle.lookup.specs.Keys.{Lists, keysAt}
-use Rattle.lookup.specs.KeyLaws.{lists-out}
-use Rattle.lookup.specs.Groups.{Recoverable}
-use Rattle.lookup.specs.GroupLaws.{recoverable-known, group-four}
+use Rattle.lookup.specs.KeyLaws.{lists-out, listed-fill-small}
+use Rattle.lookup.specs.Groups.{Recoverable, Whole}
+use Rattle.lookup.specs.GroupLaws.{recoverable-known, group-four, whole-unit}
 use Rattle.lookup.specs.Slots.{heldAt, Recipe}
 
 -- the end of a part
@@ -152,6 +152,21 @@ module _ {s : List ℕ} {u : ℕ} (unit : Recoverable s u) (r : ℕ) (l : r < by
       (λ z. length-zeros slotBytes)
       (λ z. simp length-append (omega (arith, out-key-long out, rebuilt-long out))))
       (λ e. length-slot (unit .sized) u r (unit .unit) l)
+
+  -- the key of a record is the one that is listed
+  pub whole-key : r < listedFill (view s) u → keyOf (wholeSlot (view s) u r) ≡ keyOf (listedKey (view s) u r)
+  unfolding wholeSlot keyOf
+  whole-key m =
+      by-pick (λ x. keyOf x ≡ keyOf (listedKey (view s) u r)) (eqb (view s .dstate u) 2) _ (view s .slot u r)
+      (λ e.
+      let out : byte s (8 + u) ≡ 2 = unfold view in eqb-true (view s .dstate u) 2 e in
+      ap keyOf (pick-false (ne-eqb _ 0 (listed-some (view s) u r m)) _ _)
+      ∙ be32-left (listedKey (view s) u r) _ 0 (omega (arith, out-key-long out)))
+      (λ e. sym (own-key (view s) u e r))
+
+-- the bytes of a record, where every unit can be read or rebuilt
+pub length-record : {s : List ℕ} → Whole s → (u r : ℕ) → u < 16 → r < listedFill (view s) u → length (wholeSlot (view s) u r) ≡ slotBytes
+length-record {s} h u r l m = length-whole (whole-unit h u l) r (omega (arith, listed-fill-small s u))
 
 -- the slots of a unit in service are a part of the store
 pub own-slots : (s : List ℕ) (u n : ℕ) → (byte s (8 + u) ≡ 2 → ⊥) → slotAt (byte s 5) u 0 + slotBytes * n ≤ length s

@@ -1,29 +1,25 @@
 -- What repair, read and list give of units that are out are the bodies that have, by the matrix, what the four members used hold. Assumes that the
 -- store holds bytes.
-use Prim.Native.Nat.{ℕ, suc, _+_, _*_, _-_, _/_, _%_, _≤_, _<_}
+use Prim.Native.Nat.{ℕ, _+_, _*_, _/_, _%_, _≤_, _<_}
 use mathlib.Core.Path.{_≡_, refl, ap, ap₂, _∙_}
 use mathlib.Core.List.{List, [], _++_, append-nil}
 use mathlib.Core.Bool.{Bool, true, _&&_}
 use native.Mathlib.Omega.{arith}
-use native.Mathlib.Nat.{mul-le-mul-left}
 use lib.Dec.{eqb}
 use lib.ListN.{length, drop, length-append, length-drop, drop-of-length-le}
 use lib.Seq.{drop-at}
 use borrow.Author.Tests.{eqb-true, eq-eqb, ne-eqb, ltb-false, leb-false, not-false}
 use Rattle.buffer.specs.Choice.{pick}
 use Rattle.buffer.specs.ChoiceLaws.{by-test, pick-true}
-use Rattle.buffer.specs.Range.{count, sum}
-use Rattle.buffer.specs.RangeLaws.{count-zero, sum-more, sum-mono}
-use Rattle.buffer.specs.Bytes.{zeros, part}
-use Rattle.buffer.specs.SpliceLaws.{part-left, part-right}
-use Rattle.buffer.specs.Table.{tab}
-use Rattle.buffer.specs.TableLaws.{tab-one, tab-append, length-tab, length-tab-sum, part-chunk}
+use Rattle.buffer.specs.Range.{count}
+use Rattle.buffer.specs.RangeLaws.{count-zero}
+use Rattle.buffer.specs.Bytes.{zeros}
 use Rattle.group.specs.Widths.{keyBytes, bodyBytes, slotBytes}
 use Rattle.group.specs.Rebuilding.{rebuilt}
 use Rattle.model.specs.Layout.{Store, view, keyOf}
 use Rattle.model.specs.Reads.{homeIn, beyondIn, servesIn, holds, listedKey, listedFill, listedRank}
 use Rattle.model.specs.Reads.{wholeSlot, bodyIn, lostIn, totalIn, listingIn}
-use Rattle.model.specs.ReadLaws.{listed-le, whole-own}
+use Rattle.model.specs.ReadLaws.{listed-le, whole-own, listing-long, record-at}
 use Rattle.model.specs.Sound.{sound}
 use Rattle.model.specs.Changes.{repaired}
 use Rattle.model.specs.Numbers.{read, list, repair, refusalsIn, numberIn}
@@ -34,25 +30,6 @@ use Rattle.model.specs.history.Typed.{Bytes}
 use Rattle.model.proofs.InPlace.{home-low}
 use Rattle.model.proofs.Left.{shaped, free, repair-group, repair-sound, repair-near, repair-left}
 use Rattle.model.proofs.RebuiltSlots.{Rebuildable, bodies-held, key, body, whole-slot, key-long, body-long, whole-out, whole-long}
-
--- rows of chunks of w bytes, g i of them in row i, one behind the other: the chunk at place r of row i
-part-rows : (n w : ℕ) (g : ℕ → ℕ) (f : ℕ → ℕ → List ℕ) → ((i r : ℕ) → i < n → r < g i → length (f i r) ≡ w) → (i r : ℕ) → i < n → r < g i
-    → part (w * (sum i g + r)) w (tab n (λ i. tab (g i) (f i))) ≡ f i r
-part-rows n w g f h i r l m =
-    let row : ℕ → List ℕ = λ i. tab (g i) (f i) in
-    let k : ℕ = n - suc i in
-    let whole : n ≡ i + (1 + k) = omega arith in
-    let here : i + 0 ≡ i = omega arith in
-    let at : w * (sum i g + r) ≡ w * sum i g + w * r = omega arith in
-    let inside : w * suc r ≤ w * g i = mul-le-mul-left w m in
-    let long : length (row i) ≡ w * g i = length-tab (g i) w (f i) (λ q d. h i q l d) in
-    let before : length (tab i row) ≡ w * sum i g = length-tab-sum i w row g (λ q d. length-tab (g q) w (f q) (λ t e. h q t (omega arith) e)) in
-    ap₂ (λ (o : ℕ) (x : List ℕ). part o w x) at
-    (ap (λ j. tab j row) whole ∙ tab-append i (1 + k) row
-    ∙ ap (λ x. tab i row ++ x) (tab-append 1 k (λ j. row (i + j)) ∙ ap (λ x. x ++ tab k (λ j. row (i + (1 + j)))) (tab-one (λ j. row (i + j)) ∙ ap row here)))
-    ∙ part-right (w * sum i g) (w * r) w (tab i row) _ before
-    ∙ part-left (w * r) w (row i) _ (omega arith)
-    ∙ part-chunk (g i) w (f i) (λ q d. h i q l d) r m
 
 -- ---- a granted repair
 
@@ -150,32 +127,25 @@ module _ (s : List ℕ) (b : Bytes s) (out : List ℕ) (zero : numberIn s (list 
       (λ e. let lost : t .dstate u ≡ 2 = eqb-true (t .dstate u) 2 e in whole-long u (list-rebuildable u r l m lost) lost m)
       (λ e. ap length (whole-own t u e r) ∙ shaped s list-sound .slot u r l (omega (arith, listed-le t u)))
 
-  listing-long : length (listingIn t) ≡ slotBytes * totalIn t
-  unfolding listingIn totalIn
-  listing-long = length-tab-sum 16 slotBytes _ (listedFill t) (λ u l. length-tab (listedFill t u) slotBytes (wholeSlot t u) (λ r m. slot-long u r l m))
+  all-long : length (listingIn t) ≡ slotBytes * totalIn t
+  all-long = listing-long t slot-long
 
   abbrev rest : List ℕ
   rest = drop (slotBytes * totalIn t) out
 
-  record-at : (u r : ℕ) → u < 16 → r < listedFill t u → part (slotBytes * (sum u (listedFill t) + r)) slotBytes (listingIn t ++ rest) ≡ wholeSlot t u r
-  unfolding listingIn totalIn
-  record-at u r l m =
-      part-left (slotBytes * (sum u (listedFill t) + r)) slotBytes (listingIn t) rest
-      (omega (arith, listing-long, sum-more (listedFill t) u, sum-mono (u + 1) 16 (listedFill t) (omega arith)))
-      ∙ part-rows 16 slotBytes (listedFill t) (wholeSlot t) slot-long u r l m
-
   list-answer : perform s (list out) .answer ≡ listed 0 (totalIn t) (listingIn t ++ rest)
   unfolding perform answerIn reply givenIn output
-  list-answer = rw (zero, listing-long) (ap₂ (listed 0) (pick-true refl (totalIn t) 0) (pick-true refl (listingIn t ++ rest) out))
+  list-answer = rw (zero, all-long) (ap₂ (listed 0) (pick-true refl (totalIn t) 0) (pick-true refl (listingIn t ++ rest) out))
 
   listing : Listing s out
   listing = record {
     written = listingIn t ++ rest;
     answered = list-answer;
-    long = length-append (listingIn t) rest ∙ simp length-drop (omega (arith, listing-long, room));
-    own = λ u r l m e. record-at u r l m ∙ whole-own t u (ne-eqb (t .dstate u) 2 e) r;
-    rebuilt = λ u r l m e. let h : Rebuildable s (u / 4) r = list-rebuildable u r l m e in (_, bodies-held h, record-at u r l m ∙ whole-out u h e m);
-    behind = drop-at (listingIn t) rest (slotBytes * totalIn t) listing-long;
+    long = length-append (listingIn t) rest ∙ simp length-drop (omega (arith, all-long, room));
+    own = λ u r l m e. record-at t slot-long rest u r l m ∙ whole-own t u (ne-eqb (t .dstate u) 2 e) r;
+    rebuilt = λ u r l m e.
+        let h : Rebuildable s (u / 4) r = list-rebuildable u r l m e in (_, bodies-held h, record-at t slot-long rest u r l m ∙ whole-out u h e m);
+    behind = drop-at (listingIn t) rest (slotBytes * totalIn t) all-long;
   }
 
 -- EVERY SOUND STORE

@@ -1,20 +1,24 @@
 -- Laws of what the calls read in a store: a unit has no more records than ranks, each rank before their number has a key, and a unit that is not
--- out lists its own keys; a group that is not beyond recovery has four members in service, a check unit among them where a data unit is out.
--- Assumes nothing.
+-- out lists its own keys; a listing is as long as its records, and each record stands behind those of the units and ranks before; a group that is
+-- not beyond recovery has four members in service, a check unit among them where a data unit is out. Assumes nothing.
 use Prim.Native.Nat.{ℕ, _≤_, _<_, _+_, _*_}
 use mathlib.Core.Path.{_≡_, ap, _∙_}
 use mathlib.Core.Logic.{_≢_}
 use mathlib.Core.Bool.{false, true, not}
+use mathlib.Core.List.{List, _++_}
 use lib.Dec.{eqb}
-use lib.ListN.{take}
+use lib.ListN.{length, take}
 use borrow.Author.Tests.{eqb-false}
 use Rattle.buffer.specs.ChoiceLaws.{pick-false}
-use Rattle.buffer.specs.Range.{first, count}
-use Rattle.buffer.specs.RangeLaws.{first-ext, first-le, first-misses, count-ext, count-append, count-not, count-pos}
-use Rattle.group.specs.Widths.{keyBytes}
+use Rattle.buffer.specs.Range.{first, count, sum}
+use Rattle.buffer.specs.RangeLaws.{first-ext, first-le, first-misses, count-ext, count-append, count-not, count-pos, sum-more, sum-mono}
+use Rattle.buffer.specs.Bytes.{part}
+use Rattle.buffer.specs.SpliceLaws.{part-left}
+use Rattle.buffer.specs.TableLaws.{length-tab, length-tab-sum, part-rows}
+use Rattle.group.specs.Widths.{keyBytes, slotBytes}
 use Rattle.model.specs.Layout.{Store, keyOf}
 use Rattle.model.specs.LayoutLaws.{key-first}
-use Rattle.model.specs.Reads.{fillIn, rankIn, listedKey, listedFill, listedRank, wholeSlot, beyondIn, servesIn}
+use Rattle.model.specs.Reads.{fillIn, rankIn, listedKey, listedFill, listedRank, wholeSlot, totalIn, listingIn, beyondIn, servesIn}
 use Rattle.group.specs.MembersLaws.{enough, serves-data, serves-check}
 use native.Mathlib.Omega.{arith}
 
@@ -55,6 +59,20 @@ module _ (v : Store) (u : ℕ) where
     pub whole-own : (r : ℕ) → wholeSlot v u r ≡ v .slot u r
     unfolding wholeSlot
     whole-own r = pick-false kept _ (v .slot u r)
+
+-- ---- a listing, where every record has its bytes
+module _ (v : Store) (long : (u r : ℕ) → u < 16 → r < listedFill v u → length (wholeSlot v u r) ≡ slotBytes) where
+  pub listing-long : length (listingIn v) ≡ slotBytes * totalIn v
+  unfolding listingIn totalIn
+  listing-long = length-tab-sum 16 slotBytes _ (listedFill v) (λ u l. length-tab (listedFill v u) slotBytes (wholeSlot v u) (λ r m. long u r l m))
+
+  pub record-at : (rest : List ℕ) (u r : ℕ) → u < 16 → r < listedFill v u
+      → part (slotBytes * (sum u (listedFill v) + r)) slotBytes (listingIn v ++ rest) ≡ wholeSlot v u r
+  unfolding listingIn totalIn
+  record-at rest u r l m =
+      part-left (slotBytes * (sum u (listedFill v) + r)) slotBytes (listingIn v) rest
+      (omega (arith, listing-long, sum-more (listedFill v) u, sum-mono (u + 1) 16 (listedFill v) (omega arith)))
+      ∙ part-rows 16 slotBytes (listedFill v) (wholeSlot v) long u r l m
 
 -- ---- a group that is not beyond recovery
 module _ (v : Store) (g : ℕ) (low : (j : ℕ) → j < 3 → v .cstate (3 * g + j) ≤ 2) (near : beyondIn v g ≡ false) where

@@ -6,14 +6,13 @@ use native.Mathlib.Omega.{arith}
 use lib.ListN.{length, drop, getD, drop-of-length-le}
 use Rattle.buffer.specs.Bytes.{byte}
 use Rattle.buffer.specs.Table.{tab}
-use Rattle.buffer.specs.TableLaws.{Wide, length-tab, length-tab-sum, tab-room}
+use Rattle.buffer.specs.TableLaws.{Wide, length-tab, tab-room}
 use Rattle.group.specs.Widths.{slotBytes}
 use Rattle.model.specs.Layout.{view}
 use Rattle.model.specs.Reads.{firstCheck, listedFill, wholeSlot, totalIn, listingIn}
-use Rattle.lookup.specs.KeyLaws.{listed-fill-small}
+use Rattle.model.specs.ReadLaws.{listing-long}
 use Rattle.lookup.specs.Groups.{Recoverable, Whole}
-use Rattle.lookup.specs.GroupLaws.{whole-unit}
-use Rattle.lookup.specs.SlotLaws.{length-whole}
+use Rattle.lookup.specs.SlotLaws.{length-whole, length-record}
 use Rattle.reading.specs.Listing.{Learned}
 
 -- the records of a unit
@@ -33,17 +32,13 @@ slots-wide h n l r k = length-whole h r (omega arith)
 
 module _ {s : List ℕ} (whole : Whole s) where
   pub records-long : (u : ℕ) → u < 16 → length (records s u) ≡ slotBytes * listedFill (view s) u
-  records-long u l =
-      length-tab (listedFill (view s) u) slotBytes (wholeSlot (view s) u) (slots-wide (whole-unit whole u l) (listedFill (view s) u) (listed-fill-small s u))
-
-  pub listing-long : length (tab 16 (records s)) ≡ slotBytes * totalIn (view s)
-  unfolding totalIn
-  listing-long = length-tab-sum 16 slotBytes (records s) (listedFill (view s)) records-long
+  records-long u l = length-tab (listedFill (view s) u) slotBytes (wholeSlot (view s) u) (λ r m. length-record whole u r l m)
 
   -- a buffer with room for all has room for the next unit's
   pub records-fit : (u n room : ℕ) → u < 16 → n ≡ listedFill (view s) u → slotBytes * totalIn (view s) ≤ room
       → length (tab u (records s)) + slotBytes * n ≤ room
-  records-fit u n room l e h = omega (arith, tab-room 16 u (records s) l, records-long u l, listing-long)
+  unfolding listingIn
+  records-fit u n room l e h = omega (arith, tab-room 16 u (records s) l, records-long u l, listing-long (view s) (length-record whole))
 
 pub listing-is : (s o o₀ : List ℕ) → o ≡ tab 16 (records s) ++ drop (length (tab 16 (records s))) o₀
     → o ≡ listingIn (view s) ++ drop (length (listingIn (view s))) o₀

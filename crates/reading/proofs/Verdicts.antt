@@ -1,5 +1,5 @@
 -- The verdicts of read and list: each way out of the cascade gives the number of the first row that holds. Assumes nothing.
-use Prim.Native.Nat.{ℕ, suc, _+_, _*_, _/_, _≤_, _<_}
+use Prim.Native.Nat.{ℕ, suc, _*_, _≤_, _<_}
 use mathlib.Core.Path.{_≡_, refl, sym, _∙_}
 use mathlib.Core.Bool.{Bool, true, false}
 use mathlib.Core.List.{List}
@@ -7,21 +7,20 @@ use native.Mathlib.Omega.{arith}
 use lib.ListN.{getD}
 use borrow.Author.Tests.{eq-eqb, ne-eqb, lt-ltb, le-ltb, le-leb, lt-leb}
 use Rattle.buffer.specs.Choice.{pick}
-use Rattle.buffer.specs.ChoiceLaws.{by-test, pick-false}
-use Rattle.buffer.specs.TestLaws.{not-both, and-true}
+use Rattle.buffer.specs.ChoiceLaws.{pick-false}
 use Rattle.buffer.specs.Range.{sum}
 use Rattle.buffer.specs.RangeLaws.{sum-ext}
 use Rattle.buffer.specs.Bytes.{byte}
 use Rattle.group.specs.Widths.{bodyBytes, slotBytes}
 use Rattle.model.specs.Layout.{view}
-use Rattle.model.specs.Reads.{homeIn, beyondIn, listedFill, listedRank, lostIn, totalIn}
+use Rattle.model.specs.Reads.{homeIn, listedFill, listedRank, lostIn, totalIn}
 use Rattle.model.specs.Numbers.{firstOf}
 use Rattle.soundness.specs.Survey.{Surveyed}
 use Rattle.soundness.specs.SurveyLaws.{found-sized, fill-read, first-check-read}
 use Rattle.lookup.specs.Sized.{Sized}
 use Rattle.lookup.specs.KeyLaws.{listed-fill-small}
 use Rattle.lookup.specs.Groups.{Recoverable, Whole, goneIn}
-use Rattle.lookup.specs.GroupLaws.{recoverable-known, whole-unit, none-lost}
+use Rattle.lookup.specs.GroupLaws.{recoverable-known, whole-unit, safe-unit, safe-store}
 use Rattle.reading.specs.Rows.{readNumber, listNumber}
 use Rattle.reading.specs.Found.{Verdict}
 use Rattle.reading.specs.Listing.{Counted, Learned}
@@ -45,16 +44,6 @@ module _ (s : List ℕ) (ok : Bool) (k n : ℕ) where
   pub unsound : (k ≡ 0 → ⊥) → n ≡ bodyBytes → ok ≡ false → 1 ≡ readNumber ok (view s) k n
   unfolding readNumber firstOf pick
   unsound key room h = rw (ne-eqb k 0 key, eq-eqb n bodyBytes room, h)
-
--- a unit that is not lost can be read or rebuilt
-safe-unit : {s : List ℕ} {u : ℕ} → Sized s → u < 16 → goneIn (view s) u ≡ false → Recoverable s u
-unfolding view
-safe-unit {s} {u} h l e =
-    record {
-      sized = h;
-      unit = l;
-      whole = λ out. by-test (λ t. t ≡ false) (beyondIn (view s) (u / 4)) (λ b. not-both (and-true (eq-eqb (byte s (8 + u)) 2 out) b) e) (λ b. refl);
-    }
 
 -- key k is sought in its unit u of a sound store, for n bytes that fit
 pub record Sought (s : List ℕ) (ok : Bool) (fills firstChecks outs : List ℕ) (k n u : ℕ) : Type 0 where
@@ -112,11 +101,7 @@ not-counted m e =
       room = λ z. absurd (omega arith);
     }
 
--- nothing is lost
-pub safe-store : {s : List ℕ} → Sized s → lostIn (view s) ≡ false → Whole s
-safe-store {s} h e = record { sized = h; units = λ u l. safe-unit h l (none-lost s e u l) .whole }
-
--- then the survey has counted every unit
+-- where nothing is lost the survey has counted every unit
 pub whole-learned : {s : List ℕ} {ok : Bool} {fills firstChecks outs : List ℕ} → Surveyed s ok fills firstChecks outs → ok ≡ true → Whole s
     → Learned s fills firstChecks
 whole-learned g e h =

@@ -7,7 +7,8 @@ use borrow.Author.Tests.{not-true, not-false}
 use Rattle.model.specs.Layout.{view}
 use Rattle.model.specs.Reads.{lostIn, totalIn}
 use Rattle.soundness.specs.SurveyLaws.{found-sized, outs-read}
-use Rattle.reading.proofs.Verdicts.{not-counted, safe-store, whole-learned, fills-total, list-unsound, list-lost, list-short, counted}
+use Rattle.lookup.specs.GroupLaws.{safe-store}
+use Rattle.reading.proofs.Verdicts.{not-counted, whole-learned, fills-total, list-unsound, list-lost, list-short, counted}
 use Rattle.reading.proofs.count_records.Statement.{statement}
 use Rattle.reading.proofs.count_records.Tie as tie
 
