@@ -4,7 +4,7 @@ pub mod Table
 pub mod Answers
 pub mod Runs
 pub mod Typed
+pub mod Leaves
 pub mod Claims
-pub mod Example
 pub mod StaysSound
 pub mod Contracts

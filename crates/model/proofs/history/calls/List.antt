@@ -21,6 +21,7 @@ use Rattle.model.specs.history.Ledger.{Ledger, recordAt, isOut, beyondOf
 use Rattle.model.specs.history.Picture.{recordBytes, picture}
 use Rattle.model.specs.history.Table.{refusals}
 use Rattle.model.specs.history.Answers.{listing, given}
+use Rattle.model.specs.history.Leaves.{SameRecords}
 use Rattle.model.proofs.history.ledger.Valid.{Valid}
 use Rattle.model.proofs.history.picture.Seen.{dstate-out, beyond-seen}
 use Rattle.model.proofs.history.picture.Listed.{fill-known}
@@ -42,20 +43,23 @@ module _ (l : Ledger) (rest : List ℕ) (h : Valid l) where
     unfolding lost
     readable u a = count-zero 16 (λ u. isOut l u && beyondOf l (u / 4)) (omega (arith, ltb-false 0 (count 16 (λ u. isOut l u && beyondOf l (u / 4))) ok)) u a
 
-    fills : (u : ℕ) → u < 16 → listedFill v u ≡ length (l .records u)
-    fills u a = fill-known l rest h u a (known l rest h u a (readable u a))
+    pub records-seen : SameRecords (view (picture l rest)) l
+    records-seen = record {
+      counted = λ u a. fill-known l rest h u a (known l rest h u a (readable u a));
+      held = λ u r a b. whole-slot l rest h u a (readable u a) r (omega (arith, h .fits u));
+    }
 
     total-seen : totalIn v ≡ total l
     unfolding totalIn total
-    total-seen = sum-ext 16 (listedFill v) (λ u. length (l .records u)) fills
+    total-seen = sum-ext 16 (listedFill v) (λ u. length (l .records u)) (records-seen .counted)
 
     listing-seen : listingIn v ≡ listing l
     unfolding listingIn listing
     listing-seen = tab-ext 16 (λ u. tab (listedFill v u) (wholeSlot v u)) (λ u. tab (length (l .records u)) (λ r. recordBytes (recordAt l u r)))
         (λ u a.
-        ap (λ (n : ℕ). tab n (wholeSlot v u)) (fills u a)
+        ap (λ (n : ℕ). tab n (wholeSlot v u)) (records-seen .counted u a)
         ∙ tab-ext (length (l .records u)) (wholeSlot v u) (λ r. recordBytes (recordAt l u r))
-        (λ r b. whole-slot l rest h u a (readable u a) r (omega (arith, h .fits u))))
+        (λ r b. records-seen .held u r a b))
 
   pub list-simulated : (out : List ℕ) → Simulated l rest (list out)
   unfolding reply refusalsIn refusals granted grantedIn given givenIn

@@ -73,14 +73,14 @@ module _ (s : List ℕ) (b : ℕ) (zero : layOutNumber s b ≡ 0) (cs : List Cal
   opened-is : Valid (opened b)
   opened-is = opened-valid b (layout-granted s b zero .least) (layout-granted s b zero .most)
 
-  whole : Run (opened b) (drop (storeBytes b) s) cs
+  pub whole : Run (opened b) (drop (storeBytes b) s) cs
   whole = run cs (opened b) rest opened-is typed
 
   -- the lasting calls alone
   lasting : Run (opened b) (drop (storeBytes b) s) (alone (opened b) cs)
   lasting = run (alone (opened b) cs) (opened b) rest opened-is (alone-typed cs (opened b) typed)
 
-  left-is : finalIn (layOut s b .store) cs ≡ picture end rest
+  pub left-is : finalIn (layOut s b .store) cs ≡ picture (final (opened b) cs) (drop (storeBytes b) s)
   left-is = ap (λ (x : List ℕ). finalIn x cs) start ∙ whole .left
 
   alone-is : aloneIn (layOut s b .store) cs ≡ alone (opened b) cs

@@ -1,12 +1,13 @@
--- A granted call on a ledger: none of the conditions of its rows holds, and the ledger changes; a refused call changes nothing. Assumes nothing.
+-- A granted call on a ledger: none of the conditions of its rows holds, and the ledger changes; a refused call changes nothing. No call changes the
+-- ranks of a unit. Assumes nothing.
 use mathlib.Core.Path.{_≡_, refl}
 use mathlib.Core.Bool.{true, false}
 use lib.Dec.{eqb}
 use borrow.Author.Tests.{eqb-true}
-use Rattle.buffer.specs.ChoiceLaws.{pick-true, pick-false}
+use Rattle.buffer.specs.ChoiceLaws.{by-pick, pick-true, pick-false}
 use Rattle.model.specs.Numbers.{Call, teach, correct, erase, read, readInPlace, list, unitOut, repair, grow, shrink, raise}
 use Rattle.model.specs.RowLaws.{Free, Numbered, first-free}
-use Rattle.model.specs.history.Ledger.{Ledger, granted}
+use Rattle.model.specs.history.Ledger.{Ledger, withRecords, grownLedger, shrunkLedger, granted}
 use Rattle.model.specs.history.Table.{refusals, number}
 use Rattle.model.specs.history.Answers.{after}
 
@@ -35,3 +36,21 @@ granted-after l c e = pick-true e (granted l c) l
 pub refused-after : (l : Ledger) (c : Call) → eqb (number l c) 0 ≡ false → after l c ≡ l
 unfolding after
 refused-after l c e = pick-false e (granted l c) l
+
+granted-size : (l : Ledger) (c : Call) → granted l c .size ≡ l .size
+unfolding granted withRecords grownLedger shrunkLedger
+granted-size l (teach k x) = refl
+granted-size l (correct k x) = refl
+granted-size l (erase k) = refl
+granted-size l (read k out) = refl
+granted-size l (readInPlace k) = refl
+granted-size l (list out) = refl
+granted-size l (unitOut w) = refl
+granted-size l (repair g) = refl
+granted-size l grow = refl
+granted-size l shrink = refl
+granted-size l raise = refl
+
+pub after-size : (l : Ledger) (c : Call) → after l c .size ≡ l .size
+unfolding after
+after-size l c = by-pick (λ (m : Ledger). m .size ≡ l .size) (eqb (number l c) 0) (granted l c) l (λ e. granted-size l c) (λ e. refl)

@@ -8,8 +8,8 @@ use Rattle.buffer.specs.Bytes.{bytes32, zeros}
 use Rattle.buffer.specs.ChoiceLaws.{by-pick, pick-true, pick-false}
 use Rattle.buffer.specs.ByteLaws.{length-zeros}
 use Rattle.group.specs.Widths.{slotBytes, checkBytes}
-use Rattle.model.specs.Layout.{view, frontOf}
-use Rattle.model.specs.LayoutLaws.{Shaped, Same, view-bytes}
+use Rattle.model.specs.Layout.{view, storeBytes, frontOf}
+use Rattle.model.specs.LayoutLaws.{Shaped, Same, length-bytes, view-bytes}
 use Rattle.model.specs.history.Ledger.{Rec, Ledger, recordAt, state}
 use Rattle.model.specs.history.Picture.{recordBytes, pictureSlot, checkOver, pictureCheck, image, picture}
 use mathlib.Core.Bool.{true, false}
@@ -56,6 +56,10 @@ image-shaped l rest h = record {
   slot = λ u r a b. length-slot l u r (h u r);
   check = λ c r a b. length-check l c r (λ u. h u r);
 }
+
+pub length-picture : (l : Ledger) (rest : List ℕ) → Goods l → length (picture l rest) ≡ storeBytes (l .size) + length rest
+unfolding image
+length-picture l rest h = length-bytes (image l rest) (image-shaped l rest h)
 
 -- what is read back from the picture
 pub seen : (l : Ledger) (rest : List ℕ) → Goods l → Same (view (picture l rest)) (image l rest)

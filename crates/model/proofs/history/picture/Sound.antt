@@ -18,7 +18,7 @@ use Rattle.buffer.specs.ByteLaws.{be32-part, be32-bytes32}
 use Rattle.group.specs.Widths.{keyBytes, slotBytes, checkBytes}
 use Rattle.model.specs.Units.{unitOf}
 use Rattle.model.specs.Layout.{Store, view, storeBytes, keyOf, frontOf}
-use Rattle.model.specs.LayoutLaws.{Same, Shaped, byte-front, part-front, length-bytes}
+use Rattle.model.specs.LayoutLaws.{Same, Shaped, byte-front, part-front}
 use Rattle.model.specs.Reads.{fillIn, listedKey, listedFill}
 use Rattle.model.specs.Sound.{ranges, unitsPlaced, checksIn, checksAllowed, groupsPlaced, zeroed, keysKnown, keysPlaced, listsAgree, sound}
 use Rattle.model.specs.SoundLaws.{same-of}
@@ -27,7 +27,7 @@ use Rattle.model.specs.history.Picture.{recordBytes, pictureSlot, image,
 use Rattle.model.proofs.history.ledger.Valid.{Valid}
 use Rattle.model.proofs.history.ledger.States.{placed-unit, placed-place, state-none, state-fits}
 use Rattle.model.proofs.history.picture.Records.{empty-bytes, listed-over}
-use Rattle.model.proofs.history.picture.Picture.{seen, image-shaped, slot-on, slot-off, check-off}
+use Rattle.model.proofs.history.picture.Picture.{seen, image-shaped, length-picture, slot-on, slot-off, check-off}
 use Rattle.model.proofs.history.picture.Seen.{past, fill-is, size-seen, units-seen, level-seen, dstate-is, cstate-is, dstate-out, fill-seen, no-key}
 use Rattle.model.proofs.history.picture.Listed.{Kept, check-kept, key-kept, key-known, fill-known}
 
@@ -83,8 +83,7 @@ module _ (l : Ledger) (rest : List ℕ) (h : Valid l) where
       ∙ be32-bytes32 (storeBytes (l .size)) (omega (arith, h .most))
 
   long : storeBytes (l .size) ≤ length (picture l rest)
-  unfolding image
-  long = omega (arith, length-bytes (image l rest) shaped)
+  long = omega (arith, length-picture l rest (h .good))
 
   ranges-true : ranges (picture l rest) ≡ true
   unfolding ranges
