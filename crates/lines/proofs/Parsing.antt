@@ -11,7 +11,8 @@ use Rattle.buffer.specs.ChoiceLaws.{by-test, pick-true}
 use Rattle.buffer.specs.TestLaws.{and-false-first, and-false-second, not-both}
 use Rattle.buffer.specs.Bytes.{byte, zeros}
 use Rattle.group.specs.Widths.{bodyBytes}
-use Rattle.lines.specs.Digits.{bodyDigits, hexAt, numberAt, bytesAt, Numbered, Embodied}
+use Rattle.lines.specs.Digits.{bodyDigits, hexAt, numberAt, bytesAt}
+use Rattle.lines.specs.Found.{Numbered, Embodied}
 use Rattle.lines.specs.Line.{line, unreadable, digitsOf, hasBody, lengthOf, readable, parsed}
 use Rattle.lines.specs.LineLaws.{
   Readable,

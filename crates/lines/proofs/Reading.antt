@@ -15,7 +15,8 @@ use Rattle.buffer.specs.Bytes.{byte, zeros}
 use Rattle.buffer.specs.LoopTests.{Passing, passing-start, passing-turn, passing-fail, passing-end}
 use Rattle.buffer.specs.LoopWrites.{Filling, filling-start, filling-turn, filling-end}
 use Rattle.group.specs.Widths.{bodyBytes}
-use Rattle.lines.specs.Digits.{bodyDigits, digit, hexAt, numberAt, bytesAt, Numbered, Embodied}
+use Rattle.lines.specs.Digits.{bodyDigits, digit, hexAt, numberAt, bytesAt}
+use Rattle.lines.specs.Found.{Numbered, Embodied}
 use Rattle.lines.specs.DigitLaws.{numberAt-more, numberAt-lt, hexAt-pairs}
 
 -- ---- a number: i of its n digits are read

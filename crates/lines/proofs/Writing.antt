@@ -1,17 +1,18 @@
 -- Lines that are written argument by argument, from the front. Assumes nothing.
-use Prim.Native.Nat.{ℕ, _+_, _*_, _≤_}
-use mathlib.Core.Path.{_≡_, refl, ap, _∙_}
+use Prim.Native.Nat.{ℕ, _+_, _*_, _≤_, _<_}
+use mathlib.Core.Path.{_≡_, refl, sym, ap, _∙_}
 use mathlib.Core.List.{List, [], _∷_, _++_, append-assoc, append-nil}
 use native.Mathlib.Omega.{arith}
 use lib.ListN.{length, set, take, drop, length-append, length-drop, drop-of-length-le}
-use lib.Seq.{take-all, length-take-le}
+use lib.Seq.{take-all, take-at, drop-at, drop-drop, length-take-le}
 use Rattle.buffer.specs.Bytes.{splice}
-use Rattle.buffer.specs.SpliceLaws.{splice-next, splice-whole, set-splice}
+use Rattle.buffer.specs.SpliceLaws.{splice-next, set-splice}
 use Rattle.buffer.specs.TableLaws.{tab-one}
-use Rattle.group.specs.Widths.{bodyBytes, slotBytes}
+use Rattle.group.specs.Widths.{keyBytes, bodyBytes, slotBytes}
 use Rattle.lines.specs.Digits.{hexBytes}
 use Rattle.lines.specs.DigitLaws.{length-hexBytes}
-use Rattle.lines.specs.Output.{bodyLine, recordLine, recordBytes, argumentPut}
+use Rattle.lines.specs.Output.{bodyLine, recordLine}
+use Rattle.lines.specs.Put.{bodyLineBytes, recordLineBytes, argumentPut, Put}
 
 -- the digits of x, then the byte behind them
 pub argument-put : (l x h : List ℕ) (at m end behind : ℕ) → m ≡ 2 * length x → end ≡ at + 2 * length x → h ≡ hexBytes (length x) x
@@ -21,50 +22,59 @@ argument-put l x h at m end behind em ee eh room long =
     set-splice (splice at m h l) end behind (omega arith)
     ∙ rw (ee, em, eh) (splice-next at (2 * length x) 1 (hexBytes (length x) x) (behind ∷ []) l (omega arith) (length-hexBytes (length x) x))
 
--- an argument of n bytes
-argument : ℕ → List ℕ → ℕ → List ℕ
+-- an argument of n bytes, and the byte behind it
+pub argument : ℕ → List ℕ → ℕ → List ℕ
 argument n x behind = hexBytes n x ++ (behind ∷ [])
 
 length-argument : (n : ℕ) (x : List ℕ) (behind : ℕ) → length (argument n x behind) ≡ 2 * n + 1
 unfolding argument
 length-argument n x behind = simp length-append (omega (arith, length-hexBytes n x))
 
-argument-at : (n : ℕ) (l : List ℕ) (at : ℕ) (x : List ℕ) (behind : ℕ) → length x ≡ n → argumentPut l at x behind ≡ splice at (2 * n + 1) (argument n x behind) l
+-- ---- a text at the front of a buffer, made longer by a piece, a byte, an argument
+pub put-none : (l : List ℕ) → Put [] l l 0
+put-none l = record { long = refl; bytes = refl }
+
+put-piece : {x old new : List ℕ} {n : ℕ} (y : List ℕ) → Put x old new n → Put (x ++ y) old (splice n (length y) y new) (n + length y)
+unfolding splice
+put-piece {x} {old} {new} {n} y g =
+    let at : length x ≡ n = sym (g .long) in
+    let m : ℕ = length y in
+    record {
+      long = sym (length-append x y ∙ ap (λ k. k + m) at);
+      bytes =
+          rw (g .bytes, at, take-at x (drop n old) n at, drop-at x (drop n old) n at, drop-drop m n old, length-append x y, at)
+          (sym (append-assoc x y (drop (n + m) old)));
+    }
+
+pub put-byte : {x old new : List ℕ} {n : ℕ} (v : ℕ) → Put x old new n → n < length new → Put (x ++ (v ∷ [])) old (set new n v) (n + 1)
+put-byte {x} {old} {new} {n} v g l = rw (set-splice new n v l) (put-piece (v ∷ []) g)
+
+pub put-argument : {x old new new′ : List ℕ} {n k : ℕ} (y : List ℕ) (behind : ℕ) → Put x old new n → length y ≡ k → new′ ≡ argumentPut new n y behind
+    → Put (x ++ argument k y behind) old new′ (n + (2 * k + 1))
 unfolding argumentPut argument
-argument-at n l at x behind e = rw e
+put-argument {k = k} y behind g e q =
+    let long : length (argument k y behind) ≡ 2 * k + 1 = length-argument k y behind in
+    rw (q, e) (rw long at (put-piece (argument k y behind) g))
 
-pub body-line : (r o body : List ℕ) → length r ≡ 1 + 2 * bodyBytes → length body ≡ bodyBytes → o ≡ argumentPut (48 ∷ 32 ∷ r) 2 body 10 → o ≡ bodyLine body
-unfolding bodyLine argument splice
-body-line r o body er eb e =
-    e
-    ∙ argument-at bodyBytes (48 ∷ 32 ∷ r) 2 body 10 eb
-    ∙ rw (drop-of-length-le r {i = 1 + 2 * bodyBytes} (omega arith)) (ap (λ t. 48 ∷ 32 ∷ t) (append-nil (argument bodyBytes body 10)))
+-- ---- the lines
+pub body-line : {old new new′ : List ℕ} (body : List ℕ) → Put (48 ∷ 32 ∷ []) old new 2 → length body ≡ bodyBytes → new′ ≡ argumentPut new 2 body 10
+    → Put (bodyLine body) old new′ bodyLineBytes
+unfolding bodyLine argument
+body-line body g e q = put-argument body 10 g e q
 
-pub record-line : (l l₁ l₂ l₃ l₄ x : List ℕ) (u r : ℕ) → length l ≡ recordBytes → length x ≡ slotBytes
-    → l₁ ≡ argumentPut l 0 (u ∷ []) 32 → l₂ ≡ argumentPut l₁ 3 (r ∷ []) 32 → l₃ ≡ argumentPut l₂ 6 (take 4 x) 32
-    → l₄ ≡ argumentPut l₃ 15 (take bodyBytes (drop 4 x)) 10
+pub record-line : (l l₁ l₂ l₃ l₄ x : List ℕ) (u r : ℕ) → length l ≡ recordLineBytes → length x ≡ slotBytes
+    → l₁ ≡ argumentPut l 0 (u ∷ []) 32 → l₂ ≡ argumentPut l₁ 3 (r ∷ []) 32 → l₃ ≡ argumentPut l₂ 6 (take keyBytes x) 32
+    → l₄ ≡ argumentPut l₃ 15 (take bodyBytes (drop keyBytes x)) 10
     → l₄ ≡ recordLine u r x
 record-line l l₁ l₂ l₃ l₄ x u r el ex e₁ e₂ e₃ e₄ =
-    let ek : length (take 4 x) ≡ 4 = length-take-le 4 x (omega arith) in
-    let eb : length (drop 4 x) ≡ bodyBytes = simp length-drop (omega arith) in
-    let whole : take bodyBytes (drop 4 x) ≡ drop 4 x = take-all bodyBytes (drop 4 x) (omega arith) in
-    let a : List ℕ = argument 1 (u ∷ []) 32 in
-    let b : List ℕ = argument 1 (r ∷ []) 32 in
-    let c : List ℕ = argument 4 (take 4 x) 32 in
-    let d : List ℕ = argument bodyBytes (drop 4 x) 10 in
-    let la : length a ≡ 3 = length-argument 1 (u ∷ []) 32 in
-    let lb : length b ≡ 3 = length-argument 1 (r ∷ []) 32 in
-    let lc : length c ≡ 9 = length-argument 4 (take 4 x) 32 in
-    let p₁ : l₁ ≡ splice 0 3 a l = e₁ ∙ argument-at 1 l 0 (u ∷ []) 32 refl in
-    let p₂ : l₂ ≡ splice 0 6 (a ++ b) l =
-    e₂ ∙ argument-at 1 l₁ 3 (r ∷ []) 32 refl ∙ ap (splice 3 3 b) p₁ ∙ splice-next 0 3 3 a b l (omega arith) la in
-    let p₃ : l₃ ≡ splice 0 15 ((a ++ b) ++ c) l =
-    e₃ ∙ argument-at 4 l₂ 6 (take 4 x) 32 ek ∙ ap (splice 6 9 c) p₂ ∙ splice-next 0 6 9 (a ++ b) c l (omega arith) (simp length-append (omega arith)) in
-    let p₄ : l₄ ≡ splice 0 recordBytes (((a ++ b) ++ c) ++ d) l =
-    e₄ ∙ ap (λ y. argumentPut l₃ 15 y 10) whole ∙ argument-at bodyBytes l₃ 15 (drop 4 x) 10 eb ∙ ap (splice 15 (1 + 2 * bodyBytes) d) p₃
-    ∙ splice-next 0 15 (1 + 2 * bodyBytes) ((a ++ b) ++ c) d l (omega arith) (simp length-append (omega arith)) in
-    p₄ ∙ splice-whole recordBytes (((a ++ b) ++ c) ++ d) l (omega arith) ∙ joined u r x
+    let ek : length (take keyBytes x) ≡ keyBytes = length-take-le keyBytes x (omega arith) in
+    let eb : length (drop keyBytes x) ≡ bodyBytes = simp length-drop (omega arith) in
+    let whole : take bodyBytes (drop keyBytes x) ≡ drop keyBytes x = take-all bodyBytes (drop keyBytes x) (omega arith) in
+    let g = put-argument (drop keyBytes x) 10 (put-argument (take keyBytes x) 32 (put-argument (r ∷ []) 32 (put-argument (u ∷ []) 32 (put-none l)
+    refl e₁) refl e₂) ek e₃) eb (e₄ ∙ ap (λ y. argumentPut l₃ 15 y 10) whole) in
+    g .bytes ∙ rw (← g .long, drop-of-length-le l {i = recordLineBytes} (omega arith)) (append-nil _) ∙ joined u r x
   where
-    joined : (u r : ℕ) (x : List ℕ) → ((argument 1 (u ∷ []) 32 ++ argument 1 (r ∷ []) 32) ++ argument 4 (take 4 x) 32) ++ argument bodyBytes (drop 4 x) 10
+    joined : (u r : ℕ) (x : List ℕ)
+        → ((argument 1 (u ∷ []) 32 ++ argument 1 (r ∷ []) 32) ++ argument keyBytes (take keyBytes x) 32) ++ argument bodyBytes (drop keyBytes x) 10
         ≡ recordLine u r x
     joined u r x = unfold argument recordLine hexBytes in rw (tab-one, tab-one) (simp append-assoc)

@@ -1,13 +1,12 @@
 -- Capital hexadecimal digits, as bytes of text. Assumes nothing.
 use Prim.Native.Nat.{ℕ, zero, suc, _+_, _*_, _-_, _/_, _%_}
-use mathlib.Core.Path.{_≡_}
 use mathlib.Core.Bool.{Bool, _&&_}
 use mathlib.Core.List.{List, [], _∷_, _++_}
 use lib.Dec.{leb, ltb}
 use Rattle.buffer.specs.Choice.{pick}
 use Rattle.buffer.specs.Range.{all}
 use Rattle.buffer.specs.Loops.{entries}
-use Rattle.buffer.specs.Bytes.{byte, zeros}
+use Rattle.buffer.specs.Bytes.{byte}
 use Rattle.buffer.specs.Table.{tab}
 use Rattle.group.specs.Widths.{bodyBytes}
 
@@ -40,16 +39,6 @@ hex (suc n) x = hex n (x / 16) ++ (digitOf (x % 16) ∷ [])
 unfoldable pub hexBytes : ℕ → List ℕ → List ℕ
 hexBytes n s = tab n (λ i. hex 2 (byte s i))
 
--- what reading n digits finds: whether they are digits, and their number, 0 where they are not
-pub record Numbered (l : List ℕ) (at n : ℕ) (ok : Bool) (value : ℕ) : Type 0 where
-  pub tested : ok ≡ hexAt l at n
-  pub found : value ≡ pick (hexAt l at n) (numberAt l at n) 0
-
 -- the digits of a body
 abbrev pub bodyDigits : ℕ
 bodyDigits = 2 * bodyBytes
-
--- what reading a body finds: whether its places, two for each byte, are digits, and the body, zeros where they are not
-pub record Embodied (l : List ℕ) (at : ℕ) (ok : Bool) (body : List ℕ) : Type 0 where
-  pub tested : ok ≡ hexAt l at bodyDigits
-  pub found : body ≡ pick (hexAt l at bodyDigits) (bytesAt l at bodyBytes) (zeros bodyBytes)

@@ -1,6 +1,10 @@
 pub mod Digits
+pub mod Found
 pub mod DigitLaws
 pub mod Line
 pub mod LineLaws
 pub mod Output
+pub mod OutputLaws
+pub mod Put
 pub mod Text
+pub mod TextLaws

@@ -1,13 +1,11 @@
 -- The lines that hallrun prints: each line's number in decimal; behind a granted R a space and the body; behind a granted P a line for each
 -- record: unit, rank, key, body, in the form of arguments. Every line ends in byte 0A. Assumes nothing.
-use Prim.Native.Nat.{ℕ, _+_, _*_, _-_, _/_, _%_, _≤_}
-use mathlib.Core.Path.{_≡_}
+use Prim.Native.Nat.{ℕ, _+_, _/_, _%_}
 use mathlib.Core.List.{List, [], _∷_, _++_}
 use lib.Dec.{ltb}
-use lib.ListN.{length, take, drop}
+use lib.ListN.{take, drop}
 use Rattle.buffer.specs.Choice.{pick}
-use Rattle.buffer.specs.Bytes.{zeros, splice}
-use Rattle.group.specs.Widths.{keyBytes, bodyBytes, slotBytes}
+use Rattle.group.specs.Widths.{keyBytes, bodyBytes}
 use Rattle.lines.specs.Digits.{hex, hexBytes}
 
 -- a number below 100 in decimal
@@ -17,16 +15,6 @@ decimal n = pick (ltb n 10) ((48 + n) ∷ []) ((48 + n / 10) ∷ (48 + n % 10) �
 unfoldable pub numberLine : ℕ → List ℕ
 numberLine n = decimal n ++ (10 ∷ [])
 
--- a line with zeros behind it, n bytes in all
-unfoldable pub padded : ℕ → List ℕ → List ℕ
-padded n l = l ++ zeros (n - length l)
-
--- a line l in an array of three bytes, and its size
-pub record Short (l bytes : List ℕ) (size : ℕ) : Type 0 where
-  pub text : bytes ≡ padded 3 l
-  pub long : size ≡ length l
-  pub within : size ≤ length bytes
-
 -- a granted R: 0, a space and the body
 unfoldable pub bodyLine : List ℕ → List ℕ
 bodyLine body = 48 ∷ 32 ∷ (hexBytes bodyBytes body ++ (10 ∷ []))
@@ -34,11 +22,3 @@ bodyLine body = 48 ∷ 32 ∷ (hexBytes bodyBytes body ++ (10 ∷ []))
 -- a record of unit u at rank r; the record is its key's four bytes and its body
 unfoldable pub recordLine : ℕ → ℕ → List ℕ → List ℕ
 recordLine u r x = hex 2 u ++ (32 ∷ (hex 2 r ++ (32 ∷ (hexBytes keyBytes (take keyBytes x) ++ (32 ∷ (hexBytes bodyBytes (drop keyBytes x) ++ (10 ∷ [])))))))
-
--- how long it is: four arguments of two digits a byte, each with a byte behind it
-abbrev pub recordBytes : ℕ
-recordBytes = 4 + 2 * (2 + slotBytes)
-
--- a line with the digits of bytes x written at a place, and a byte behind them
-unfoldable pub argumentPut : List ℕ → ℕ → List ℕ → ℕ → List ℕ
-argumentPut l at x behind = splice at (2 * length x + 1) (hexBytes (length x) x ++ (behind ∷ [])) l

@@ -2,7 +2,8 @@
 ghost use mathlib.Core.Path.{_≡_};
 ghost use Prim.Native.Nat.{_+_, _*_, _≤_, _<_};
 ghost use lib.ListN.{length};
-ghost use Rattle.lines.specs.Digits.{bodyDigits, digit, digitOf, hex, hexBytes, Numbered, Embodied};
+ghost use Rattle.lines.specs.Digits.{bodyDigits, digit, digitOf, hex, hexBytes};
+ghost use Rattle.lines.specs.Found.{Numbered, Embodied};
 
 // The value of a digit, or 16.
 pub fn digit_value(c: u8) -> u8

@@ -1,9 +1,10 @@
-// The lines that hallrun prints.
+// The lines that hallrun prints, each written into a lent buffer.
 ghost use mathlib.Core.Path.{_≡_};
 ghost use Prim.Native.Nat.{_+_, _*_, _≤_};
 ghost use lib.ListN.{length};
 ghost use Rattle.group.specs.Widths.{slotBytes};
-ghost use Rattle.lines.specs.Output.{numberLine, bodyLine, recordLine, recordBytes, Short, argumentPut};
+ghost use Rattle.lines.specs.Output.{numberLine, bodyLine, recordLine};
+ghost use Rattle.lines.specs.Put.{numberBytes, bodyLineBytes, recordLineBytes, argumentPut, Put};
 use crate::digits::put_byte;
 use crate::digits::put_bytes;
 
@@ -14,29 +15,22 @@ const KEY_AT: usize = 6;
 
 const BODY_AT: usize = KEY_AT + 2 * group::KEY + 1;
 
-const RECORD_LINE: usize = BODY_AT + 2 * group::BODY + 1;
+pub const RECORD_LINE: usize = BODY_AT + 2 * group::BODY + 1;
 
-// A line of two or three bytes, with zeros behind it.
-pub struct ShortLine {
-    pub bytes: [u8; 3],
-    pub size: usize,
-}
-
-// The line of a number.
-pub fn number_line(n: u8) -> ShortLine
-    ensures { λ r. ⌜ Short (numberLine n) (r .bytes) (r .size) ⌝ }
+// The line of a number, at the front of a buffer; how long it is.
+pub fn put_number(out: &mut [u8], n: u8) -> usize
+    requires { ⌜ numberBytes ≤ length (now out) ⌝ }
+    ensures { λ r. ⌜ Put (numberLine n) (now (out .entry)) (now (out .exit)) r ⌝ }
 {
     if n < 10 {
-        ShortLine {
-            bytes: [48 + n, 10, 0],
-            size: 2,
-        }
-    } else {
-        ShortLine {
-            bytes: [48 + n / 10, 48 + n % 10, 10],
-            size: 3,
-        }
+        out[0] = 48 + n;
+        out[1] = 10;
+        return 2;
     }
+    out[0] = 48 + n / 10;
+    out[1] = 48 + n % 10;
+    out[2] = 10;
+    3
 }
 
 // An argument of digits at a place, and the byte behind it.
@@ -49,20 +43,20 @@ fn put_argument(line: &mut [u8], at: usize, from: &[u8], behind: u8)
     line[end] = behind;
 }
 
-// The line of a granted read.
-pub fn body_line(body: &[u8; group::BODY]) -> [u8; BODY_LINE]
-    ensures { λ r. ⌜ r ≡ bodyLine (now (body .entry)) ⌝ }
+// The line of a granted read, at the front of a buffer; how long it is.
+pub fn put_body(out: &mut [u8], body: &[u8; group::BODY]) -> usize
+    requires { ⌜ bodyLineBytes ≤ length (now out) ⌝ }
+    ensures { λ r. ⌜ Put (bodyLine (now (body .entry))) (now (out .entry)) (now (out .exit)) r ⌝ }
 {
-    let mut line = [0u8; BODY_LINE];
-    line[0] = 48;
-    line[1] = 32;
-    put_argument(&mut line, 2, body, 10);
-    line
+    out[0] = 48;
+    out[1] = 32;
+    put_argument(out, 2, body, 10);
+    BODY_LINE
 }
 
-// The line of a record, from the front.
+// The line of a record in a granted list.
 fn put_record(line: &mut [u8], unit: u8, rank: u8, slot: &[u8])
-    requires { ⌜ (length (now line) ≡ recordBytes) × (length (now slot) ≡ slotBytes) ⌝ }
+    requires { ⌜ (length (now line) ≡ recordLineBytes) × (length (now slot) ≡ slotBytes) ⌝ }
     ensures { λ _. ⌜ now (line .exit) ≡ recordLine unit rank (now (slot .entry)) ⌝ }
 {
     put_argument(line, 0, &[unit], 32);
@@ -71,7 +65,6 @@ fn put_record(line: &mut [u8], unit: u8, rank: u8, slot: &[u8])
     put_argument(line, BODY_AT, &slot[group::KEY..group::SLOT], 10);
 }
 
-// The line of a record in a granted list.
 pub fn record_line(unit: u8, rank: u8, slot: &[u8]) -> [u8; RECORD_LINE]
     requires { ⌜ length (now slot) ≡ slotBytes ⌝ }
     ensures { λ r. ⌜ r ≡ recordLine unit rank (now (slot .entry)) ⌝ }

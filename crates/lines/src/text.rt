@@ -1,5 +1,5 @@
 // Lines of a text.
-ghost use Rattle.lines.specs.Text.{Ends};
+ghost use Rattle.lines.specs.Found.{Ends};
 
 // Where the line that starts at a place ends: at the first byte 0A, or at the end of the text.
 pub fn line_end(text: &[u8], from: usize) -> usize

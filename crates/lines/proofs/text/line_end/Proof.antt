@@ -12,7 +12,7 @@ use Rattle.buffer.specs.TestLaws.{and-true, and-false-first, and-false-second}
 use Rattle.buffer.specs.RangeLaws.{first-none}
 use Rattle.buffer.specs.Bytes.{byte}
 use Rattle.buffer.specs.LoopTests.{Missing, missing-turn, missing-found, missing-end}
-use Rattle.lines.specs.Text.{lineEnd}
+use Rattle.lines.specs.Found.{lineEnd}
 use Rattle.lines.proofs.text.line_end.Statement.{statement}
 use Rattle.lines.proofs.text.line_end.Tie as tie
 

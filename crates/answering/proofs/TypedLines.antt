@@ -1,0 +1,73 @@
+-- The call of a line has the types of its arguments: a key has 32 bits, a body holds bytes. Assumes nothing.
+use Prim.Native.Nat.{ℕ, _^_, _≤_, _<_}
+use native.Mathlib.Nat.{pow-le-pow-right}
+use native.Mathlib.Omega.{arith}
+use mathlib.Core.List.{List}
+use mathlib.Core.Bool.{Bool}
+use lib.Dec.{ltb}
+use borrow.Author.Tests.{ltb-true, ltb-false}
+use Rattle.buffer.specs.Choice.{pick}
+use Rattle.buffer.specs.ChoiceLaws.{by-test, by-pick}
+use Rattle.buffer.specs.Bytes.{byte}
+use Rattle.buffer.specs.ByteLaws.{byte-past, byte-zeros}
+use Rattle.group.specs.Widths.{bodyBytes}
+use Rattle.model.specs.history.Table.{number}
+use Rattle.model.specs.history.Typed.{Bytes, Typed}
+use Rattle.lines.specs.Line.{Line, unreadable, digitsOf, Proper, readable, parsed}
+use Rattle.lines.specs.LineLaws.{parsed-proper, parsed-refused}
+use Rattle.answering.specs.Command.{Command, layout, call, unknown, commandOf}
+
+-- a number of no more than eight digits, and bytes
+record Ranged (x : Line) : Type 0 where
+  key : x .number < 4294967296
+  body : Bytes (x .body)
+
+proper-ranged : {x : Line} → Proper x → Ranged x
+proper-ranged {x} p = record {
+  key =
+      let eight : 16 ^ digitsOf (x .letter) ≤ 16 ^ 8 =
+      pow-le-pow-right {n = 16} (omega arith) {i = digitsOf (x .letter)} {j = 8} (omega (arith, ltb-true (digitsOf (x .letter)) 9 (p .known))) in
+      omega (arith, p .range);
+  body = λ i.
+      by-test
+      (λ t. byte (x .body) i < 256)
+      (ltb i bodyBytes)
+      (λ e. p .bytes i (ltb-true i bodyBytes e))
+      (λ e. omega (arith, byte-past (x .body) i (omega (arith, p .long, ltb-false i bodyBytes e))));
+}
+
+parsed-ranged : (l : List ℕ) → Ranged (parsed l)
+unfolding unreadable
+parsed-ranged l =
+    by-test
+    (λ t. Ranged (parsed l))
+    (readable l)
+    (λ e. proper-ranged (parsed-proper l e))
+    (λ e. rw (parsed-refused l e) (record { key = omega arith; body = λ i. omega (arith, byte-zeros bodyBytes i) }))
+
+abbrev pub TypedCommand : Command → Type 0
+TypedCommand (layout b) = Unit {0}
+TypedCommand (call c) = Typed c
+TypedCommand unknown = Unit {0}
+
+typed-command : (x : Line) → Ranged x → TypedCommand (commandOf x)
+unfolding commandOf
+typed-command x r =
+    either _ _ _ tt
+    (either _ _ _ (r .key, r .body)
+    (either _ _ _ (r .key, r .body)
+    (either _ _ _ (r .key)
+    (either _ _ _ (r .key)
+    (either _ _ _ tt
+    (either _ _ _ tt
+    (either _ _ _ tt
+    (either _ _ _ tt
+    (either _ _ _ tt
+    (either _ _ _ tt
+    tt))))))))))
+  where
+    either : (t : Bool) (c d : Command) → TypedCommand c → TypedCommand d → TypedCommand (pick t c d)
+    either t c d h k = by-pick TypedCommand t c d (λ e. h) (λ e. k)
+
+pub line-typed : (l : List ℕ) → TypedCommand (commandOf (parsed l))
+line-typed l = typed-command (parsed l) (parsed-ranged l)

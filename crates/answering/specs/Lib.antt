@@ -1,0 +1,6 @@
+pub mod Command
+pub mod Said
+pub mod Places
+pub mod Buffers
+pub mod ByLedger
+pub mod Example

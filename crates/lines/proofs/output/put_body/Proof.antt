@@ -1,0 +1,23 @@
+-- `output::put_body` meets its contract. Assumes nothing.
+use native.Mathlib.Omega.{arith}
+use lib.ListN.{set, length-set}
+use borrow.Author.Needs.{needs}
+use Rattle.lines.proofs.Writing.{put-none, put-byte, body-line}
+use Rattle.lines.proofs.output.put_body.Statement.{statement}
+use Rattle.lines.proofs.output.put_body.Tie as tie
+
+put-argument-requires : tie.Need-put-argument-requires
+put-argument-requires c κs = simp length-set (omega arith)
+
+same-length : tie.Need-same-length
+same-length c = omega (arith, c .before .out .given, length-set (c .before .before .before .before .before .before .args .out .now) 0 48, length-set (set (c .before .before .before .before .before .before .args .out .now) 0 48) 1 32)
+
+returns : tie.Need-returns
+returns c =
+    let a = c .before .before .before .before .before .before .args in
+    body-line (a .body .now) (put-byte 32 (put-byte 48 (put-none (a .out .now)) (omega arith)) (simp length-set (omega arith))) (search needs)
+    (c .before .before .put-argument .ensures)
+
+pub put-body-spec : {M : Type 1} → statement M
+put-body-spec =
+    tie.close (tie.spec (λ c. search needs) (λ c. simp length-set (omega arith)) put-argument-requires same-length returns)
