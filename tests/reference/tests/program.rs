@@ -1,11 +1,43 @@
-//! hallrun: the paper's example, lines, and the stored texts.
+//! hallrun: the paper's example, lines, the stored texts, and what fixed and generated inputs reach.
 
-use reference::generate::lines::input;
-use reference::hallrun::run;
-use std::collections::HashSet;
+use reference::generate::{fixed::fixed_inputs, lines::input};
+use reference::hallrun::{answers, run};
+use std::collections::BTreeSet;
 
 const STORED_INPUT: &[u8] = include_bytes!("../../../crates/hallrun/stdin");
 const STORED_OUTPUT: &str = include_str!("../../../crates/hallrun/stdout");
+
+/// Every number that a line can print, by its letter. L and P print no 7: their buffers hold the
+/// largest store and the longest list.
+const NUMBERS: [(u8, &[u8]); 11] = [
+    (b'L', &[0, 2, 10]),
+    (b'T', &[0, 1, 2, 4, 5, 7, 10]),
+    (b'C', &[0, 1, 2, 4, 6, 10]),
+    (b'E', &[0, 1, 2, 4, 6, 10]),
+    (b'R', &[0, 1, 2, 6, 8, 10]),
+    (b'O', &[0, 1, 2, 3, 4, 10]),
+    (b'F', &[0, 1, 2, 3, 8, 10]),
+    (b'G', &[0, 1, 4, 9, 10]),
+    (b'S', &[0, 1, 4, 7, 9, 10]),
+    (b'K', &[0, 1, 9, 10]),
+    (b'P', &[0, 1, 8, 10]),
+];
+
+/// Values 9 to 11 of document 01 as far as lines can show them, each line with what it prints: b 65
+/// and b 1, bodies of 15 and 17 bytes, and at level 1 one unit out and two.
+const VALUES_9_TO_11: &str = "
+L 41 > 2
+L 01 > 0
+T 00000001 000000000000000000000000000000 > 10
+T 00000001 0000000000000000000000000000000000 > 10
+T 00000001 4F6E6500000000000000000000000000 > 0
+O 00 > 0
+F 00 > 0
+R 00000001 > 0 4F6E6500000000000000000000000000
+O 00 > 0
+O 10 > 0
+F 00 > 8
+";
 
 #[test]
 fn example() {
@@ -45,14 +77,22 @@ fn a_refused_layout_keeps_the_store() {
     assert_eq!(run(format!("{taught}L 01\nE 00000001\n").as_bytes()), "0\n0\n0\n6\n");
 }
 
-/// The numbers that an output prints: the first word of each line that is no line of a list.
-fn numbers(output: &str) -> HashSet<&str> {
-    let listed = |line: &&str| line.split(' ').count() == 4;
-    output
-        .lines()
-        .filter(|line| !listed(line))
-        .map(|line| line.split(' ').next().unwrap())
-        .collect()
+/// The number that an answer starts with.
+fn number(answer: &str) -> u8 {
+    answer.split([' ', '\n']).next().unwrap().parse().unwrap()
+}
+
+/// Demands that the lines of inputs print every number that their letters can print, and no other.
+fn assert_every_number(inputs: &[Vec<u8>]) {
+    let mut printed = BTreeSet::new();
+    for (line, answer) in inputs.iter().flat_map(|input| answers(input)) {
+        printed.insert((line.first().copied(), number(&answer)));
+    }
+    for (letter, numbers) in NUMBERS {
+        let of_letter = printed.iter().filter(|(first, _)| *first == Some(letter));
+        let of_letter: Vec<u8> = of_letter.map(|(_, number)| *number).collect();
+        assert_eq!(of_letter, numbers, "{}", letter as char);
+    }
 }
 
 #[test]
@@ -60,16 +100,78 @@ fn stored_texts() {
     assert!(STORED_INPUT.len() <= 4096);
     assert_ne!(STORED_INPUT.last(), Some(&b'\n'));
     assert_eq!(run(STORED_INPUT), STORED_OUTPUT);
-    let letters = STORED_INPUT.split(|&byte| byte == b'\n').filter_map(|line| line.first());
-    let letters: HashSet<u8> = letters.copied().collect();
-    assert!(b"LTCEROFGSKP".iter().all(|letter| letters.contains(letter)));
-    assert_eq!(numbers(STORED_OUTPUT).len(), 11);
 }
 
 #[test]
-fn generated_inputs_reach_every_number() {
-    let outputs: Vec<String> = (0..100).map(|index| run(&input(index))).collect();
-    let reached: HashSet<&str> = outputs.iter().flat_map(|output| numbers(output)).collect();
-    assert_eq!(reached.len(), 11);
-    assert!((0..100).any(|index| input(index).len() > 4096));
+fn the_stored_input_reaches_every_number_of_every_letter() {
+    assert_every_number(&[STORED_INPUT.to_vec()]);
+}
+
+#[test]
+fn the_stored_input_shows_values_9_to_11() {
+    let answered = answers(STORED_INPUT).into_iter();
+    let beside = |(line, answer)| format!("{} > {answer}", String::from_utf8_lossy(line));
+    let transcript: String = answered.map(beside).collect();
+    assert!(transcript.contains(VALUES_9_TO_11));
+}
+
+#[test]
+fn generated_inputs_reach_every_number_of_every_letter() {
+    let inputs: Vec<Vec<u8>> = (0..100).map(input).collect();
+    assert_every_number(&inputs);
+    assert!(inputs.iter().any(|input| input.len() > 4096));
+}
+
+fn fixed_input(name: &str) -> Vec<u8> {
+    let found = fixed_inputs().into_iter().find(|(of, _)| *of == name);
+    found.expect("an input of this name").1
+}
+
+/// The number and the count of records that each P of a fixed input prints.
+fn lists(name: &str) -> Vec<(u8, usize)> {
+    let input = fixed_input(name);
+    let answered = answers(&input).into_iter().filter(|(line, _)| *line == b"P");
+    answered.map(|(_, answer)| (number(&answer), answer.lines().count() - 1)).collect()
+}
+
+#[test]
+fn the_fullest_list() {
+    let input = fixed_input("fullest-list");
+    let text = String::from_utf8(input.clone()).unwrap();
+    let mut taught: Vec<&str> = text.lines().filter_map(|line| line.strip_prefix("T ")).collect();
+    assert!(input.len() <= 4096);
+    assert_eq!(taught.len(), 92);
+
+    // L, G and every T are granted; P prints its number and every record.
+    let answered = answers(&input);
+    let (list, before) = answered.split_last().unwrap();
+    assert_eq!(before.len(), 2 + 92);
+    assert!(before.iter().all(|(_, answer)| answer == "0\n"));
+    let list: Vec<&str> = list.1.lines().collect();
+    assert_eq!(list.len(), 93);
+    assert_eq!(list[0], "0");
+    let listed = list[1..].iter().map(|line| line.split_at(6));
+    let (places, mut records): (Vec<&str>, Vec<&str>) = listed.unzip();
+    let of_unit_0 = (1..=64).map(|rank| format!("00 {rank:02X} "));
+    let of_unit_1 = (1..=28).map(|rank| format!("01 {rank:02X} "));
+    assert!(of_unit_0.chain(of_unit_1).eq(places));
+    taught.sort();
+    records.sort();
+    assert_eq!(records, taught);
+
+    // One more T leaves no room for the P, even without its 0A.
+    let more = [input.strip_suffix(b"P\n").unwrap(), b"T 00000001 ", &[b'0'; 32], b"\nP"].concat();
+    assert!(more.len() > 4096);
+    assert!(answers(&more).iter().all(|(line, _)| *line != b"P"));
+}
+
+#[test]
+fn lists_of_the_other_fixed_inputs() {
+    assert_eq!(lists("fullest-list-of-sixteen-units"), [(0, 92)]);
+    let listed = run(&fixed_input("fullest-list-of-sixteen-units"));
+    assert!((0..16).all(|unit| listed.contains(&format!("\n{unit:02X} 03 "))));
+    assert_eq!(lists("lists-up-to-the-cut"), [(0, 92); 21]);
+    assert_eq!(fixed_input("lists-up-to-the-cut")[4095..4097], *b"P\n");
+    assert_eq!(lists("full-unit-out"), [(0, 92), (8, 0)]);
+    assert_eq!(lists("laid-out-anew"), [(0, 92), (0, 92), (0, 0), (0, 0)]);
 }

@@ -1,7 +1,8 @@
-//! Writes inputs of hallrun and what it has to print: `runs DIRECTORY COUNT` makes NNNN.in and
-//! NNNN.out there.
+//! Writes inputs of hallrun and what it has to print: `runs DIRECTORY COUNT` makes NAME.in and
+//! NAME.out there for each fixed input, and NNNN.in and NNNN.out for so many generated ones.
 
-use reference::{generate::lines::input, hallrun::run};
+use reference::generate::{fixed::fixed_inputs, lines::input};
+use reference::hallrun::run;
 use std::path::Path;
 use std::{env, fs, io};
 
@@ -11,10 +12,11 @@ fn main() -> io::Result<()> {
     let count: u64 = count.parse().expect("COUNT is a number");
     let directory = Path::new(directory);
     fs::create_dir_all(directory)?;
-    for index in 0..count {
-        let input = input(index);
-        fs::write(directory.join(format!("{index:04}.in")), &input)?;
-        fs::write(directory.join(format!("{index:04}.out")), run(&input))?;
+    let fixed = fixed_inputs().map(|(name, input)| (name.to_string(), input));
+    let generated = (0..count).map(|index| (format!("{index:04}"), input(index)));
+    for (name, input) in fixed.into_iter().chain(generated) {
+        fs::write(directory.join(format!("{name}.in")), &input)?;
+        fs::write(directory.join(format!("{name}.out")), run(&input))?;
     }
     Ok(())
 }

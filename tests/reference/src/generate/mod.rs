@@ -3,6 +3,7 @@
 mod arguments;
 pub mod cases;
 mod damage;
+pub mod fixed;
 mod history;
 pub mod lines;
 mod losses;

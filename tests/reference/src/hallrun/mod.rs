@@ -12,8 +12,14 @@ const LIST: usize = 1024 * 20;
 
 /// What hallrun prints for an input.
 pub fn run(input: &[u8]) -> String {
+    answers(input).into_iter().map(|(_, answer)| answer).collect()
+}
+
+/// Each line of an input with what hallrun prints for it.
+pub fn answers(input: &[u8]) -> Vec<(&[u8], String)> {
     let mut bytes = vec![0; STORE];
-    lines(&input[..input.len().min(INPUT)]).into_iter().map(|l| answer(&mut bytes, l)).collect()
+    let lines = lines(&input[..input.len().min(INPUT)]);
+    lines.into_iter().map(|line| (line, answer(&mut bytes, line))).collect()
 }
 
 /// The lines of an input; a final 0A opens no further line.
