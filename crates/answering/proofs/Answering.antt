@@ -2,18 +2,17 @@
 use Prim.Native.Nat.{ℕ}
 use mathlib.Core.Path.{_≡_, refl, sym, ap, _∙_}
 use mathlib.Core.List.{List}
-use mathlib.Core.Bool.{Bool}
 use lib.Dec.{eqb}
-use borrow.Author.Tests.{ne-eqb}
 use Rattle.buffer.specs.Choice.{pick}
-use Rattle.buffer.specs.ChoiceLaws.{by-pick, pick-false, pick-same}
+use Rattle.buffer.specs.ChoiceLaws.{pick-same}
 use Rattle.model.specs.Layout.{view}
-use Rattle.model.specs.Numbers.{read, list, numberIn}
+use Rattle.model.specs.Numbers.{Call, numberIn}
 use Rattle.model.specs.Perform.{plain, grantedIn, Outcome, outcome, afterIn, perform}
 use Rattle.lines.specs.Line.{Line, line, parsed}
 use Rattle.lines.specs.Output.{numberLine}
 use Rattle.lines.specs.Put.{Put}
 use Rattle.answering.specs.Command.{Command, commandOf}
+use Rattle.answering.specs.CommandLaws.{by-letter}
 use Rattle.answering.specs.Said.{executed, printed, recordLines, said, after}
 use Rattle.answering.specs.Buffers.{listLeft, answered, answerOf}
 
@@ -28,24 +27,15 @@ pub command-answered : (s l o text : List ℕ) {s′ l′ o′ : List ℕ} {size
 unfolding answerOf said after
 command-answered s l o text e put left kept = rw (put .long, put .bytes, left, kept, ← e)
 
--- read and list leave the store
-pub read-keeps : (s : List ℕ) (k : ℕ) (out : List ℕ) → s ≡ perform s (read k out) .store
-unfolding perform afterIn grantedIn
-read-keeps s k out = sym (pick-same (eqb (numberIn s (read k out)) 0) s)
-
-pub list-keeps : (s out : List ℕ) → s ≡ perform s (list out) .store
-unfolding perform afterIn grantedIn
-list-keeps s out = sym (pick-same (eqb (numberIn s (list out)) 0) s)
+-- a call that, granted, leaves the store as it was, leaves it so in any case: read and list
+pub store-kept : (s : List ℕ) (c : Call) → s ≡ grantedIn s c → s ≡ perform s c .store
+unfolding perform afterIn
+store-kept s c e = sym (pick-same (eqb (numberIn s c) 0) s) ∙ ap (λ x. pick (eqb (numberIn s c) 0) x s) e
 
 -- every command but P's leaves the list buffer
 pub buffer-kept : (s l : List ℕ) (x : Line) → (x .letter ≡ 80 → ⊥) → l ≡ listLeft s (commandOf x) l
-unfolding commandOf listLeft
-buffer-kept s l x h =
-    either _ _ _ refl (either _ _ _ refl (either _ _ _ refl (either _ _ _ refl (either _ _ _ refl (either _ _ _ refl
-    (either _ _ _ refl (either _ _ _ refl (either _ _ _ refl (either _ _ _ refl (sym (ap (λ c. listLeft s c l) (pick-false (ne-eqb (x .letter) 80 h) _ _))))))))))))
-  where
-    either : (t : Bool) (c d : Command) → l ≡ listLeft s c l → l ≡ listLeft s d l → l ≡ listLeft s (pick t c d) l
-    either t c d p q = by-pick (λ y. l ≡ listLeft s y l) t c d (λ _. p) (λ _. q)
+unfolding listLeft
+buffer-kept s l x h = by-letter (λ c. l ≡ listLeft s c l) x refl refl refl refl refl refl refl refl refl refl (λ p. absurd (h p)) refl
 
 pub plain-answered : (s l o text : List ℕ) {s′ o′ : List ℕ} {r size : ℕ} → outcome (plain r) s′ ≡ executed s (commandOf (parsed text))
     → Put (numberLine r) o o′ size → (parsed text .letter ≡ 80 → ⊥) → answered size o′ s′ l ≡ answerOf s l o text

@@ -97,7 +97,8 @@ module _ (s : List ℕ) (ok : sound s ≡ true) (safe : lostIn (view s) ≡ fals
   unfolding unitAt keyOf
   unit-at u r a b =
       let at : ℕ = slotBytes * (sum u (listedFill v) + r) in
-      ap (unitOf (unitsIn v)) (ap (be32 written) (sym (add-zero at)) ∙ sym (be32-part at slotBytes written 0 (omega arith)) ∙ ap keyOf (record-at s ok safe rest u r a b))
+      ap (unitOf (unitsIn v))
+      (ap (be32 written) (sym (add-zero at)) ∙ sym (be32-part at slotBytes written 0 (omega arith)) ∙ ap keyOf (record-at s ok safe rest u r a b))
       ∙ record-home s ok safe u r a b
 
   place : (u r : ℕ) → u < 16 → r < listedFill v u → Before (listedFill v) (unitAt (unitsIn v) written) (sum u (listedFill v) + suc r) u (suc r)
@@ -111,7 +112,8 @@ module _ (s : List ℕ) (ok : sound s ≡ true) (safe : lostIn (view s) ≡ fals
       let i : ℕ = sum u (listedFill v) + r in
       let unit : ℕ → ℕ = unitAt (unitsIn v) written in
       let rank : rankBefore unit (suc i) ≡ suc r = ap (rankBefore unit) (sym (add-suc (sum u (listedFill v)) r)) ∙ place u r a b .rank in
-      ap₂ (λ w q. recordLine w q (part (slotBytes * i) slotBytes written)) (unit-at u r a b) rank ∙ ap (recordLine u (suc r)) (record-at s ok safe rest u r a b)))
+      ap₂ (λ w q. recordLine w q (part (slotBytes * i) slotBytes written)) (unit-at u r a b) rank
+      ∙ ap (recordLine u (suc r)) (record-at s ok safe rest u r a b)))
 
   pub own-records : slotBytes * totalIn v ≤ length written → Records (unitsIn v) written (totalIn v)
   unfolding totalIn rankBefore

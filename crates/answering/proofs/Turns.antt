@@ -25,11 +25,14 @@ reached-start = record { store = refl; list = refl; out = refl; list-long = refl
 module _ (s l o line : List ℕ) {s′ l′ o′ : List ℕ} {n : ℕ} (e : answered n o′ s′ l′ ≡ answerOf s l o line) where
   pub printed-fits : n ≤ length o′
   unfolding answerOf
-  printed-fits = omega (arith, ap (λ (a : Answered). a .size) e, ap (λ (a : Answered). length (a .out)) e, length-append (said s line) (drop (length (said s line)) o))
+  printed-fits =
+      let text : List ℕ = said s line in
+      omega (arith, ap (λ (a : Answered). a .size) e, ap (λ (a : Answered). length (a .out)) e, length-append text (drop (length text) o))
 
 module _ {s₀ l₀ o₀ text s l o : List ℕ} {at : ℕ} (g : Reached s₀ l₀ o₀ text s l o at) where
-  pub reached-turn : {s′ l′ o′ : List ℕ} {end n : ℕ} → at < length text → Ends text at end → answered n o′ s′ l′ ≡ answerOf s l o (take (end - at) (drop at text))
-      → length l′ ≡ length l → length o′ ≡ length o → Reached s₀ l₀ o₀ text s′ l′ o′ (end + 1)
+  pub reached-turn : {s′ l′ o′ : List ℕ} {end n : ℕ} → at < length text → Ends text at end
+      → answered n o′ s′ l′ ≡ answerOf s l o (take (end - at) (drop at text)) → length l′ ≡ length l → length o′ ≡ length o
+      → Reached s₀ l₀ o₀ text s′ l′ o′ (end + 1)
   unfolding answerOf afterAll listAfter outAfter
   reached-turn k ends e list-long out-long =
       let lines = next-line k ends in

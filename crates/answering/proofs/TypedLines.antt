@@ -3,11 +3,9 @@ use Prim.Native.Nat.{ℕ, _^_, _≤_, _<_}
 use native.Mathlib.Nat.{pow-le-pow-right}
 use native.Mathlib.Omega.{arith}
 use mathlib.Core.List.{List}
-use mathlib.Core.Bool.{Bool}
 use lib.Dec.{ltb}
 use borrow.Author.Tests.{ltb-true, ltb-false}
-use Rattle.buffer.specs.Choice.{pick}
-use Rattle.buffer.specs.ChoiceLaws.{by-test, by-pick}
+use Rattle.buffer.specs.ChoiceLaws.{by-test}
 use Rattle.buffer.specs.Bytes.{byte}
 use Rattle.buffer.specs.ByteLaws.{byte-past, byte-zeros}
 use Rattle.group.specs.Widths.{bodyBytes}
@@ -15,6 +13,7 @@ use Rattle.model.specs.history.Table.{number}
 use Rattle.model.specs.history.Typed.{Bytes, Typed}
 use Rattle.lines.specs.Line.{Line, unreadable, digitsOf, Proper, readable, parsed}
 use Rattle.lines.specs.LineLaws.{parsed-proper, parsed-refused}
+use Rattle.answering.specs.CommandLaws.{by-letter}
 use Rattle.answering.specs.Command.{Command, layout, call, unknown, commandOf}
 
 -- a number of no more than eight digits, and bytes
@@ -50,24 +49,7 @@ TypedCommand (layout b) = Unit {0}
 TypedCommand (call c) = Typed c
 TypedCommand unknown = Unit {0}
 
-typed-command : (x : Line) → Ranged x → TypedCommand (commandOf x)
-unfolding commandOf
-typed-command x r =
-    either _ _ _ tt
-    (either _ _ _ (r .key, r .body)
-    (either _ _ _ (r .key, r .body)
-    (either _ _ _ (r .key)
-    (either _ _ _ (r .key)
-    (either _ _ _ tt
-    (either _ _ _ tt
-    (either _ _ _ tt
-    (either _ _ _ tt
-    (either _ _ _ tt
-    (either _ _ _ tt
-    tt))))))))))
-  where
-    either : (t : Bool) (c d : Command) → TypedCommand c → TypedCommand d → TypedCommand (pick t c d)
-    either t c d h k = by-pick TypedCommand t c d (λ e. h) (λ e. k)
-
 pub line-typed : (l : List ℕ) → TypedCommand (commandOf (parsed l))
-line-typed l = typed-command (parsed l) (parsed-ranged l)
+line-typed l =
+    let r : Ranged (parsed l) = parsed-ranged l in
+    by-letter TypedCommand (parsed l) tt (r .key, r .body) (r .key, r .body) (r .key) (r .key) tt tt tt tt tt (λ _. tt) tt

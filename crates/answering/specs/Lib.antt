@@ -1,4 +1,5 @@
 pub mod Command
+pub mod CommandLaws
 pub mod Said
 pub mod Places
 pub mod Buffers

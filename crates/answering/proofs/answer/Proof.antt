@@ -3,33 +3,33 @@ use mathlib.Core.Path.{refl, ap, _∙_}
 use borrow.Author.Needs.{needs}
 use Rattle.buffer.specs.Choice.{pick}
 use Rattle.lines.specs.Line.{Line}
-use Rattle.model.specs.Perform.{reply, answerIn, perform}
+use Rattle.model.specs.Perform.{reply, grantedIn, answerIn, perform}
 use Rattle.answering.specs.Command.{commandOf}
 use Rattle.answering.specs.Said.{executed, printed}
 use Rattle.answering.specs.Buffers.{listLeft}
-use Rattle.answering.proofs.Answering.{read-command, command-answered, plain-answered, read-keeps, list-keeps}
+use Rattle.answering.proofs.Answering.{read-command, command-answered, plain-answered, store-kept}
 use Rattle.answering.proofs.answer.Statement.{statement}
 use Rattle.answering.proofs.answer.Tie as tie
 
 -- R
 returns : tie.Need-returns
-unfolding commandOf pick executed printed perform answerIn reply listLeft
+unfolding commandOf pick executed printed perform answerIn reply grantedIn listLeft
 returns c =
     let r = c .before .before in
     let at = r .before .before .before in
     let a = at .before .before .before .before .before .before .args in
     command-answered (a .store .now) (a .list .now) (a .out .now) (a .text .now) (read-command (at .before .parse .ensures) (at .match .keys1) refl)
-    (r .answer-read .ensures) (read-keeps _ _ _) refl
+    (r .answer-read .ensures) (store-kept _ _ refl) refl
 
 -- P
 returns-2 : tie.Need-returns-2
-unfolding commandOf pick executed listLeft
+unfolding commandOf pick executed grantedIn listLeft
 returns-2 c =
     let r = c .before .before .before .before in
     let at = r .before .before .before .before in
     let a = at .before .before .before .before .before .before .args in
     command-answered (a .store .now) (a .list .now) (a .out .now) (a .text .now) (read-command (at .before .parse .ensures) (at .match .keys2) refl)
-    (r .answer-list .ensures .0) (list-keeps _ _) (r .answer-list .ensures .1)
+    (r .answer-list .ensures .0) (store-kept _ _ refl) (r .answer-list .ensures .1)
 
 -- any other line
 returns-3 : tie.Need-returns-3

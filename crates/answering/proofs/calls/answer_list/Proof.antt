@@ -16,7 +16,8 @@ use Rattle.answering.proofs.calls.answer_list.Tie as tie
 abbrev start : tie.After-list → tie.Start
 start c = c .before .before .before .before .before
 
-made : (c : tie.After-list) → ListInto (start c .args .store .now) (start c .args .list .now) (c .list .last .1 .0) (c .list .result .number) (c .list .result .count)
+made : (c : tie.After-list)
+    → ListInto (start c .args .store .now) (start c .args .list .now) (c .list .last .1 .0) (c .list .result .number) (c .list .result .count)
 made c = record { ended = c .list .ensures; fits = start c .pre .0 }
 
 abbrev list : tie.After-struct-known → tie.After-list
@@ -28,7 +29,8 @@ number c = c .before .before .before
 returns : tie.Need-returns
 returns c =
     let l = list (c .before) in
-    (rw (← refused-printed (made l) (c .if1 .taken) (recordLines (view (start l .args .store .now)))) (number (c .before) .put-number .ensures), buffer-is (made l))
+    let records = recordLines (view (start l .args .store .now)) in
+    (rw (← refused-printed (made l) (c .if1 .taken) records) (number (c .before) .put-number .ensures), buffer-is (made l))
 
 -- ---- granted: the number's line has two bytes, and the records fit behind it
 two : (c : tie.Else1) → number (c .before) .put-number .result ≡ 2

@@ -10,7 +10,9 @@ put-argument-requires : tie.Need-put-argument-requires
 put-argument-requires c κs = simp length-set (omega arith)
 
 same-length : tie.Need-same-length
-same-length c = omega (arith, c .before .out .given, length-set (c .before .before .before .before .before .before .args .out .now) 0 48, length-set (set (c .before .before .before .before .before .before .args .out .now) 0 48) 1 32)
+same-length c =
+    let o = c .before .before .before .before .before .before .args .out .now in
+    omega (arith, c .before .out .given, length-set o 0 48, length-set (set o 0 48) 1 32)
 
 returns : tie.Need-returns
 returns c =
