@@ -1,7 +1,7 @@
 /*
- * A travel program's day: lays out a store, teaches park positions, loses two units, reads all the
- * same, repairs, and lists what is there. Build and run it with examples/run; examples/travel.out
- * is what it prints.
+ * A travel program's day: lays out a store, teaches park positions, adds a check unit, loses two
+ * units, reads all the same, repairs, and lists what is there. Build and run it with examples/run;
+ * examples/travel.out is what it prints.
  */
 #include "lhrs.h"
 
@@ -92,10 +92,10 @@ int main(void)
     uint8_t body[LHRS_BODY];
 
     expect("lay out", lhrs_lay_out(store, sizeof store, SLOTS), LHRS_GRANTED);
-    expect("raise the level to 2 check units", lhrs_raise(store, sizeof store), LHRS_GRANTED);
     while (LHRS_UNITS(store) < UNITS)
         expect("grow by a unit", lhrs_grow(store, sizeof store), LHRS_GRANTED);
     teach_positions();
+    expect("raise the level to 2 check units", lhrs_raise(store, sizeof store), LHRS_GRANTED);
 
     expect("unit 1 is swapped", lhrs_out(store, sizeof store, 1), LHRS_GRANTED);
     expect("unit 2 is swapped", lhrs_out(store, sizeof store, 2), LHRS_GRANTED);

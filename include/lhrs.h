@@ -20,9 +20,9 @@
  *
  * Records. A record is a key, 1 to 4,294,967,295, and a body of 16 bytes; any body will do, all
  * zeros too. Records are spread over 1 to 16 data units of b slots each. Each four data units form
- * a group (0-3, 4-7, 8-11, 12-15) with 1 to 3 check units, from which units that are lost are
- * rebuilt. A group survives as many lost units, data and check units together, as it has check
- * units.
+ * a group (0-3, 4-7, 8-11, 12-15). The store has a level, 1 to 3: each group with a data unit in
+ * place has that many check units, from which units that are lost are rebuilt. So a group survives
+ * as many lost units, data and check units together, as the level says.
  *
  * Numbers. Each call returns one of the numbers below. A call that returns another number than 0
  * changes no byte. Where several numbers apply, the first of 2, 1, 3, 9, 4, 8, 5, 6, 7 is given.
@@ -50,8 +50,8 @@ extern "C" {
 #define LHRS_CHECK_UNIT(g, j) (16u + 3u * (g) + (j))
 
 /* Of a store that was laid out, by a pointer to its first byte: the number of its data units, 1 to
-   16; its level, the number of check units that new groups get, 1 to 3; the state of a unit, one of
-   enum lhrs_state. They read one byte and test nothing. */
+   16; its level, the number of check units of each group, 1 to 3; the state of a unit, one of enum
+   lhrs_state. They read one byte and test nothing. */
 #define LHRS_UNITS(store) ((store)[6])
 #define LHRS_LEVEL(store) ((store)[7])
 #define LHRS_STATE(store, unit) ((store)[8u + (unit)])
@@ -65,8 +65,9 @@ enum lhrs_state {
 enum lhrs_number {
     /* The call was granted and has done what it says. */
     LHRS_GRANTED = 0,
-    /* The block holds no sound store: it was never laid out, it is cut off, or it is damaged.
-       Every call but lhrs_lay_out tests this. Parity bytes are not tested. */
+    /* The block holds no sound store: it was never laid out, it is cut off, it is damaged, or its
+       first byte says another version than 2. Every call but lhrs_lay_out tests this. Parity bytes
+       are not tested. */
     LHRS_NOT_SOUND = 1,
     /* An argument is outside its range: key 0, b not 1 to 64, a body or an output that is not 16
        bytes long, a unit above 27, a group above 3. */
@@ -74,8 +75,8 @@ enum lhrs_number {
     /* There is no such unit or group in the store at present. */
     LHRS_NOT_IN_PLACE = 3,
     /* A unit is out: in the group of the key's unit (teach, correct, erase); in the group of the
-       unit added or removed, or of the unit that it is split from (grow, shrink); or the unit is
-       out already (out). Repair the group first. */
+       unit added or removed, or of the unit that it is split from (grow, shrink); anywhere in the
+       store (raise); or the unit is out already (out). Repair the group first. */
     LHRS_UNIT_OUT = 4,
     /* The key is taught already. lhrs_correct gives it a new body. */
     LHRS_KEY_PRESENT = 5,
@@ -88,7 +89,7 @@ enum lhrs_number {
     /* More units of a group are out than it has check units: nothing can be rebuilt (repair; read of
        a key whose unit is out there; list with a data unit out there). */
     LHRS_BEYOND_RECOVERY = 8,
-    /* A limit: grow at 16 units, shrink at 1, or a raise that is not granted. */
+    /* A limit: grow at 16 units, shrink at 1, raise at level 3. */
     LHRS_LIMIT = 9
 };
 
@@ -149,22 +150,23 @@ uint8_t lhrs_out(uint8_t *store, size_t len, uint32_t unit);
 uint8_t lhrs_repair(uint8_t *store, size_t len, uint32_t group);
 
 /*
- * Adds a data unit, up to 16; an existing unit is split to fill it.
+ * Adds a data unit, up to 16; an existing unit is split to fill it. A group that starts with it gets
+ * as many check units as the level says.
  * Returns 0, 1, 4 or 9.
  */
 uint8_t lhrs_grow(uint8_t *store, size_t len);
 
 /*
- * Removes the last data unit; its records go back to the unit that it was split from.
+ * Removes the last data unit; its records go back to the unit that it was split from. A group left
+ * with no data unit loses its check units.
  * Returns 0, 1, 4, 7 or 9.
  */
 uint8_t lhrs_shrink(uint8_t *store, size_t len);
 
 /*
- * Raises the level, the number of check units that new groups get, by one, up to 3. Groups in place
- * get theirs when their first data unit is next split. Granted only while the number of data units
- * is 1, 2, 4 or 8.
- * Returns 0, 1 or 9.
+ * Raises the level by one, up to 3, at any number of data units: each group with a data unit in
+ * place gets one more check unit, made from the group's records.
+ * Returns 0, 1, 4 or 9.
  */
 uint8_t lhrs_raise(uint8_t *store, size_t len);
 

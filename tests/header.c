@@ -1,6 +1,7 @@
 /*
  * What include/lhrs.h says and the other tests do not show: a pointer with length 0 may be null, and
- * what its macros read. It is C99 and C++98. Build and run it with tests/header.
+ * what its macros read, the check units of each group by the level too. It is C99 and C++98. Build
+ * and run it with tests/header.
  */
 #include "lhrs.h"
 
@@ -55,7 +56,7 @@ static void list_into_nothing(void)
     expect("count of a refused list", count, 0);
 }
 
-/* What the macros read of a store with so many data units, so many levels, and unit 0 in a state. */
+/* What the macros read of a store with so many data units, at a level, with unit 0 in a state. */
 static void reads(unsigned units, unsigned level, enum lhrs_state first)
 {
     expect("units", LHRS_UNITS(store), units);
@@ -68,6 +69,60 @@ static void reads(unsigned units, unsigned level, enum lhrs_state first)
            LHRS_STATE_NOT_IN_PLACE);
 }
 
+/* Each group with a data unit in place has as many check units as the level says, all in service;
+   there are no others. */
+static void check_units(unsigned units, unsigned level)
+{
+    unsigned group, j;
+    expect("units", LHRS_UNITS(store), units);
+    expect("level", LHRS_LEVEL(store), level);
+    for (group = 0; group < 4; group++) {
+        for (j = 0; j < 3; j++) {
+            int due = 4 * group < units && j < level;
+            expect("state of a check unit", LHRS_STATE(store, LHRS_CHECK_UNIT(group, j)),
+                   due ? LHRS_STATE_IN_SERVICE : LHRS_STATE_NOT_IN_PLACE);
+        }
+    }
+}
+
+/* A raise takes hold in every group at once; not while a unit is out, and not above level 3. */
+static void raise_everywhere(void)
+{
+    unsigned unit, units;
+    expect("lay out", lhrs_lay_out(store, sizeof store, SLOTS), LHRS_GRANTED);
+    for (units = 1; units < 6; units++)
+        expect("grow", lhrs_grow(store, sizeof store), LHRS_GRANTED);
+    check_units(6, 1);
+    expect("raise", lhrs_raise(store, sizeof store), LHRS_GRANTED);
+    check_units(6, 2);
+    for (unit = 0; unit < 28; unit++) {
+        if (LHRS_STATE(store, unit) == LHRS_STATE_NOT_IN_PLACE)
+            continue;
+        expect("out", lhrs_out(store, sizeof store, unit), LHRS_GRANTED);
+        expect("raise, a unit out", lhrs_raise(store, sizeof store), LHRS_UNIT_OUT);
+        expect("repair", lhrs_repair(store, sizeof store, 0), LHRS_GRANTED);
+        expect("repair", lhrs_repair(store, sizeof store, 1), LHRS_GRANTED);
+    }
+    for (; units < 9; units++)
+        expect("grow", lhrs_grow(store, sizeof store), LHRS_GRANTED);
+    check_units(9, 2);
+    expect("raise", lhrs_raise(store, sizeof store), LHRS_GRANTED);
+    check_units(9, 3);
+    expect("raise at level 3", lhrs_raise(store, sizeof store), LHRS_LIMIT);
+    expect("shrink", lhrs_shrink(store, sizeof store), LHRS_GRANTED);
+    check_units(8, 3);
+}
+
+/* A store that says another version is not sound. */
+static void other_version(void)
+{
+    expect("version", store[0], 2);
+    store[0] = 1;
+    expect("raise, version 1", lhrs_raise(store, sizeof store), LHRS_NOT_SOUND);
+    store[0] = 2;
+    expect("grow, version 2", lhrs_grow(store, sizeof store), LHRS_GRANTED);
+}
+
 int main(void)
 {
     expect("lay out", lhrs_lay_out(store, sizeof store, SLOTS), LHRS_GRANTED);
@@ -78,5 +133,7 @@ int main(void)
     expect("grow", lhrs_grow(store, sizeof store), LHRS_GRANTED);
     expect("out", lhrs_out(store, sizeof store, 0), LHRS_GRANTED);
     reads(2, 2, LHRS_STATE_OUT);
+    raise_everywhere();
+    other_version();
     return EXIT_SUCCESS;
 }

@@ -1,6 +1,6 @@
 -- Laws of `pick`, and proofs by cases on a test. Assumes nothing.
 use mathlib.Core.Path.{_≡_, refl}
-use mathlib.Core.Bool.{Bool, true, false, _&&_}
+use mathlib.Core.Bool.{Bool, true, false, _||_}
 use Rattle.buffer.specs.Choice.{pick}
 
 -- a proof by cases on a test, each with what the test said
@@ -41,8 +41,9 @@ unfolding pick
 pick-map f true x y = refl
 pick-map f false x y = refl
 
--- a pick within a pick, of which either may leave y
-pub pick-and {ℓ} : {A : Type ℓ} (s t : Bool) (x y : A) → pick s (pick t x y) y ≡ pick (s && t) x y
+-- a pick within a pick, of which either may pick x
+pub pick-or {ℓ} : {A : Type ℓ} (s t : Bool) (x y : A) → pick t x (pick s x y) ≡ pick (s || t) x y
 unfolding pick
-pick-and true t x y = refl
-pick-and false t x y = refl
+pick-or true true x y = refl
+pick-or true false x y = refl
+pick-or false t x y = refl

@@ -1,17 +1,18 @@
--- What holds at each turn of a loop that writes a list: entry by entry from the front, by a change each turn, or piece behind piece. A record
--- for each kind, which holds at the start, is handed on by a turn, and gives the list at the end. Assumes nothing.
+-- What holds at each turn of a loop that writes a list: entry by entry from the front or from a place on, or piece behind piece. A record for each
+-- kind, which holds at the start, is handed on by a turn, and gives the list at the end. Assumes nothing.
 use mathlib.Core.Path.{_≡_, refl, sym, ap, _∙_}
 use mathlib.Core.List.{List, [], _∷_, _++_, append-assoc, append-nil}
 use Prim.Native.Nat.{ℕ, zero, suc, _+_, _*_, _≤_, _<_}
 use native.Mathlib.Nat.{le-of-suc-le-suc, not-suc-le-zero}
 use native.Mathlib.Numerals.{add-one}
 use native.Mathlib.Omega.{arith}
-use lib.ListN.{length, getD, set, drop, length-append, length-set, drop-of-length-le, List·getD-eq-default}
+use lib.ListN.{length, getD, set, drop, length-append, length-set, take-append-drop, drop-of-length-le, List·getD-eq-default}
 use lib.Seq.{take-at, drop-at, drop-drop}
-use Rattle.buffer.specs.Loops.{iter, entries}
-use Rattle.buffer.specs.RangeLaws.{length-entries, iter-none, iter-more}
-use Rattle.buffer.specs.Bytes.{splice}
-use Rattle.buffer.specs.SpliceLaws.{length-splice}
+use Rattle.buffer.specs.Loops.{entries}
+use Rattle.buffer.specs.RangeLaws.{length-entries}
+use Rattle.buffer.specs.Bytes.{byte, splice}
+use Rattle.buffer.specs.SpliceLaws.{length-splice, splice-next, set-splice}
+use Rattle.buffer.specs.ByteLaws.{byte-splice-before}
 use Rattle.buffer.specs.Table.{tab}
 use Rattle.buffer.specs.TableLaws.{Wide, tab-more, length-tab}
 
@@ -71,24 +72,33 @@ filling-end {f} {l₀} {l} {i} g h =
     let e : i ≡ length l₀ = omega arith in
     g .bytes ∙ rw e (filled-all f l₀ (length l₀) (omega arith))
 
--- ---- by a change each turn that keeps the length
-pub record Stepping (f : ℕ → List ℕ → List ℕ) (n : ℕ) (l₀ l : List ℕ) (i : ℕ) : Type 0 where
-  pub within : i ≤ n
+-- ---- from a place on, an entry a turn; what stands before it may be read meanwhile
+pub record FillingFrom (f : ℕ → ℕ) (at : ℕ) (l₀ l : List ℕ) (i : ℕ) : Type 0 where
   pub long : length l ≡ length l₀
-  pub bytes : l ≡ iter i f l₀
+  pub bytes : l ≡ splice at i (entries i f) l₀
 
-pub stepping-start : {f : ℕ → List ℕ → List ℕ} {n : ℕ} {l : List ℕ} → Stepping f n l l 0
-stepping-start {f} {n} {l} = record { within = omega arith; long = refl; bytes = sym (iter-none f l) }
+entries-more : (f : ℕ → ℕ) (i : ℕ) → entries i f ++ (f i ∷ []) ≡ entries (suc i) f
+unfolding entries
+entries-more f zero = refl
+entries-more f (suc i) = ap (λ (t : List ℕ). f 0 ∷ t) (entries-more (λ (k : ℕ). f (suc k)) i)
 
-pub stepping-turn : {f : ℕ → List ℕ → List ℕ} {n : ℕ} {l₀ l l′ : List ℕ} {i : ℕ} → Stepping f n l₀ l i → i < n → length l′ ≡ length l → l′ ≡ f i l
-    → Stepping f n l₀ l′ (i + 1)
-stepping-turn {f} {n} {l₀} {l} {l′} {i} g h k e =
-    record { within = omega arith; long = k ∙ g .long; bytes = e ∙ ap (f i) (g .bytes) ∙ sym (iter-more i f l₀) }
+pub from-start : {f : ℕ → ℕ} {at : ℕ} {l : List ℕ} → FillingFrom f at l l 0
+unfolding splice entries
+from-start {f} {at} {l} = record { long = refl; bytes = sym (take-append-drop at l) }
 
-pub stepping-end : {f : ℕ → List ℕ → List ℕ} {n : ℕ} {l₀ l : List ℕ} {i : ℕ} → Stepping f n l₀ l i → n ≤ i → l ≡ iter n f l₀
-stepping-end {f} {n} {l₀} {l} {i} g h =
-    let same : i ≡ n = omega arith in
-    g .bytes ∙ ap (λ m. iter m f l₀) same
+pub from-turn : {f : ℕ → ℕ} {at : ℕ} {l₀ l : List ℕ} {i : ℕ} (v : ℕ) → FillingFrom f at l₀ l i → at + i < length l → v ≡ f i
+    → FillingFrom f at l₀ (set l (at + i) v) (i + 1)
+from-turn {f} {at} {l₀} {l} {i} v g h q = record {
+  long = length-set l (at + i) v ∙ g .long;
+  bytes =
+      set-splice l (at + i) v h
+      ∙ ap (splice (at + i) 1 (v ∷ [])) (g .bytes)
+      ∙ splice-next at i 1 (entries i f) (v ∷ []) l₀ (omega (arith, g .long)) (length-entries i f)
+      ∙ rw (q, add-one) (ap (λ (x : List ℕ). splice at (suc i) x l₀) (entries-more f i));
+}
+
+pub from-read : {f : ℕ → ℕ} {at : ℕ} {l₀ l : List ℕ} {i : ℕ} → FillingFrom f at l₀ l i → (k : ℕ) → at ≤ length l₀ → k < at → byte l k ≡ byte l₀ k
+from-read {f} {at} {l₀} {l} {i} g k h p = ap (λ (x : List ℕ). byte x k) (g .bytes) ∙ byte-splice-before at i (entries i f) l₀ k h p
 
 -- ---- piece behind piece; `at` is where the next goes
 pub record Appending (f : ℕ → List ℕ) (n : ℕ) (o₀ o : List ℕ) (i at : ℕ) : Type 0 where

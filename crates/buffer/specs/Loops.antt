@@ -1,4 +1,4 @@
--- What a loop over 0 to n - 1 does: steps in a row, a list filled entry by entry, a test of every byte. Assumes nothing.
+-- What a loop over 0 to n - 1 does: a list filled entry by entry, a test of every byte. Assumes nothing.
 use Prim.Native.Nat.{ℕ, zero, suc}
 use mathlib.Core.Bool.{Bool}
 use mathlib.Core.List.{List, [], _∷_}
@@ -10,11 +10,6 @@ use Rattle.buffer.specs.Range.{all}
 -- every byte is zero
 unfoldable pub allZero : List ℕ → Bool
 allZero s = all (length s) (λ i. eqb (byte s i) 0)
-
--- f 0 to f (n - 1), one after the other
-unfoldable pub iter : {A : Type 0} → ℕ → (ℕ → A → A) → A → A
-iter zero f a = a
-iter (suc n) f a = f n (iter n f a)
 
 -- the list of the numbers f 0 to f (n - 1)
 unfoldable pub entries : ℕ → (ℕ → ℕ) → List ℕ

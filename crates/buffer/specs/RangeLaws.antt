@@ -10,12 +10,12 @@ use native.Mathlib.Omega.{arith}
 use lib.Dec.{ltb}
 use lib.ListN.{length, getD}
 use lib.Seq.{ext-getD}
-use borrow.Author.Tests.{ltb-true, ltb-false}
+use borrow.Author.Tests.{ltb-true, ltb-false, lt-ltb, le-ltb}
 use Rattle.buffer.specs.Choice.{pick}
 use Rattle.buffer.specs.ChoiceLaws.{by-test, by-pick, pick-true, pick-false}
 use Rattle.buffer.specs.TestLaws.{and-true, and-first, and-second, not-both}
 use Rattle.buffer.specs.Range.{all, count, first, sum}
-use Rattle.buffer.specs.Loops.{iter, entries}
+use Rattle.buffer.specs.Loops.{entries}
 
 -- what holds at n and at each below it holds at each below its successor
 pub below-suc {ℓ} : (P : ℕ → Type ℓ) (n : ℕ) → ((k : ℕ) → k < n → P k) → P n → (k : ℕ) → k < suc n → P k
@@ -119,6 +119,15 @@ pub count-append : (n m : ℕ) (p : ℕ → Bool) → count (n + m) p ≡ count 
 unfolding count
 count-append n zero p = let e : n + 0 ≡ n = omega arith in rw e (omega arith)
 count-append n (suc m) p = let e : n + suc m ≡ suc (n + m) = omega arith in rw (e, count, count-append n m p) (omega arith)
+
+-- the numbers below k
+pub count-below : (n k : ℕ) → k ≤ n → count n (λ j. ltb j k) ≡ k
+count-below n k h =
+    let d : k + (n - k) ≡ n = omega arith in
+    sym (ap (λ (m : ℕ). count m (λ j. ltb j k)) d)
+    ∙ count-append k (n - k) (λ j. ltb j k)
+    ∙ ap₂ (λ (a b : ℕ). a + b) (count-holds k _ (λ j l. lt-ltb j k l)) (count-fails (n - k) _ (λ j l. le-ltb (k + j) k (omega arith)))
+    ∙ add-zero k
 
 -- a test that is counted in two parts
 pub count-parts : (n : ℕ) (p q r : ℕ → Bool) → ((k : ℕ) → k < n → pick (p k) 1 0 + pick (q k) 1 0 ≡ pick (r k) 1 0) → count n p + count n q ≡ count n r
@@ -254,25 +263,18 @@ sum-mono n zero f h = let e : n ≡ 0 = omega arith in rw e (omega arith)
 sum-mono n (suc m) f h =
     ⊎-elim (λ e. rw e (omega arith)) (λ l. let ih : sum n f ≤ sum m f = sum-mono n m f (le-of-suc-le-suc l) in omega arith) (eq-or-lt-of-le h)
 
--- ---- iter
-pub iter-none : {A : Type 0} (f : ℕ → A → A) (a : A) → iter 0 f a ≡ a
-unfolding iter
-iter-none f a = refl
+pub sum-add : (n : ℕ) (f g : ℕ → ℕ) → sum n (λ k. f k + g k) ≡ sum n f + sum n g
+unfolding sum
+sum-add zero f g = refl
+sum-add (suc n) f g = rw (sum-add n f g) (omega arith)
 
-pub iter-more : {A : Type 0} (n : ℕ) (f : ℕ → A → A) (a : A) → iter (n + 1) f a ≡ f n (iter n f a)
-unfolding iter
-iter-more n f a = rw add-one
-
-pub iter-ext : {A : Type 0} (n : ℕ) (f g : ℕ → A → A) (a : A) → ((k : ℕ) (x : A) → k < n → f k x ≡ g k x) → iter n f a ≡ iter n g a
-unfolding iter
-iter-ext zero f g a h = refl
-iter-ext (suc n) f g a h = h n (iter n f a) (omega arith) ∙ ap (g n) (iter-ext n f g a (λ k x l. h k x (omega arith)))
-
--- what each turn keeps
-pub iter-keeps {ℓ} : {A : Type 0} (P : A → Type ℓ) (n : ℕ) (f : ℕ → A → A) (a : A) → P a → ((k : ℕ) (x : A) → k < n → P x → P (f k x)) → P (iter n f a)
-unfolding iter
-iter-keeps P zero f a p h = p
-iter-keeps P (suc n) f a p h = h n (iter n f a) (omega arith) (iter-keeps P n f a p (λ k x l. h k x (omega arith)))
+-- a count over n blocks of w numbers each
+pub count-blocks : (n w : ℕ) (p : ℕ → Bool) → count (w * n) p ≡ sum n (λ k. count w (λ i. p (w * k + i)))
+unfolding sum
+count-blocks zero w p = let e : w * 0 ≡ 0 = omega arith in rw e (count-none p)
+count-blocks (suc n) w p =
+    let e : w * suc n ≡ w * n + w = omega arith in
+    rw e (count-append (w * n) w p ∙ ap (λ (m : ℕ). m + count w (λ i. p (w * n + i))) (count-blocks n w p))
 
 -- ---- entries
 pub length-entries : (n : ℕ) (f : ℕ → ℕ) → length (entries n f) ≡ n

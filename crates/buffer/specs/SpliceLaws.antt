@@ -95,6 +95,22 @@ splice-next at n m x y s h e =
     both : length (take at s ++ x) ≡ at + n
     both = simp (length-append, length-take) (omega arith)
 
+-- the same where the second part is replaced first
+pub splice-before : (at n m : ℕ) (x y s : List ℕ) → at + n ≤ length s → splice at n x (splice (at + n) m y s) ≡ splice at (n + m) (x ++ y) s
+unfolding splice
+splice-before at n m x y s h =
+    let front : length (take (at + n) s) ≡ at + n = length-take-le (at + n) s h in
+    let rest : List ℕ = y ++ drop m (drop (at + n) s) in
+    rw (
+      take-append-le at (take (at + n) s) rest (omega arith),
+      take-take at (at + n) s (omega arith),
+      drop-drop n at (take (at + n) s ++ rest),
+      drop-at (take (at + n) s) rest (at + n) front,
+      ← drop-drop n at s,
+      drop-drop m n (drop at s),
+    )
+    (simp append-assoc)
+
 -- ---- a part as code lends it, from `at` to `at + n`: its bytes, its length, and the whole when the part is back
 pub part-lent : (s : List ℕ) (at n to : ℕ) → at ≡ to → take (at + n - at) (drop at s) ≡ part to n s
 unfolding part

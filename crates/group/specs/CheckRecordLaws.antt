@@ -6,14 +6,15 @@ use Prim.Native.Nat.{ℕ, _+_, _*_, _≤_, _<_}
 use native.Mathlib.Omega.{arith}
 use lib.ListN.{length, take, drop, length-append, length-drop}
 use lib.Seq.{take-at, drop-at, length-take-le}
-use Rattle.buffer.specs.Bytes.{splice}
+use Rattle.buffer.specs.Bytes.{zeros, splice}
+use Rattle.buffer.specs.ByteLaws.{length-zeros, zeros-append}
 use Rattle.buffer.specs.SpliceLaws.{length-splice}
 use Rattle.buffer.specs.Table.{tab, upd}
-use Rattle.buffer.specs.TableLaws.{Wide, length-tab, tab-ext, splice-chunk, upd-map}
+use Rattle.buffer.specs.TableLaws.{Wide, length-tab, tab-ext, tab-zeros, splice-chunk, upd-map}
 use Rattle.group.specs.Widths.{keyBytes, keysBytes}
 use Rattle.group.specs.Body.{addBody}
 use Rattle.group.specs.Parity.{parity, adjusted}
-use Rattle.group.specs.ParityLaws.{parity-ext, length-parity, length-adjusted, parity-upd, parity-error}
+use Rattle.group.specs.ParityLaws.{parity-ext, length-parity, parity-zeros, length-adjusted, parity-upd, parity-error}
 use Rattle.group.specs.CheckRecord.{checkRecord, patched}
 
 -- ---- the two parts of a slot
@@ -56,6 +57,23 @@ pub checkRecord-parity : (n j : ℕ) (slots : ℕ → List ℕ) → Wide 4 (keyB
     → drop keysBytes (checkRecord j slots) ≡ parity j (λ p. drop keyBytes (slots p))
 unfolding checkRecord
 checkRecord-parity n j slots h = drop-at (tab 4 (keys slots)) (parity j (bodies slots)) keysBytes (length-keys n slots h)
+
+-- ---- empty slots: their two parts
+key-zeros : (n : ℕ) → take keyBytes (zeros (keyBytes + n)) ≡ zeros keyBytes
+key-zeros n = ap (take keyBytes) (sym (zeros-append keyBytes n)) ∙ take-at (zeros keyBytes) (zeros n) keyBytes (length-zeros keyBytes)
+
+body-zeros : (n : ℕ) → drop keyBytes (zeros (keyBytes + n)) ≡ zeros n
+body-zeros n = ap (drop keyBytes) (sym (zeros-append keyBytes n)) ∙ drop-at (zeros keyBytes) (zeros n) keyBytes (length-zeros keyBytes)
+
+-- the record of empty slots
+pub checkRecord-zeros : (n j : ℕ) → j < 3 → checkRecord j (λ _. zeros (keyBytes + n)) ≡ zeros (keysBytes + n)
+unfolding checkRecord
+checkRecord-zeros n j k =
+    ap₂
+    (λ x y. x ++ y)
+    (tab-ext 4 (λ _. take keyBytes (zeros (keyBytes + n))) (λ _. zeros keyBytes) (λ p l. key-zeros n) ∙ tab-zeros 4 keyBytes)
+    (parity-ext j (λ _. drop keyBytes (zeros (keyBytes + n))) (λ _. zeros n) (λ p l. body-zeros n) ∙ parity-zeros n j k)
+    ∙ zeros-append keysBytes n
 
 -- ---- following
 -- the keys of a record, one replaced, keep their length

@@ -5,11 +5,11 @@ pub mod BodyLaws
 pub mod Four
 pub mod Parity
 pub mod ParityLaws
+pub mod ExchangeLaws
 pub mod ScaledRow
 pub mod CheckRecord
 pub mod CheckRecordLaws
 pub mod FollowLaws
-pub mod MakingLaws
 pub mod Members
 pub mod MembersLaws
 pub mod Rebuilding

@@ -1,9 +1,10 @@
-// The parities of four bodies at the three check places, by two rows of products, which a caller takes once and lends: every byte times 8, and
-// times 7.
+// The parities of four bodies at check place 0 and at all three check places, by two rows of products, which a caller takes once and lends: every
+// byte times 8, and times 7.
 ghost use mathlib.Core.Path.{_≡_};
-ghost use Prim.Native.Nat.{_<_};
+ghost use Prim.Native.Nat.{_+_, _≤_, _<_};
 ghost use lib.Bits.{bitXor};
 ghost use lib.ListN.{length};
+ghost use Rattle.buffer.specs.Bytes.{part, splice};
 ghost use Rattle.code.specs.Scaling.{scale};
 ghost use Rattle.code.specs.Products.{products};
 ghost use Rattle.group.specs.Widths.{bodyBytes};
@@ -54,6 +55,30 @@ fn mix(eights: &[u8; 256], sevens: &[u8; 256], a: u8, b: u8, c: u8, d: u8) -> u8
         (scale (coefficient 3 0) d) ⌝ }
 {
     eights[buffer::wide(a ^ b)] ^ sevens[buffer::wide(b ^ d)] ^ c
+}
+
+// The parity at check place 0 of the bodies that stand in s from a, b, c and d on, written from `to` on, behind them: so it needs no array of its own.
+// At another check place the parity is that of the bodies exchanged by pairs.
+pub fn write_first(
+    s: &mut [u8],
+    to: usize,
+    a: usize,
+    b: usize,
+    c: usize,
+    d: usize,
+    eights: &[u8; 256],
+    sevens: &[u8; 256],
+)
+    requires { ⌜ (to + bodyBytes ≤ length (now s)) × (a + bodyBytes ≤ to) × (b + bodyBytes ≤ to) × (c + bodyBytes ≤ to) × (d + bodyBytes ≤ to)
+        × (now eights ≡ firstRow) × (now sevens ≡ secondRow) ⌝ }
+    ensures { λ _. ⌜ now (s .exit) ≡ splice to bodyBytes (parity 0 (fourBodies (part a bodyBytes (now (s .entry))) (part b bodyBytes (now (s .entry)))
+        (part c bodyBytes (now (s .entry))) (part d bodyBytes (now (s .entry))))) (now (s .entry)) ⌝ }
+{
+    let mut i = 0;
+    while i < super::BODY {
+        s[to + i] = mix(eights, sevens, s[a + i], s[b + i], s[c + i], s[d + i]);
+        i += 1;
+    }
 }
 
 // The parities of four bodies at the three check places. Check places 1 and 2 have the coefficients of check place 0 with the places exchanged by pairs.

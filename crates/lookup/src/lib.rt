@@ -22,7 +22,7 @@ ghost use Rattle.lookup.specs.Groups.{Recoverable, goneIn};
 ghost use Rattle.lookup.specs.Slots.{heldAt, Recipe};
 
 // The header of a store: what byte 0 holds, where the length, b, M, K and the states of data units and check units stand, and where the slots begin.
-pub const VERSION: u8 = 1;
+pub const VERSION: u8 = 2;
 
 pub const LENGTH_AT: usize = 1;
 

@@ -8,7 +8,7 @@ use borrow.Author.Tests.{ltb-true, ltb-false}
 use Rattle.buffer.specs.ChoiceLaws.{by-test}
 use Rattle.model.specs.Units.{splitPointer, unitOf}
 use Rattle.model.specs.Demand2.{LinearHashing}
-use Rattle.model.proofs.history.ledger.Shared.{Power, power-of}
+use Rattle.model.proofs.history.ledger.Power.{Power, power-of}
 
 double : (j : ℕ) → 2 ^ (j + 1) ≡ 2 * 2 ^ j
 double j = omega (arith, pow-add 2 j 1)

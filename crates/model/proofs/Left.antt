@@ -1,25 +1,31 @@
--- The store that a granted call leaves, part by part, of any sound store: read back from the bytes (`left-same`), and for a repair (`repair-left`).
--- Assumes nothing.
-use Prim.Native.Nat.{ℕ, _<_}
+-- The store that a granted call leaves, part by part, of any sound store: read back from the bytes (`left-same`), for a repair (`repair-left`) and for a
+-- raise (`raise-left`); and the units that keep their bytes (`unit-kept`). Assumes nothing.
+use Prim.Native.Nat.{ℕ, _-_, _<_}
 use mathlib.Core.Path.{_≡_, refl}
 use mathlib.Core.List.{List}
 use mathlib.Core.Bool.{true, false}
 use native.Mathlib.Omega.{arith}
-use borrow.Author.Tests.{eq-eqb, ltb-false, not-false}
-use Rattle.buffer.specs.ChoiceLaws.{pick-true}
+use lib.Dec.{ltb}
+use borrow.Author.Tests.{eq-eqb, ltb-true, ltb-false, not-false}
+use Rattle.buffer.specs.Choice.{pick}
+use Rattle.buffer.specs.ChoiceLaws.{by-test, pick-true}
+use Rattle.buffer.specs.Table.{tab}
+use Rattle.buffer.specs.TableLaws.{tab-ext}
 use Rattle.model.specs.Layout.{Store, bytes, view}
 use Rattle.model.specs.LayoutLaws.{Shaped, Same, view-bytes, view-shaped}
-use Rattle.model.specs.Reads.{beyondIn}
+use Rattle.model.specs.Reads.{stateIn, beyondIn}
 use Rattle.model.specs.Sound.{sound}
 use Rattle.model.specs.SoundSays.{ranged, states-low}
-use Rattle.model.specs.Changes.{repaired}
-use Rattle.model.specs.Numbers.{Call, repair, refusalsIn, numberIn}
+use Rattle.model.specs.Changes.{repaired, raised}
+use Rattle.model.specs.Numbers.{Call, repair, raise, refusalsIn, numberIn}
 use Rattle.model.specs.RowLaws.{Free}
 use Rattle.model.specs.Perform.{grantedIn, afterIn, perform}
 use Rattle.model.specs.PerformLaws.{none-holds}
 use Rattle.model.specs.MadeAnew.{leftBy}
+use Rattle.model.specs.history.Runs.{unitIn}
 use Rattle.model.proofs.history.alike.Alike.{Alike, alike-refl, left-shaped}
 use Rattle.model.proofs.history.alike.Repaired.{repaired-alike}
+use Rattle.model.proofs.history.alike.Raised.{raised-alike}
 
 -- ---- a sound store
 
@@ -67,3 +73,31 @@ module _ (s : List ℕ) (g : ℕ) (zero : numberIn s (repair g) ≡ 0) where
       let v : Store = view s in
       left-same s (repair g) zero (repaired v g) refl
       (left-shaped (repaired v g) (repaired v g) (repaired-alike v v (itself s repair-sound) g repair-group (states-low s repair-sound) repair-near))
+
+-- ---- a granted raise
+
+module _ (s : List ℕ) (zero : numberIn s raise ≡ 0) where
+  pub raise-sound : sound s ≡ true
+  unfolding refusalsIn
+  raise-sound = not-false (sound s) (free s raise zero .0)
+
+  pub raise-left : Same (leftBy s raise) (raised (view s))
+  unfolding grantedIn
+  raise-left =
+      let v : Store = view s in
+      left-same s raise zero (raised v) refl (left-shaped (raised v) (raised v) (raised-alike v v (itself s raise-sound)))
+
+-- ---- units in service that keep what they hold keep their bytes
+
+module _ (v t : Store) (size : t .size ≡ v .size) (slots : (u r : ℕ) → u < 16 → r < v .size → v .dstate u ≡ 1 → t .slot u r ≡ v .slot u r)
+    (checks : (c r : ℕ) → c < 12 → r < v .size → v .cstate c ≡ 1 → t .check c r ≡ v .check c r) where
+  pub unit-kept : (w : ℕ) → w < 28 → stateIn v w ≡ 1 → unitIn t w ≡ unitIn v w
+  unfolding stateIn unitIn pick
+  unit-kept w l =
+      let c : ℕ = w - 16 in
+      by-test (λ b. ltb w 16 ≡ b → pick b (v .dstate w) (v .cstate c) ≡ 1
+      → pick b (tab (t .size) (t .slot w)) (tab (t .size) (t .check c)) ≡ pick b (tab (v .size) (v .slot w)) (tab (v .size) (v .check c)))
+      (ltb w 16)
+      (λ _ q e. rw size (tab-ext (v .size) (t .slot w) (v .slot w) (λ r m. slots w r (ltb-true w 16 q) m e)))
+      (λ _ q e. rw size (tab-ext (v .size) (t .check c) (v .check c) (λ r m. checks c r (omega (arith, ltb-false w 16 q)) m e)))
+      refl

@@ -9,3 +9,4 @@ pub mod Hashing
 pub mod RebuiltSlots
 pub mod Recovered
 pub mod Demand2
+pub mod Level

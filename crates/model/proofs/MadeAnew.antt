@@ -1,26 +1,27 @@
--- The check units that grow, shrink and repair make anew hold the check records of the slots that the call leaves, whatever the store. Assumes nothing.
+-- The check units that grow, shrink, repair and raise make anew hold the check records of the slots that the call leaves, whatever the store. Assumes nothing.
 use Prim.Native.Nat.{ℕ, pred, _+_, _*_, _/_, _%_, _<_}
 use mathlib.Core.Path.{_≡_, refl, sym, _∙_}
 use mathlib.Core.List.{List}
-use mathlib.Core.Bool.{true}
+use mathlib.Core.Bool.{true, _&&_}
 use native.Mathlib.Omega.{arith}
-use borrow.Author.Tests.{eq-eqb, leb-false, not-false}
+use lib.Dec.{eqb, ltb}
+use borrow.Author.Tests.{eq-eqb, lt-ltb, leb-false, not-false}
 use Rattle.buffer.specs.ChoiceLaws.{pick-true}
 use Rattle.buffer.specs.TestLaws.{and-true}
 use Rattle.group.specs.CheckRecordLaws.{checkRecord-ext}
 use Rattle.model.specs.Units.{splitPointer, touched}
-use Rattle.model.specs.Layout.{Store, view, unitsIn}
+use Rattle.model.specs.Layout.{Store, view, unitsIn, levelIn}
 use Rattle.model.specs.LayoutLaws.{Same}
 use Rattle.model.specs.Sound.{sound}
 use Rattle.model.specs.SoundSays.{units-some, units-few}
-use Rattle.model.specs.Changes.{repaired, grown, shrunk}
-use Rattle.model.specs.Numbers.{repair, grow, shrink, refusalsIn}
+use Rattle.model.specs.Changes.{repaired, grown, shrunk, added, raised}
+use Rattle.model.specs.Numbers.{repair, grow, shrink, raise, refusalsIn}
 use Rattle.model.specs.Perform.{grantedIn}
 use Rattle.model.specs.MadeAnew.{HoldsCheckRecords, leftBy, MadeAnew}
 use Rattle.model.proofs.history.alike.Alike.{left-shaped}
 use Rattle.model.proofs.history.alike.Numbers.{split-inside, split-before}
 use Rattle.model.proofs.history.alike.Dealt.{grown-shaped, shrunk-alike}
-use Rattle.model.proofs.Left.{itself, free, left-same, repair-left}
+use Rattle.model.proofs.Left.{itself, free, left-same, repair-left, raise-left}
 
 -- what check unit c holds, in stores whose parts are the same
 same-holds : (s t : Store) → Same s t → (c : ℕ) → c < 12 → HoldsCheckRecords t c → HoldsCheckRecords s c
@@ -44,6 +45,12 @@ unfolding repaired
 repaired-holds v g c d e r l =
     pick-true (and-true (eq-eqb (c / 3) g d) (eq-eqb (v .cstate c) 2 e)) _ (v .check c r)
     ∙ checkRecord-ext (c % 3) _ _ (λ p q. rw d (sym (pick-true (eq-eqb ((4 * g + p) / 4) g (omega arith)) _ (v .slot (4 * g + p) r))))
+
+raised-holds : (v : Store) (c : ℕ) → 4 * (c / 3) < unitsIn v → c % 3 ≡ levelIn v → (raised v .cstate c ≡ 1) × HoldsCheckRecords (raised v) c
+unfolding raised added
+raised-holds v c a e =
+    let on : (ltb (4 * (c / 3)) (unitsIn v) && eqb (c % 3) (levelIn v)) ≡ true = and-true (lt-ltb _ _ a) (eq-eqb _ _ e) in
+    (pick-true on 1 (v .cstate c), λ r l. pick-true on _ (v .check c r))
 
 -- EVERY CHECK UNIT THAT A CALL MAKES ANEW
 pub made-anew : (s : List ℕ) → MadeAnew s
@@ -70,4 +77,8 @@ made-anew s = record {
       (left-shaped (shrunk v m) (shrunk v m) (shrunk-alike v v (itself s ok) m (omega (arith, units-few s ok)) before)) in
       same-holds (leftBy s shrink) (shrunk v m) h c l (shrunk-holds v m c q (sym (h .cstate c l) ∙ e));
   by-repair = λ g z c l d e. same-holds (leftBy s (repair g)) (repaired (view s) g) (repair-left s g z) c l (repaired-holds (view s) g c d e);
+  by-raise = λ z c l a e.
+      let h : Same (leftBy s raise) (raised (view s)) = raise-left s z in
+      let new = raised-holds (view s) c a e in
+      (h .cstate c l ∙ new .0, same-holds (leftBy s raise) (raised (view s)) h c l (new .1));
 }

@@ -10,8 +10,6 @@ use Rattle.buffer.specs.Choice.{pick}
 use Rattle.buffer.specs.ChoiceLaws.{by-test, by-pick, pick-true, pick-false}
 use Rattle.buffer.specs.TestLaws.{and-true, and-first, and-second, and-false-second, not-both}
 use Rattle.buffer.specs.RangeLaws.{count-zero}
-use Rattle.buffer.specs.Table.{tab}
-use Rattle.buffer.specs.TableLaws.{tab-ext}
 use Rattle.group.specs.Members.{outs, checks, beyond}
 use Rattle.model.specs.Layout.{Store, view, unitsIn}
 use Rattle.model.specs.LayoutLaws.{Same, bytes-ext, bytes-view}
@@ -28,7 +26,7 @@ use Rattle.model.specs.MadeAnew.{leftBy}
 use Rattle.model.specs.RepairKeeps.{RepairKeeps}
 use Rattle.model.specs.history.Ledger.{groupOf}
 use Rattle.model.specs.history.Runs.{unitIn}
-use Rattle.model.proofs.Left.{repair-left}
+use Rattle.model.proofs.Left.{repair-left, unit-kept}
 
 module _ (s : List ℕ) (g : ℕ) where
   abbrev v : Store
@@ -73,15 +71,7 @@ module _ (s : List ℕ) (g : ℕ) where
     size-after = h .size
 
     unit-after : (w : ℕ) → w < 28 → stateIn v w ≡ 1 → unitIn after w ≡ unitIn v w
-    unfolding stateIn unitIn pick
-    unit-after w l =
-        let c : ℕ = w - 16 in
-        by-test (λ t. ltb w 16 ≡ t → pick t (v .dstate w) (v .cstate c) ≡ 1
-        → pick t (tab (after .size) (after .slot w)) (tab (after .size) (after .check c)) ≡ pick t (tab (v .size) (v .slot w)) (tab (v .size) (v .check c)))
-        (ltb w 16)
-        (λ _ q e. rw size-after (tab-ext (v .size) (after .slot w) (v .slot w) (λ r m. slot-after w r (ltb-true w 16 q) m e)))
-        (λ _ q e. rw size-after (tab-ext (v .size) (after .check c) (v .check c) (λ r m. check-after c r (omega (arith, ltb-false w 16 q)) m e)))
-        refl
+    unit-after = unit-kept v after size-after slot-after check-after
 
   -- ---- no unit of the group out
 

@@ -10,8 +10,8 @@ use Rattle.buffer.specs.Table.{upd}
 use Rattle.group.specs.Widths.{keyBytes, slotBytes, checkBytes}
 use Rattle.group.specs.Body.{addBody}
 use Rattle.group.specs.CheckRecord.{checkRecord, patched}
-use Rattle.model.specs.Units.{splitPointer, moves, touched, broughtUp, emptied}
-use Rattle.model.specs.Layout.{Store, changed, levelIn, keyOf}
+use Rattle.model.specs.Units.{splitPointer, moves, touched, begins}
+use Rattle.model.specs.Layout.{Store, changed, unitsIn, levelIn, keyOf}
 use Rattle.model.specs.Reads.{fillIn, wholeSlot}
 
 -- Teach, correct and erase write a slot at a time: slot (u, r) becomes x, and each check unit in service of u's group gets its key, and the
@@ -64,9 +64,9 @@ dealt v m u r =
     (pick (eqb u (splitPointer m)) (getD (filterBy (λ x. not (moves m (keyOf x))) (recordsIn v (splitPointer m))) r (zeros slotBytes))
     (v .slot u r))
 
--- the state of a check unit then: a new group starts with K check units, and a group whose first unit is split is brought up to K
+-- the state of a check unit then: a new group starts with K check units, and none is added to an old one
 unfoldable pub grownState : Store → ℕ → ℕ → ℕ
-grownState v m c = pick (broughtUp m (c / 3)) (pick (ltb (c % 3) (levelIn v)) 1 0) (v .cstate c)
+grownState v m c = pick (begins m (c / 3)) (pick (ltb (c % 3) (levelIn v)) 1 0) (v .cstate c)
 
 -- grow: unit m is added; the check units of the groups of both units are made anew from the data
 unfoldable pub grown : Store → ℕ → Store
@@ -82,7 +82,7 @@ merged v m u r =
     (v .slot u r))
 
 unfoldable pub shrunkState : Store → ℕ → ℕ → ℕ
-shrunkState v m c = pick (emptied m (c / 3)) 0 (v .cstate c)
+shrunkState v m c = pick (begins m (c / 3)) 0 (v .cstate c)
 
 -- shrink: unit m, the last, is removed; a group left with no data unit loses its check units; the others of both groups are made anew
 unfoldable pub shrunk : Store → ℕ → Store
@@ -91,6 +91,12 @@ shrunk v m =
     (λ c r. pick (touched m (c / 3))
     (pick (eqb (shrunkState v m c) 1) (checkRecord (c % 3) (λ p. merged v m (4 * (c / 3) + p) r)) (zeros checkBytes)) (v .check c r))
 
--- raise: one is added to the level
+-- the check units that a raise adds: check unit K, counted from 0, of every group in place
+unfoldable pub added : Store → ℕ → Bool
+added v c = ltb (4 * (c / 3)) (unitsIn v) && eqb (c % 3) (levelIn v)
+
+-- raise: one is added to the level; the added check units are in service, made from the data, and all others stay as they are
 unfoldable pub raised : Store → Store
-raised v = changed v (set (v .front) 7 (suc (levelIn v))) (v .dstate) (v .cstate) (v .slot) (v .check)
+raised v =
+    changed v (set (v .front) 7 (suc (levelIn v))) (v .dstate) (λ c. pick (added v c) 1 (v .cstate c)) (v .slot)
+    (λ c r. pick (added v c) (checkRecord (c % 3) (λ p. v .slot (4 * (c / 3) + p) r)) (v .check c r))

@@ -25,4 +25,5 @@ pub mod MadeAnew
 pub mod Recovered
 pub mod RepairKeeps
 pub mod Demand2
+pub mod Level
 pub mod history

@@ -1,14 +1,14 @@
 -- Document 01: "what demand 2 says of check records is owed .. of any check unit that a call makes anew". These are the check units in service of both
--- groups after a grow or a shrink, and those that a repair puts back in service. The bytes are any on which the call is granted: the store is sound, it
--- need not come from a history, and its parity may have been wrong before. Assumes nothing.
+-- groups after a grow or a shrink, those that a repair puts back in service, and those that a raise adds. The bytes are any on which the call is
+-- granted: the store is sound, it need not come from a history, and its parity may have been wrong before. Assumes nothing.
 use Prim.Native.Nat.{ℕ, pred, _+_, _*_, _/_, _%_, _<_}
 use mathlib.Core.Path.{_≡_}
 use mathlib.Core.List.{List}
 use mathlib.Core.Bool.{true}
 use Rattle.group.specs.CheckRecord.{checkRecord}
 use Rattle.model.specs.Units.{touched}
-use Rattle.model.specs.Layout.{Store, view, unitsIn}
-use Rattle.model.specs.Numbers.{Call, repair, grow, shrink, numberIn}
+use Rattle.model.specs.Layout.{Store, view, unitsIn, levelIn}
+use Rattle.model.specs.Numbers.{Call, repair, grow, shrink, raise, numberIn}
 use Rattle.model.specs.Perform.{perform}
 
 -- the parts of the store that a call leaves
@@ -28,3 +28,6 @@ pub record MadeAnew (s : List ℕ) : Type 0 where
       → HoldsCheckRecords (leftBy s shrink) c
   -- the check units of group g that were out
   pub by-repair : (g : ℕ) → numberIn s (repair g) ≡ 0 → (c : ℕ) → c < 12 → c / 3 ≡ g → view s .cstate c ≡ 2 → HoldsCheckRecords (leftBy s (repair g)) c
+  -- check unit K, counted from 0, of every group in place, which is in service then
+  pub by-raise : numberIn s raise ≡ 0 → (c : ℕ) → c < 12 → 4 * (c / 3) < unitsIn (view s) → c % 3 ≡ levelIn (view s)
+      → (leftBy s raise .cstate c ≡ 1) × HoldsCheckRecords (leftBy s raise) c

@@ -9,7 +9,7 @@ use Rattle.buffer.specs.Choice.{pick}
 use Rattle.group.specs.Widths.{bodyBytes, slotBytes}
 use Rattle.model.specs.Units.{splitPointer}
 use Rattle.model.specs.Layout.{Store, view, unitsIn, levelIn}
-use Rattle.model.specs.Reads.{homeIn, fillIn, rankIn, outsIn, stateIn, beyondIn, listedFill, listedRank, lostIn, totalIn}
+use Rattle.model.specs.Reads.{homeIn, fillIn, rankIn, outsIn, unitsOutIn, stateIn, beyondIn, listedFill, listedRank, lostIn, totalIn}
 use Rattle.model.specs.Sound.{sound}
 
 -- the calls, each with its arguments: keys, bodies, unit and group numbers, and output buffers as they are lent
@@ -69,7 +69,7 @@ refusalsIn ok v shrink =
     let m : ℕ = pred (unitsIn v) in
     (not ok, 1) ∷ (leb (unitsIn v) 1, 9) ∷ (ltb 0 (outsIn v (m / 4)), 4) ∷ (ltb 0 (outsIn v (splitPointer m / 4)), 4)
     ∷ (ltb (v .size) (fillIn v (splitPointer m) + fillIn v m), 7) ∷ []
-refusalsIn ok v raise = (not ok, 1) ∷ (ltb 0 (splitPointer (unitsIn v)), 9) ∷ (leb 16 (unitsIn v), 9) ∷ (leb 3 (levelIn v), 9) ∷ []
+refusalsIn ok v raise = (not ok, 1) ∷ (leb 3 (levelIn v), 9) ∷ (ltb 0 (unitsOutIn v), 4) ∷ []
 
 unfoldable pub numberIn : List ℕ → Call → ℕ
 numberIn s c = firstOf (refusalsIn (sound s) (view s) c)

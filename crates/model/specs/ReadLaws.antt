@@ -1,24 +1,29 @@
 -- Laws of what the calls read in a store: a unit has no more records than ranks, each rank before their number has a key, and a unit that is not
 -- out lists its own keys; a listing is as long as its records, and each record stands behind those of the units and ranks before; a group that is
--- not beyond recovery has four members in service, a check unit among them where a data unit is out. Assumes nothing.
-use Prim.Native.Nat.{ℕ, _≤_, _<_, _+_, _*_}
-use mathlib.Core.Path.{_≡_, ap, _∙_}
+-- not beyond recovery has four members in service, a check unit among them where a data unit is out; the units out are those of
+-- the four groups. Assumes nothing.
+use Prim.Native.Nat.{ℕ, _≤_, _<_, _+_, _*_, _-_}
+use mathlib.Core.Path.{_≡_, sym, ap, ap₂, _∙_}
 use mathlib.Core.Logic.{_≢_}
 use mathlib.Core.Bool.{false, true, not}
 use mathlib.Core.List.{List, _++_}
-use lib.Dec.{eqb}
+use lib.Dec.{eqb, ltb}
 use lib.ListN.{length, take}
-use borrow.Author.Tests.{eqb-false}
-use Rattle.buffer.specs.ChoiceLaws.{pick-false}
+use borrow.Author.Tests.{eqb-false, lt-ltb, le-ltb}
+use Rattle.buffer.specs.Choice.{pick}
+use Rattle.buffer.specs.ChoiceLaws.{pick-true, pick-false}
 use Rattle.buffer.specs.Range.{first, count, sum}
-use Rattle.buffer.specs.RangeLaws.{first-ext, first-le, first-misses, count-ext, count-append, count-not, count-pos, sum-more, sum-mono}
+use Rattle.buffer.specs.RangeLaws.{first-ext, first-le, first-misses, count-ext, count-append, count-not, count-pos, count-blocks}
+use Rattle.buffer.specs.RangeLaws.{sum-more, sum-mono, sum-add}
 use Rattle.buffer.specs.Bytes.{part}
 use Rattle.buffer.specs.SpliceLaws.{part-left}
 use Rattle.buffer.specs.TableLaws.{length-tab, length-tab-sum, part-rows}
 use Rattle.group.specs.Widths.{keyBytes, slotBytes}
 use Rattle.model.specs.Layout.{Store, keyOf}
 use Rattle.model.specs.LayoutLaws.{key-first}
-use Rattle.model.specs.Reads.{fillIn, rankIn, listedKey, listedFill, listedRank, wholeSlot, totalIn, listingIn, beyondIn, servesIn}
+use Rattle.model.specs.Reads.{fillIn, rankIn, stateIn, outsIn, unitsOutIn, listedKey, listedFill, listedRank, wholeSlot, totalIn, listingIn}
+use Rattle.model.specs.Reads.{beyondIn, servesIn}
+use Rattle.group.specs.Members.{outs}
 use Rattle.group.specs.MembersLaws.{enough, serves-data, serves-check}
 use native.Mathlib.Omega.{arith}
 
@@ -88,3 +93,17 @@ module _ (v : Store) (g : ℕ) (low : (j : ℕ) → j < 3 → v .cstate (3 * g +
       let places : count 4 (servesIn v g) ≡ count 4 (λ p. not (eqb (d p) 2)) = count-ext 4 _ _ (serves-data d c) in
       let checks : count 3 (λ j. servesIn v g (4 + j)) ≡ count 3 (λ j. eqb (c j) 1) = count-ext 3 _ _ (λ j m. serves-check d c j) in
       omega (arith, four-serve, count-append 4 3 (servesIn v g), count-not 4 (λ p. eqb (d p) 2), count-pos 4 (λ p. eqb (d p) 2) p l e)
+
+-- ---- the units that are out, by groups
+pub units-out-groups : (v : Store) → unitsOutIn v ≡ sum 4 (outsIn v)
+unfolding unitsOutIn stateIn outsIn outs
+units-out-groups v =
+    count-append 16 12 (λ w. eqb (pick (ltb w 16) (v .dstate w) (v .cstate (w - 16))) 2)
+    ∙ ap₂ (λ (m n : ℕ). m + n)
+    (count-ext 16 _ (λ u. eqb (v .dstate u) 2) (λ u l. ap (λ (n : ℕ). eqb n 2) (pick-true (lt-ltb u 16 l) (v .dstate u) (v .cstate (u - 16))))
+    ∙ count-blocks 4 4 (λ u. eqb (v .dstate u) 2))
+    (count-ext 12 _ (λ c. eqb (v .cstate c) 2) (λ c l.
+    let e : 16 + c - 16 ≡ c = omega arith in
+    ap (λ (n : ℕ). eqb n 2) (pick-false (le-ltb (16 + c) 16 (omega arith)) (v .dstate (16 + c)) (v .cstate (16 + c - 16)) ∙ ap (v .cstate) e))
+    ∙ count-blocks 4 3 (λ c. eqb (v .cstate c) 2))
+    ∙ sym (sum-add 4 (λ g. count 4 (λ p. eqb (v .dstate (4 * g + p)) 2)) (λ g. count 3 (λ j. eqb (v .cstate (3 * g + j)) 2)))

@@ -9,7 +9,7 @@ use Rattle.buffer.specs.Range.{first, count, sum}
 use Rattle.buffer.specs.Bytes.{zeros, part}
 use Rattle.buffer.specs.Table.{tab}
 use Rattle.group.specs.Widths.{keyBytes, keysBytes, slotBytes}
-use Rattle.group.specs.Members.{outs, beyond, serves}
+use Rattle.group.specs.Members.{outs, checks, beyond, serves}
 use Rattle.group.specs.Rebuilding.{rebuilt}
 use Rattle.model.specs.Units.{unitOf}
 use Rattle.model.specs.Layout.{Store, unitsIn, keyOf}
@@ -35,6 +35,14 @@ outsIn v g = outs (λ p. v .dstate (4 * g + p)) (λ j. v .cstate (3 * g + j))
 
 unfoldable pub beyondIn : Store → ℕ → Bool
 beyondIn v g = beyond (λ p. v .dstate (4 * g + p)) (λ j. v .cstate (3 * g + j))
+
+-- the check units of a group, out ones counted too
+unfoldable pub checksIn : Store → ℕ → ℕ
+checksIn v g = checks (λ j. v .cstate (3 * g + j))
+
+-- how many units of the store are out
+unfoldable pub unitsOutIn : Store → ℕ
+unitsOutIn v = count 28 (λ w. eqb (stateIn v w) 2)
 
 -- the members of a group in service, and the body or parity that each holds at a rank
 unfoldable pub servesIn : Store → ℕ → ℕ → Bool

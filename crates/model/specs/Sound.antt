@@ -1,11 +1,11 @@
 -- Document 01, "Sound means": clause by clause, in its order, as a test of any bytes. Parity bytes are not part of it. Assumes nothing.
-use Prim.Native.Nat.{ℕ, _+_, _*_, _/_}
+use Prim.Native.Nat.{ℕ, _+_, _*_, _/_, _%_}
 use mathlib.Core.List.{List, [], _∷_}
 use mathlib.Core.Bool.{Bool, true, false, not, _&&_, _||_}
 use lib.Dec.{eqb, ltb, leb}
 use lib.ListN.{length}
 use Rattle.buffer.specs.Choice.{pick}
-use Rattle.buffer.specs.Range.{all, first}
+use Rattle.buffer.specs.Range.{all}
 use Rattle.buffer.specs.Bytes.{byte, be32, zeros, part}
 use Rattle.group.specs.Widths.{keyBytes, slotBytes, checkBytes}
 use Rattle.model.specs.Units.{unitOf}
@@ -26,23 +26,20 @@ ranges s =
     && leb 1 (byte s 5) && leb (byte s 5) 64 && leb 1 (byte s 6) && leb (byte s 6) 16 && leb 1 (byte s 7) && leb (byte s 7) 3
     && leb (storeBytes (byte s 5)) (length s)
 
+-- a state of a unit that is in place, in service or out, or of one that is not
+unfoldable pub stateFits : Bool → ℕ → Bool
+stateFits placed n = pick placed (eqb n 1 || eqb n 2) (eqb n 0)
+
 -- data units 0 to M - 1 are in place and no others
 unfoldable pub unitsPlaced : Store → Bool
-unitsPlaced v = all 16 (λ u. pick (ltb u (unitsIn v)) (eqb (v .dstate u) 1 || eqb (v .dstate u) 2) (eqb (v .dstate u) 0))
+unitsPlaced v = all 16 (λ u. stateFits (ltb u (unitsIn v)) (v .dstate u))
 
--- the check units in place of a group: the places before the first that is not
-unfoldable pub checksIn : Store → ℕ → ℕ
-checksIn v g = first 3 (λ j. eqb (v .cstate (3 * g + j)) 0)
+-- the check units of a store with m units and level k: each group in place has exactly K, lowest places first, other groups none
+unfoldable pub checkPlaced : ℕ → ℕ → ℕ → Bool
+checkPlaced m k c = ltb (4 * (c / 3)) m && ltb (c % 3) k
 
--- how many check units a group in place may have, in a store of level k: 1 to K
-unfoldable pub checksAllowed : ℕ → ℕ → Bool
-checksAllowed k n = leb 1 n && leb n k
-
--- each group in place has 1 to K check units, lowest places first, other groups none
-unfoldable pub groupsPlaced : Store → Bool
-groupsPlaced v = all 4 (λ g.
-    pick (ltb (4 * g) (unitsIn v)) (checksAllowed (levelIn v) (checksIn v g)) (eqb (checksIn v g) 0)
-    && all 3 (λ j. pick (ltb j (checksIn v g)) (eqb (v .cstate (3 * g + j)) 1 || eqb (v .cstate (3 * g + j)) 2) (eqb (v .cstate (3 * g + j)) 0)))
+unfoldable pub checksPlaced : Store → Bool
+checksPlaced v = all 12 (λ c. stateFits (checkPlaced (unitsIn v) (levelIn v) c) (v .cstate c))
 
 -- units out or not in place and data slots without a record are zero
 unfoldable pub zeroed : Store → Bool
@@ -67,4 +64,4 @@ listsAgree v = all 12 (λ c. not (eqb (v .cstate c) 1) || all (v .size) (λ r. a
     eqb (keyOf (part (keyBytes * p) keyBytes (v .check c r))) (keyOf (listedKey v (4 * (c / 3) + p) r)))))
 
 unfoldable pub sound : List ℕ → Bool
-sound s = ranges s && unitsPlaced (view s) && groupsPlaced (view s) && zeroed (view s) && keysPlaced (view s) && listsAgree (view s)
+sound s = ranges s && unitsPlaced (view s) && checksPlaced (view s) && zeroed (view s) && keysPlaced (view s) && listsAgree (view s)

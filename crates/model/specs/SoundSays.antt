@@ -1,6 +1,6 @@
 -- What the test of soundness says of a store, clause by clause, as facts. Assumes nothing.
-use Prim.Native.Nat.{ℕ, _+_, _*_, _/_, _≤_, _<_, _%_}
-use mathlib.Core.Path.{_≡_, refl, sym, _∙_}
+use Prim.Native.Nat.{ℕ, _+_, _*_, _/_, _≤_, _<_}
+use mathlib.Core.Path.{_≡_, refl, sym, _∙_, subst}
 use mathlib.Core.List.{List}
 use mathlib.Core.Bool.{Bool, true, false, not, _&&_, _||_}
 use lib.Dec.{eqb, ltb}
@@ -15,9 +15,9 @@ use Rattle.buffer.specs.Bytes.{byte, be32, zeros, part}
 use Rattle.group.specs.Widths.{keyBytes, slotBytes, checkBytes}
 use Rattle.model.specs.Units.{unitOf}
 use Rattle.model.specs.Layout.{Store, view, version, storeBytes, unitsIn, levelIn, keyOf}
-use Rattle.model.specs.StoreLaws.{units-of}
+use Rattle.model.specs.StoreLaws.{units-of, level-of}
 use Rattle.model.specs.Reads.{fillIn, listedKey, listedFill}
-use Rattle.model.specs.Sound.{same, ranges, unitsPlaced, checksIn, checksAllowed, groupsPlaced, zeroed, keysKnown, keysPlaced, listsAgree, sound}
+use Rattle.model.specs.Sound.{same, ranges, stateFits, unitsPlaced, checkPlaced, checksPlaced, zeroed, keysKnown, keysPlaced, listsAgree, sound}
 use Rattle.model.specs.SoundLaws.{same-true}
 use native.Mathlib.Omega.{arith}
 
@@ -87,14 +87,22 @@ in-range s h =
 
 -- a state that a unit in place, or not in place, may have
 abbrev pub Stateful : Bool → ℕ → Type 0
-Stateful p n = pick p (eqb n 1 || eqb n 2) (eqb n 0) ≡ true
+Stateful p n = stateFits p n ≡ true
 
-state-most : (p : Bool) (n : ℕ) → Stateful p n → n ≤ 2
-unfolding pick
-state-most true n e =
-    by-test (λ (t : Bool). (t || eqb n 2) ≡ true → n ≤ 2) (eqb n 1)
-    (λ q _. omega (arith, eqb-true n 1 q)) (λ _ z. omega (arith, eqb-true n 2 z)) e
-state-most false n e = omega (arith, eqb-true n 0 e)
+pub fits-placed : {p : Bool} (n : ℕ) → Stateful p n → p ≡ true → (eqb n 1 || eqb n 2) ≡ true
+unfolding stateFits
+fits-placed n e q = sym (pick-true q (eqb n 1 || eqb n 2) (eqb n 0)) ∙ e
+
+pub fits-absent : {p : Bool} (n : ℕ) → Stateful p n → p ≡ false → n ≡ 0
+unfolding stateFits
+fits-absent n e q = eqb-true n 0 (sym (pick-false q (eqb n 1 || eqb n 2) (eqb n 0)) ∙ e)
+
+-- whether the unit is in place, and its state
+pub by-fitting {ℓ} : (P : Bool → ℕ → Type ℓ) (p : Bool) (n : ℕ) → Stateful p n → P true 1 → P true 2 → P false 0 → P p n
+by-fitting P true n e serves lost absent =
+    by-test (λ (t : Bool). eqb n 1 ≡ t → (t || eqb n 2) ≡ true → P true n) (eqb n 1)
+    (λ _ q _. subst (P true) (sym (eqb-true n 1 q)) serves) (λ _ _ z. subst (P true) (sym (eqb-true n 2 z)) lost) refl (fits-placed n e refl)
+by-fitting P false n e serves lost absent = subst (P false) (sym (fits-absent n e refl)) absent
 
 module _ (s : List ℕ) (h : sound s ≡ true) where
   abbrev v : Store
@@ -105,7 +113,7 @@ module _ (s : List ℕ) (h : sound s ≡ true) where
   pub record Clauses : Type 0 where
     pub ranges : ranges s ≡ true
     pub units : unitsPlaced (view s) ≡ true
-    pub groups : groupsPlaced (view s) ≡ true
+    pub checks : checksPlaced (view s) ≡ true
     pub zeros : zeroed (view s) ≡ true
     pub keys : keysPlaced (view s) ≡ true
     pub lists : listsAgree (view s) ≡ true
@@ -118,7 +126,7 @@ module _ (s : List ℕ) (h : sound s ≡ true) where
       let p3 = and-both _ _ (p4 .0) in
       let p2 = and-both _ _ (p3 .0) in
       let p1 = and-both _ _ (p2 .0) in
-      record { ranges = p1 .0; units = p1 .1; groups = p2 .1; zeros = p3 .1; keys = p4 .1; lists = p5 .1 }
+      record { ranges = p1 .0; units = p1 .1; checks = p2 .1; zeros = p3 .1; keys = p4 .1; lists = p5 .1 }
 
   pub ranged : Ranged s
   ranged = in-range s (clauses .ranges)
@@ -129,33 +137,24 @@ module _ (s : List ℕ) (h : sound s ≡ true) where
   pub units-few : unitsIn v ≤ 16
   units-few = rw (← (units-of s)) (ranged .few)
 
+  pub level-some : 1 ≤ levelIn v
+  level-some = rw (← (level-of s)) (ranged .levelled)
+
+  pub level-few : levelIn v ≤ 3
+  level-few = rw (← (level-of s)) (ranged .topped)
+
   -- ---- states
 
   pub data-states : (u : ℕ) → u < 16 → Stateful (ltb u (unitsIn v)) (v .dstate u)
   unfolding unitsPlaced
   data-states u l = all-true 16 _ (clauses .units) u l
 
-  -- the check units of a group
-  abbrev number-test : ℕ → Bool
-  number-test g = pick (ltb (4 * g) (unitsIn v)) (checksAllowed (levelIn v) (checksIn v g)) (eqb (checksIn v g) 0)
-
-  abbrev place-test : ℕ → ℕ → Bool
-  place-test g j = pick (ltb j (checksIn v g)) (eqb (v .cstate (3 * g + j)) 1 || eqb (v .cstate (3 * g + j)) 2) (eqb (v .cstate (3 * g + j)) 0)
-
-  group-test : (g : ℕ) → g < 4 → (number-test g && all 3 (place-test g)) ≡ true
-  unfolding groupsPlaced
-  group-test g l = all-true 4 _ (clauses .groups) g l
-
-  pub group-number : (g : ℕ) → g < 4 → pick (ltb (4 * g) (unitsIn v)) (checksAllowed (levelIn v) (checksIn v g)) (eqb (checksIn v g) 0) ≡ true
-  group-number g l = and-first (number-test g) (all 3 (place-test g)) (group-test g l)
-
-  pub check-states : (g j : ℕ) → g < 4 → j < 3 → Stateful (ltb j (checksIn v g)) (v .cstate (3 * g + j))
-  check-states g j l m = all-true 3 (place-test g) (and-second (number-test g) (all 3 (place-test g)) (group-test g l)) j m
+  pub check-states : (c : ℕ) → c < 12 → Stateful (checkPlaced (unitsIn v) (levelIn v) c) (v .cstate c)
+  unfolding checksPlaced
+  check-states c l = all-true 12 _ (clauses .checks) c l
 
   pub states-low : (c : ℕ) → c < 12 → view s .cstate c ≤ 2
-  states-low c l =
-      let k : 3 * (c / 3) + c % 3 ≡ c = omega arith in
-      rw k at (state-most _ (v .cstate (3 * (c / 3) + c % 3)) (check-states (c / 3) (c % 3) (omega arith) (omega arith)))
+  states-low c l = by-fitting (λ p n. n ≤ 2) _ (v .cstate c) (check-states c l) (omega arith) (omega arith) (omega arith)
 
   -- ---- zeros
 

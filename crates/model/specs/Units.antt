@@ -1,7 +1,7 @@
 -- Document 01, "Units, keys and ranks": where a key lies, and which unit is split. A data unit is linear hashing's bucket, a check unit a
 -- parity bucket, a group a bucket group of four. Assumes nothing.
 use Prim.Native.Nat.{ℕ, suc, _*_, _-_, _/_, _%_}
-use mathlib.Core.Bool.{Bool, _&&_, _||_}
+use mathlib.Core.Bool.{Bool, _||_}
 use lib.Dec.{eqb, ltb}
 use Rattle.buffer.specs.Choice.{pick}
 
@@ -25,10 +25,6 @@ moves m k = eqb (unitOf (suc m) k) m
 unfoldable pub touched : ℕ → ℕ → Bool
 touched m g = eqb g (m / 4) || eqb g (splitPointer m / 4)
 
--- the groups brought up to the store's level when unit m is added: a new group, and one whose first unit is split
-unfoldable pub broughtUp : ℕ → ℕ → Bool
-broughtUp m g = eqb g (m / 4) && eqb (m % 4) 0 || eqb g (splitPointer m / 4) && eqb (splitPointer m % 4) 0
-
--- the group left with no data unit when unit m is removed
-unfoldable pub emptied : ℕ → ℕ → Bool
-emptied m g = eqb g (m / 4) && eqb (m % 4) 0
+-- the group of which unit m is the first: it comes into place when unit m, behind the last, is added, and is left with no data unit when m is removed
+unfoldable pub begins : ℕ → ℕ → Bool
+begins m g = eqb (4 * g) m

@@ -3,7 +3,6 @@ pub mod Ranks
 pub mod Kept
 pub mod Rebuilding
 pub mod Restoring
-pub mod Making
 pub mod Remaking
 pub mod Serving
 pub mod Repaired

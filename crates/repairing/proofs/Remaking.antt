@@ -1,131 +1,102 @@
 -- The check units of a group that are out are made, one after the other: what holds at each turn of that loop. Assumes nothing.
 use Prim.Native.Nat.{ℕ, suc, _+_, _*_, _/_, _%_, _≤_, _<_}
-use mathlib.Core.Path.{_≡_, refl, sym, ap, ap₂, _∙_}
-use mathlib.Core.Bool.{_&&_}
+use mathlib.Core.Path.{_≡_, sym, ap, _∙_}
+use mathlib.Core.Bool.{Bool, false, _&&_, _||_, or-true, or-false}
+use mathlib.Core.Bool as bool
 use mathlib.Core.List.{List}
 use native.Mathlib.Omega.{arith}
 use native.Mathlib.Numerals.{add-one}
-use lib.Dec.{eqb}
+use lib.Dec.{eqb, ltb}
 use lib.ListN.{length}
-use borrow.Author.Tests.{eq-eqb, ne-eqb, eqb-true}
-use Rattle.buffer.specs.Choice.{pick}
-use Rattle.buffer.specs.ChoiceLaws.{by-pick, pick-true, pick-false, pick-and}
+use borrow.Author.Tests.{eq-eqb, ne-eqb, eqb-true, eqb-false, lt-ltb, le-ltb}
+use Rattle.buffer.specs.ChoiceLaws.{by-test}
+use Rattle.buffer.specs.TestLaws.{and-true, and-false-first, and-false-second, and-ext, ltb-suc}
 use Rattle.buffer.specs.Bytes.{byte}
-use Rattle.group.specs.Widths.{bodyBytes, checkBytes}
-use Rattle.group.specs.CheckRecord.{checkRecord}
-use Rattle.group.specs.CheckRecordLaws.{checkRecord-ext, length-checkRecord}
 use Rattle.model.specs.Layout.{Store, bytes, view}
-use Rattle.model.specs.Places.{check-units}
-use Rattle.model.specs.Parts.{withChecks}
-use Rattle.model.specs.LayoutLaws.{Shaped, Same, bytes-ext, view-shaped, view-bytes}
-use Rattle.model.specs.StoreLaws.{cstate-at, long-at, same-long, chunks-ext, chunks-same, chunks-shaped, chunks-size}
+use Rattle.model.specs.Places.{Long}
+use Rattle.encoding.specs.Made.{made, madeIn, isUnit, inGroup, inState}
+use Rattle.encoding.specs.Holding.{holds-long, holds-length}
+use Rattle.encoding.specs.MadeLaws.{MadeFrom, made-nothing, made-as, made-again, states-kept}
+use Rattle.encoding.specs.PlaceLaws.{state-of}
 use Rattle.repairing.specs.Groups.{Group}
-use Rattle.repairing.specs.Steps.{slotsOf, unitMade, unitsMade}
-use Rattle.repairing.proofs.Renewed.{renewed, renewed-none, renewed-more, renewed-off, length-renewed, renewed-by}
-use Rattle.repairing.proofs.Making.{slots-wide}
 
--- a check record that is made where its unit is out
-abbrev pub wholeCheck : Store → ℕ → ℕ → ℕ → List ℕ
-wholeCheck v g c r = pick (eqb (v .cstate c) 2) (checkRecord (c % 3) (slotsOf v g r)) (v .check c r)
+-- the check units at the first t places of group g; of those, the ones that are out
+abbrev pub places : ℕ → ℕ → ℕ → Bool
+places g t c = inGroup g c && ltb (c % 3) t
 
--- the check records when the units at the first t check places are made
-abbrev pub so-far : Store → ℕ → ℕ → ℕ → ℕ → List ℕ
-so-far v g t = renewed (wholeCheck v g) (v .check) (3 * g) t
+abbrev pub so-far : Store → ℕ → ℕ → ℕ → ℕ → Bool
+so-far v g t c r = inState 2 v (places g t) c
 
--- at the end, by the group of a unit
-so-far-all : (v : Store) (g c r : ℕ) → so-far v g 3 c r ≡ pick (eqb (c / 3) g && eqb (v .cstate c) 2) (checkRecord (c % 3) (slotsOf v g r)) (v .check c r)
-so-far-all v g c r =
-    renewed-by (wholeCheck v g) (v .check) (3 * g) 3 (eqb (c / 3) g) c r (λ a b. eq-eqb (c / 3) g (omega arith))
-    (λ e. let k = eqb-true (c / 3) g e in (omega arith, omega arith))
-    ∙ pick-and (eqb (c / 3) g) (eqb (v .cstate c) 2) (checkRecord (c % 3) (slotsOf v g r)) (v .check c r)
+-- ---- the next place
+module _ (v : Store) (g t : ℕ) (lt : t < 3) where
+  abbrev i : ℕ
+  i = 3 * g + t
 
+  others : (c : ℕ) → (c ≡ i → ⊥) → inState 2 v (places g t) c ≡ inState 2 v (places g (suc t)) c
+  others c n =
+      ap (λ x. x && eqb (v .cstate c) 2) (and-ext (inGroup g c) (ltb (c % 3) t) (ltb (c % 3) (suc t))
+      (λ e. let own : c / 3 ≡ g = eqb-true (c / 3) g e in ltb-suc (c % 3) t (λ k. n (omega arith))))
+
+  place-off : (v .cstate i ≡ 2 → ⊥) → (c : ℕ) → inState 2 v (places g t) c ≡ inState 2 v (places g (suc t)) c
+  place-off n c =
+      by-test
+      (λ _. inState 2 v (places g t) c ≡ inState 2 v (places g (suc t)) c)
+      (eqb c i)
+      (λ e.
+      let off : eqb (v .cstate c) 2 ≡ false = ne-eqb _ 2 (λ k. n (ap (v .cstate) (sym (eqb-true c i e)) ∙ k)) in
+      and-false-second (places g t c) off ∙ sym (and-false-second (places g (suc t) c) off))
+      (λ e. others c (eqb-false c i e))
+
+  place-on : v .cstate i ≡ 2 → (c : ℕ) → (inState 2 v (places g t) c || isUnit i c) ≡ inState 2 v (places g (suc t)) c
+  place-on out c =
+      by-test
+      (λ x. (inState 2 v (places g t) c || x) ≡ inState 2 v (places g (suc t)) c)
+      (eqb c i)
+      (λ e.
+      let same : c ≡ i = eqb-true c i e in
+      or-true (inState 2 v (places g t) c)
+      ∙ sym (and-true (and-true (eq-eqb (c / 3) g (omega arith)) (lt-ltb (c % 3) (suc t) (omega arith))) (eq-eqb _ 2 (ap (v .cstate) same ∙ out))))
+      (λ e. or-false (inState 2 v (places g t) c) ∙ others c (eqb-false c i e))
+
+-- ---- the loop
 pub record Remaking (s₀ : List ℕ) (g : ℕ) (s : List ℕ) (t : ℕ) : Type 0 where
   pub within : t ≤ 3
   pub long : length s ≡ length s₀
-  pub state : s ≡ bytes (withChecks (view s₀) (so-far (view s₀) g t))
+  pub made : MadeFrom s₀ s (so-far (view s₀) g t)
+
+remaking-of : {s₀ s : List ℕ} {g t : ℕ} → t ≤ 3 → MadeFrom s₀ s (so-far (view s₀) g t) → Remaking s₀ g s t
+remaking-of w m = record { within = w; long = holds-length (m .holds) (m .long); made = m }
 
 module _ {s₀ : List ℕ} {g : ℕ} (h : Group s₀ g) where
-  abbrev v : Store
-  v = view s₀
-
-  wide : (t c r : ℕ) → c < 12 → r < v .size → length (so-far v g t c r) ≡ checkBytes
-  wide t c r a b =
-      let old = view-shaped s₀ (h .long) .check c r a b in
-      length-renewed (wholeCheck v g) (v .check) (3 * g) checkBytes t c r (λ _ _.
-      by-pick (λ x. length x ≡ checkBytes) (eqb (v .cstate c) 2) (checkRecord (c % 3) (slotsOf v g r)) (v .check c r)
-      (λ _. length-checkRecord bodyBytes (c % 3) (slotsOf v g r) (slots-wide h r b))
-      (λ _. old))
-      old
-
-  shaped : (t : ℕ) → Shaped (withChecks v (so-far v g t))
-  shaped t = chunks-shaped check-units v (so-far v g t) (view-shaped s₀ (h .long)) (wide t)
-
-  pub remade-shaped : Shaped (unitsMade (view s₀) g)
-  unfolding unitsMade
-  remade-shaped = chunks-shaped check-units v _ (view-shaped s₀ (h .long)) (λ c r a b. ap length (sym (so-far-all v g c r)) ∙ wide 3 c r a b)
-
-  remade : {s : List ℕ} {t : ℕ} → t ≤ 3 → s ≡ bytes (withChecks v (so-far v g t)) → Remaking s₀ g s t
-  remade {s} {t} l e =
-      record {
-        within = l;
-        long = ap length e
-            ∙ same-long _ s₀ (shaped t) (h .long) (chunks-size check-units v (so-far v g t)) (unfold withChecks in refl);
-        state = e;
-      }
-
   pub remaking-start : Remaking s₀ g s₀ 0
   remaking-start =
-      remade (omega arith)
-      (chunks-same check-units s₀ (so-far v g 0) (h .long) (λ c r a b. renewed-none (wholeCheck v g) (v .check) (3 * g) c r))
+      remaking-of (omega arith) (made-nothing (h .long) (so-far (view s₀) g 0) (λ c r a b.
+      sym (and-false-first (and-false-second (inGroup g c) (le-ltb (c % 3) 0 (omega arith))) (eqb (view s₀ .cstate c) 2))))
 
   module _ {s : List ℕ} {t : ℕ} (m : Remaking s₀ g s t) (lt : t < 3) where
-    abbrev i : ℕ
-    i = 3 * g + t
+    abbrev c : ℕ
+    c = 3 * g + t
 
-    pub remaking-group : Group s g
-    remaking-group = record { long = long-at _ (shaped t) s (m .state); group = h .group }
+    -- what the code asks before it makes check unit c
+    pub remaking-unit : Long s × (c < 12)
+    remaking-unit = (holds-long (m .made .holds), omega (arith, h .group))
 
-    state-read : byte s (24 + i) ≡ v .cstate i
-    state-read = let k = h .group in cstate-at _ (shaped t) s (m .state) i (omega arith) ∙ unfold withChecks in refl
+    state-read : byte s (24 + c) ≡ view s₀ .cstate c
+    state-read = state-of s c ∙ states-kept (m .made) c (omega (arith, h .group))
 
-    turned : {s′ : List ℕ} → s′ ≡ bytes (withChecks v (so-far v g (suc t))) → Remaking s₀ g s′ (t + 1)
-    turned e = remade (omega arith) (e ∙ ap (λ k. bytes (withChecks v (so-far v g k))) (sym (add-one t)))
-
-    -- it is not out
-    pub remaking-off : (byte s (24 + i) ≡ 2 → ⊥) → Remaking s₀ g s (t + 1)
+    -- it is not out; it is, and is made
+    pub remaking-off : (byte s (24 + c) ≡ 2 → ⊥) → Remaking s₀ g s (t + 1)
     remaking-off n =
-        turned
-        (m .state
-        ∙ chunks-ext check-units v (so-far v g t) (so-far v g (suc t)) (λ c r a b.
-        renewed-off (wholeCheck v g) (v .check) (3 * g) t
-        (λ c r e. pick-false (ne-eqb (v .cstate c) 2 (λ k. n (state-read ∙ ap (v .cstate) (sym e) ∙ k))) _ (v .check c r)) c r))
+        rw (add-one t) (remaking-of lt (made-as (m .made) (so-far (view s₀) g (suc t)) (λ d r a b.
+        place-off (view s₀) g t lt (λ k. n (state-read ∙ k)) d)))
 
-    -- it is, and was made from the store as it stood
-    made-here : byte s (24 + i) ≡ 2 → (r : ℕ) → wholeCheck v g i r ≡ checkRecord t (slotsOf v g r)
-    made-here out r =
-        let place : i % 3 ≡ t = omega arith in
-        pick-true (eq-eqb (v .cstate i) 2 (sym state-read ∙ out)) _ (v .check i r) ∙ ap (λ k. checkRecord k (slotsOf v g r)) place
+    pub remaking-on : {s′ : List ℕ} → byte s (24 + c) ≡ 2 → s′ ≡ bytes (made (isUnit c) (view s)) → Remaking s₀ g s′ (t + 1)
+    remaking-on out e =
+        rw (add-one t) (remaking-of lt (made-again (m .made) (λ d r. isUnit c d) (so-far (view s₀) g (suc t)) (λ d r a b.
+        place-on (view s₀) g t lt (sym state-read ∙ out) d) e))
 
-    pub remaking-on : {s′ : List ℕ} → byte s (24 + i) ≡ 2 → s′ ≡ bytes (unitMade (view s) g t) → Remaking s₀ g s′ (t + 1)
-    remaking-on {s′} out e =
-        let seen : Same (view s) (withChecks v (so-far v g t)) = rw (m .state) (view-bytes _ (shaped t)) in
-        let k : g < 4 = h .group in
-        turned
-        (e
-        ∙ unfold unitMade slotsOf withChecks in bytes-ext _ _ (record {
-          front = seen .front;
-          size = seen .size;
-          dstate = seen .dstate;
-          cstate = seen .cstate;
-          slot = seen .slot;
-          check = λ c r a b.
-              ap₂ (pick (eqb c i)) (checkRecord-ext t _ _ (λ p l. seen .slot (4 * g + p) r (omega arith) b) ∙ sym (made-here out r)) (seen .check c r a b)
-              ∙ renewed-more (wholeCheck v g) (v .check) (3 * g) t c r;
-          rest = seen .rest;
-        }))
-
-  pub remaking-end : {s : List ℕ} {t : ℕ} → Remaking s₀ g s t → 3 ≤ t → s ≡ bytes (unitsMade (view s₀) g)
-  unfolding unitsMade
+  pub remaking-end : {s : List ℕ} {t : ℕ} → Remaking s₀ g s t → 3 ≤ t → s ≡ bytes (madeIn 2 (inGroup g) (view s₀))
   remaking-end {s} {t} m l =
-      let all : t ≡ 3 = let k = m .within in omega arith in
-      m .state ∙ ap (λ k. bytes (withChecks v (so-far v g k))) all ∙ chunks-ext check-units v (so-far v g 3) _ (λ c r a b. so-far-all v g c r)
+      made-as (m .made) (λ c r. inState 2 (view s₀) (inGroup g) c) (λ c r a b.
+      ap (λ x. x && eqb (view s₀ .cstate c) 2)
+      (ap (λ x. inGroup g c && x) (lt-ltb (c % 3) t (omega arith)) ∙ bool.and-true (inGroup g c))) .holds .state

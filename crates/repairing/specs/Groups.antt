@@ -3,7 +3,6 @@ use Prim.Native.Nat.{ℕ, _<_}
 use mathlib.Core.Path.{_≡_}
 use mathlib.Core.Bool.{false}
 use mathlib.Core.List.{List}
-use Rattle.buffer.specs.Bytes.{byte}
 use Rattle.model.specs.Layout.{view}
 use Rattle.model.specs.Places.{Long}
 use Rattle.model.specs.Reads.{beyondIn}
@@ -13,13 +12,6 @@ use Rattle.lookup.specs.Sized.{Sized}
 pub record Group (s : List ℕ) (g : ℕ) : Type 0 where
   pub long : Long s
   pub group : g < 4
-
--- rank r of check place j of a group
-pub record CheckPlace (s : List ℕ) (g j r : ℕ) : Type 0 where
-  pub long : Long s
-  pub group : g < 4
-  pub check : j < 3
-  pub rank : r < byte s 5
 
 -- a group that is not beyond recovery
 pub record Repairable (s : List ℕ) (g : ℕ) : Type 0 where

@@ -1,13 +1,11 @@
 -- The steps of a repair of group g: the store after each. The states in the store at the start of a step say which units are out.
 -- Assumes nothing.
-use Prim.Native.Nat.{ℕ, _+_, _*_, _/_, _%_}
-use mathlib.Core.List.{List}
+use Prim.Native.Nat.{ℕ, _/_}
 use mathlib.Core.Bool.{_&&_}
 use lib.Dec.{eqb}
 use Rattle.buffer.specs.Choice.{pick}
-use Rattle.group.specs.CheckRecord.{checkRecord}
 use Rattle.model.specs.Layout.{Store, changed}
-use Rattle.model.specs.Parts.{withSlots, withChecks}
+use Rattle.model.specs.Parts.{withSlots}
 use Rattle.model.specs.Reads.{wholeSlot}
 
 -- ---- first the data units that are out are rebuilt: one unit, and those of the group
@@ -17,19 +15,7 @@ unitRebuilt v u = withSlots v (λ w r. pick (eqb w u) (wholeSlot v u r) (v .slot
 unfoldable pub unitsRebuilt : Store → ℕ → Store
 unitsRebuilt v g = withSlots v (λ u r. pick (eqb (u / 4) g) (wholeSlot v u r) (v .slot u r))
 
--- ---- then the check units that are out are made from the data
--- the slots of the four places at rank r
-unfoldable pub slotsOf : Store → ℕ → ℕ → ℕ → List ℕ
-slotsOf v g r p = v .slot (4 * g + p) r
-
--- one unit, and those of the group
-unfoldable pub unitMade : Store → ℕ → ℕ → Store
-unitMade v g j = withChecks v (λ c r. pick (eqb c (3 * g + j)) (checkRecord j (slotsOf v g r)) (v .check c r))
-
-unfoldable pub unitsMade : Store → ℕ → Store
-unitsMade v g = withChecks v (λ c r. pick (eqb (c / 3) g && eqb (v .cstate c) 2) (checkRecord (c % 3) (slotsOf v g r)) (v .check c r))
-
--- ---- then all that are out are put in service
+-- ---- then the check units that are out are made from the data (`madeIn` of `encoding`), and then all that are out are put in service
 -- the state of a unit then
 unfoldable pub inService : ℕ → ℕ
 inService state = pick (eqb state 2) 1 state

@@ -1,9 +1,7 @@
 // Repair of a group: its lost data units are rebuilt, its lost check units are made from the data, and all of them are put in service.
 ghost use mathlib.Core.Path.{_≡_};
 ghost use mathlib.Core.List.{map};
-ghost use Prim.Native.Nat.{_+_, _*_, _<_};
 ghost use Rattle.group.specs.Products.{products};
-ghost use Rattle.group.specs.CheckRecord.{checkRecord};
 ghost use Rattle.model.specs.Layout.{bytes, view};
 ghost use Rattle.model.specs.Reads.{firstCheck};
 ghost use Rattle.model.specs.Changes.{repaired};
@@ -12,8 +10,9 @@ ghost use Rattle.model.specs.Perform.{outcome, plain, perform};
 ghost use Rattle.soundness.specs.Survey.{Surveyed};
 ghost use Rattle.lookup.specs.Keys.{keysAt};
 ghost use Rattle.lookup.specs.Slots.{Recipe};
-ghost use Rattle.repairing.specs.Groups.{Group, CheckPlace, Repairable};
-ghost use Rattle.repairing.specs.Steps.{slotsOf, unitRebuilt, unitsRebuilt, unitMade, unitsMade, inService, unitsServing};
+ghost use Rattle.encoding.specs.Made.{madeIn, inGroup};
+ghost use Rattle.repairing.specs.Groups.{Group, Repairable};
+ghost use Rattle.repairing.specs.Steps.{unitRebuilt, unitsRebuilt, inService, unitsServing};
 
 // Rebuilds the slots of data unit u, which is out and has its keys listed from keys on, rank by rank.
 fn rebuild_unit(
@@ -56,50 +55,18 @@ fn rebuild_units(s: &mut [u8], g: u8, first_check: u8, table: &[u8; 256])
     }
 }
 
-// The check record of rank r at check place j of group g, made from the data.
-fn check_record(s: &[u8], g: u8, j: u8, r: u8, table: &[u8; 256]) -> [u8; group::CHECK]
-    requires { ⌜ CheckPlace (now s) g j r × (now table ≡ products) ⌝ }
-    ensures { λ z. ⌜ z ≡ checkRecord j (slotsOf (view (now (s .entry))) g r) ⌝ }
-{
-    let b = s[lookup::SIZE_AT];
-    let mut made = [0u8; group::CHECK];
-    let mut p: u8 = 0;
-    while p < 4 {
-        let at = lookup::slot_at(b, 4 * g + p, r);
-        let mut key = [0u8; group::KEY];
-        buffer::copy(&mut key, &s[at..at + group::KEY]);
-        let mut body = [0u8; group::BODY];
-        buffer::copy(&mut body, &s[at + group::KEY..at + group::SLOT]);
-        group::follow(&mut made, j, p, key, body, table);
-        p += 1;
-    }
-    made
-}
-
-// Makes check unit j of group g from the data, rank by rank.
-fn make_unit(s: &mut [u8], g: u8, j: u8, table: &[u8; 256])
-    requires { ⌜ Group (now s) g × (j < 3) × (now table ≡ products) ⌝ }
-    ensures { λ _. ⌜ now (s .exit) ≡ bytes (unitMade (view (now (s .entry))) g j) ⌝ }
-{
-    let b = s[lookup::SIZE_AT];
-    let mut r: u8 = 0;
-    while r < b {
-        let made = check_record(s, g, j, r, table);
-        let at = lookup::check_at(b, 3 * g + j, r);
-        buffer::copy(&mut s[at..at + group::CHECK], &made);
-        r += 1;
-    }
-}
-
-// Makes the check units of group g that are out from the data.
-fn make_units(s: &mut [u8], g: u8, table: &[u8; 256])
-    requires { ⌜ Group (now s) g × (now table ≡ products) ⌝ }
-    ensures { λ _. ⌜ now (s .exit) ≡ bytes (unitsMade (view (now (s .entry))) g) ⌝ }
+// Makes the check units of group g that are out from the data. Most repairs miss at most one, so the rows are taken for each.
+fn make_units(s: &mut [u8], g: u8)
+    requires { ⌜ Group (now s) g ⌝ }
+    ensures { λ _. ⌜ now (s .exit) ≡ bytes (madeIn 2 (inGroup g) (view (now (s .entry)))) ⌝ }
 {
     let mut j: u8 = 0;
     while j < 3 {
-        if s[lookup::CHECK_STATES + buffer::wide(3 * g + j)] == 2 {
-            make_unit(s, g, j, table);
+        let c = 3 * g + j;
+        if s[lookup::CHECK_STATES + buffer::wide(c)] == 2 {
+            let first = group::parities::first_row();
+            let second = group::parities::second_row();
+            encoding::make_unit(s, c, &first, &second);
         }
         j += 1;
     }
@@ -137,7 +104,7 @@ fn repair_group(s: &mut [u8], g: u8, first_check: u8)
 {
     let table = group::table();
     rebuild_units(s, g, first_check, &table);
-    make_units(s, g, &table);
+    make_units(s, g);
     serve_units(s, g);
 }
 

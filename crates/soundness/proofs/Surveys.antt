@@ -2,19 +2,17 @@
 use mathlib.Core.Path.{_≡_, refl, sym, ap₂, _∙_}
 use mathlib.Core.Bool.{Bool, true, false}
 use mathlib.Core.List.{List}
-use Prim.Native.Nat.{ℕ, _+_, _≤_, _<_}
+use Prim.Native.Nat.{ℕ, _≤_, _<_}
 use native.Mathlib.Omega.{arith}
-use lib.Dec.{ltb}
 use Rattle.buffer.specs.Choice.{pick}
 use Rattle.buffer.specs.ChoiceLaws.{by-test, pick-true, pick-false}
 use Rattle.buffer.specs.Range.{all}
 use Rattle.buffer.specs.Loops.{entries}
 use Rattle.buffer.specs.RangeLaws.{all-true, entries-ext}
-use Rattle.buffer.specs.Bytes.{byte}
 use Rattle.model.specs.Layout.{view}
 use Rattle.model.specs.Reads.{firstCheck, outsIn}
 use Rattle.model.specs.Sound.{ranges}
-use Rattle.soundness.specs.Pieces.{placed, groupPlaced, unitGood, unitFill, unitCount, checkGood, pieces}
+use Rattle.soundness.specs.Pieces.{dataFits, checkFits, unitGood, unitFill, unitCount, checkGood, pieces}
 use Rattle.soundness.specs.Survey.{knownFill, Counted, Nothing, Surveyed}
 use Rattle.soundness.proofs.UnitClauses.{fill-small, good-fill}
 use Rattle.soundness.proofs.Theorem.{ranged, pieces-sound}
@@ -64,7 +62,7 @@ module _ {s fills firstChecks outs : List ℕ} where
         out = none-known 4 (outsIn (view s)) (n .unsound) (n .unknown);
       }
 
-  pub surveyed : {good : Bool} → ranges s ≡ true → all 16 (λ u. placed (ltb u (byte s 6)) (byte s (8 + u))) ≡ true → all 4 (groupPlaced s) ≡ true
+  pub surveyed : {good : Bool} → ranges s ≡ true → all 16 (dataFits s) ≡ true → all 12 (checkFits s) ≡ true
       → Counted s good fills → good ≡ true → all 12 (checkGood s) ≡ true
       → firstChecks ≡ entries 4 (firstCheck (view s)) → outs ≡ entries 4 (outsIn (view s)) → Surveyed s true fills firstChecks outs
   unfolding pieces
@@ -78,7 +76,7 @@ module _ {s fills firstChecks outs : List ℕ} where
             ∙ entries-ext 16 (λ u. pick good (unitFill s u) 0) (λ u. pick true (knownFill (view s) u) 0) (λ u l.
             ap₂ (λ t n. pick t n 0)
             e
-            (good-fill s (ranged s range) u l (all-true 16 (λ u. placed (ltb u (byte s 6)) (byte s (8 + u))) states u l) (all-true 16 (unitGood s) units u l)));
+            (good-fill s (ranged s range) u l (all-true 16 (dataFits s) states u l) (all-true 16 (unitGood s) units u l)));
         kept = all-known 4 (firstCheck (view s)) refl kept;
         out = all-known 4 (outsIn (view s)) refl out;
       }

@@ -15,11 +15,11 @@ use Rattle.buffer.specs.Bytes.{byte, part, zeros}
 use Rattle.model.specs.Layout.{view, keyOf, unitsIn, levelIn, checkAt}
 use Rattle.model.specs.Reads.{fillIn, firstCheck, listedKey, listedFill}
 use Rattle.model.specs.SoundSays.{in-range}
-use Rattle.model.specs.Sound.{same, ranges, unitsPlaced, groupsPlaced, zeroed, keysKnown, keysPlaced, listsAgree, sound}
+use Rattle.model.specs.Sound.{same, ranges, unitsPlaced, checksPlaced, zeroed, keysKnown, keysPlaced, listsAgree, sound}
 use Rattle.buffer.specs.Strided.{strided32}
 use Rattle.group.specs.Widths.{slotBytes, checkBytes}
 use Rattle.soundness.specs.Keys.{fillOf, isNew, ownAndNew}
-use Rattle.soundness.specs.Pieces.{Ranged, placed, groupPlaced, columnKeys, unkept, unitGood, checkGood, pieces}
+use Rattle.soundness.specs.Pieces.{Ranged, dataFits, checkFits, columnKeys, unkept, unitGood, checkGood, pieces}
 use Rattle.soundness.proofs.Joined.{and-assoc}
 use Rattle.soundness.proofs.Endings.{first-check-before}
 use Rattle.soundness.proofs.Listed.{check-key}
@@ -37,13 +37,13 @@ module _ (s : List ℕ) where
   unfolding levelIn view
   level-in = getD-take 8 s 7 0 (omega arith)
 
-  pub units-placed : all 16 (λ u. placed (ltb u (byte s 6)) (byte s (8 + u))) ≡ unitsPlaced (view s)
-  unfolding unitsPlaced placed
+  pub units-placed : all 16 (dataFits s) ≡ unitsPlaced (view s)
+  unfolding unitsPlaced
   units-placed = rw units-in (unfold view in refl)
 
-  pub groups-placed : all 4 (groupPlaced s) ≡ groupsPlaced (view s)
-  unfolding groupsPlaced
-  groups-placed = rw (units-in, level-in) (unfold groupPlaced placed view in refl)
+  pub checks-placed : all 12 (checkFits s) ≡ checksPlaced (view s)
+  unfolding checksPlaced
+  checks-placed = rw (units-in, level-in) (unfold view in refl)
 
 -- ---- the ranges, as the later pieces use them
 pub ranged : (s : List ℕ) → ranges s ≡ true → Ranged s
@@ -137,9 +137,9 @@ module _ (s : List ℕ) where
   zeroing = refl
 
   -- ---- both ways
-  module _ (ok : Ranged s) (states : all 16 (λ u. placed (ltb u (byte s 6)) (byte s (8 + u))) ≡ true) where
-    state : (u : ℕ) → u < 16 → placed (ltb u (byte s 6)) (byte s (8 + u)) ≡ true
-    state = all-true 16 (λ u. placed (ltb u (byte s 6)) (byte s (8 + u))) states
+  module _ (ok : Ranged s) (states : all 16 (dataFits s) ≡ true) where
+    state : (u : ℕ) → u < 16 → dataFits s u ≡ true
+    state = all-true 16 (dataFits s) states
 
     from-pieces : (all 16 (unitGood s) && all 12 (checkGood s)) ≡ true → (zeroed (view s) && keysPlaced (view s) && listsAgree (view s)) ≡ true
     unfolding slotsZero checksZero
@@ -185,7 +185,7 @@ module _ (s : List ℕ) where
 pub pieces-sound : (s : List ℕ) → pieces s ≡ sound s
 unfolding pieces sound
 pieces-sound s =
-    rw (units-placed s, groups-placed s)
+    rw (units-placed s, checks-placed s)
     (and-assoc front (all 16 (unitGood s)) (all 12 (checkGood s))
     ∙ and-ext front _ _ (λ h.
     let both = and-first (ranges s && unitsPlaced (view s)) _ h in
@@ -194,4 +194,4 @@ pieces-sound s =
     ∙ ap (λ t. t && listsAgree (view s)) (sym (and-assoc front (zeroed (view s)) (keysPlaced (view s)))))
   where
     front : Bool
-    front = ranges s && unitsPlaced (view s) && groupsPlaced (view s)
+    front = ranges s && unitsPlaced (view s) && checksPlaced (view s)

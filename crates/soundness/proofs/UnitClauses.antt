@@ -15,11 +15,11 @@ use Rattle.buffer.specs.RangeLaws.{all-true, all-holds, first-ext, first-none, 
 use Rattle.buffer.specs.Bytes.{byte, be32, zeros}
 use Rattle.model.specs.Layout.{view, keyOf, slotAt}
 use Rattle.model.specs.Reads.{fillIn, firstCheck, listedKey, listedFill}
-use Rattle.model.specs.Sound.{same, keysKnown}
+use Rattle.model.specs.Sound.{same, stateFits, keysKnown}
 use Rattle.buffer.specs.Strided.{strided32}
 use Rattle.group.specs.Widths.{slotBytes}
 use Rattle.soundness.specs.Keys.{fillOf, ownAndNew, reached, sameKeys, noKeys}
-use Rattle.soundness.specs.Pieces.{Ranged, placed, dataKeys, columnKeys, unkept, dataFill, columnFill, lostFill, unitZero, restZero}
+use Rattle.soundness.specs.Pieces.{Ranged, dataFits, dataKeys, columnKeys, unkept, dataFill, columnFill, lostFill, unitZero, restZero}
 use Rattle.soundness.specs.Pieces.{served, lost, absent, unitGood, unitFill}
 use Rattle.soundness.specs.Survey.{keysLost, knownFill}
 use Rattle.soundness.proofs.Joined.{or-right, or-left, either, behind, once}
@@ -295,10 +295,10 @@ module _ (s : List ℕ) (ok : Ranged s) (u : ℕ) (low : u < 16) where
         ∙ fill-known s u (not-lost s u (λ e. absurd (omega arith))) none
 
   -- ---- by the unit's state
-  by-state : (Q : Bool → ℕ → Type 0) → placed (ltb u (byte s 6)) (byte s (8 + u)) ≡ true
+  by-state : (Q : Bool → ℕ → Type 0) → dataFits s u ≡ true
       → (byte s (8 + u) ≡ 1 → Q (served s u) (dataFill s u)) → (byte s (8 + u) ≡ 2 → Q (lost s u) (lostFill s u)) → (byte s (8 + u) ≡ 0 → Q (absent s u) 0)
       → Q (unitGood s u) (unitFill s u)
-  unfolding placed unitGood unitFill pick
+  unfolding stateFits unitGood unitFill pick
   by-state Q h one two none =
       by-test
       (λ t.
@@ -315,11 +315,11 @@ module _ (s : List ℕ) (ok : Ranged s) (u : ℕ) (low : u < 16) where
       (λ _ k. none (eqb-true _ _ k))
       h
 
-  pub good-unit : placed (ltb u (byte s 6)) (byte s (8 + u)) ≡ true → unitGood s u ≡ true → Unit s u
+  pub good-unit : dataFits s u ≡ true → unitGood s u ≡ true → Unit s u
   good-unit p = by-state (λ t _. t ≡ true → Unit s u) p served-unit lost-unit absent-unit
 
-  pub good-fill : placed (ltb u (byte s 6)) (byte s (8 + u)) ≡ true → unitGood s u ≡ true → unitFill s u ≡ knownFill (view s) u
+  pub good-fill : dataFits s u ≡ true → unitGood s u ≡ true → unitFill s u ≡ knownFill (view s) u
   good-fill p = by-state (λ t n. t ≡ true → n ≡ knownFill (view s) u) p served-fill lost-fill absent-fill
 
-  pub unit-good : placed (ltb u (byte s 6)) (byte s (8 + u)) ≡ true → Unit s u → unitGood s u ≡ true
+  pub unit-good : dataFits s u ≡ true → Unit s u → unitGood s u ≡ true
   unit-good p g = by-state (λ t _. t ≡ true) p (λ e. unit-served e g) (λ e. unit-lost e g) (λ e. unit-absent e g)

@@ -12,7 +12,7 @@ use Rattle.buffer.specs.Bytes.{byte, part}
 use Rattle.buffer.specs.Loops.{allZero}
 use Rattle.model.specs.Layout.{view, storeBytes, slotAt, checkAt}
 use Rattle.model.specs.Reads.{firstCheck}
-use Rattle.model.specs.Sound.{ranges, checksIn, checksAllowed}
+use Rattle.model.specs.Sound.{ranges, stateFits, checkPlaced}
 use Rattle.buffer.specs.Strided.{strided32}
 use Rattle.lookup.specs.Keys.{keysAt}
 use Rattle.group.specs.Widths.{slotBytes, checkBytes}
@@ -34,16 +34,12 @@ pub record Kept (s : List ℕ) (g k : ℕ) : Type 0 where
 unfoldable pub zeroBetween : List ℕ → ℕ → ℕ → Bool
 zeroBetween s at end = allZero (part at (end - at) s)
 
--- ---- the states of the units
--- the state of a unit that is in place, or of one that is not
-unfoldable pub placed : Bool → ℕ → Bool
-placed inside x = pick inside (eqb x 1 || eqb x 2) (eqb x 0)
+-- ---- the state of a data unit, and that of a check unit, is one that the header allows
+abbrev pub dataFits : List ℕ → ℕ → Bool
+dataFits s u = stateFits (ltb u (byte s 6)) (byte s (8 + u))
 
--- the check units in place of a group, n of them, come first, and are as many as may be
-unfoldable pub groupPlaced : List ℕ → ℕ → Bool
-groupPlaced s g =
-    pick (ltb (4 * g) (byte s 6)) (checksAllowed (byte s 7) (checksIn (view s) g)) (eqb (checksIn (view s) g) 0)
-    && all 3 (λ j. placed (ltb j (checksIn (view s) g)) (byte s (24 + (3 * g + j))))
+abbrev pub checkFits : List ℕ → ℕ → Bool
+checkFits s c = stateFits (checkPlaced (byte s 6) (byte s 7) c) (byte s (24 + c))
 
 -- ---- a data unit: its own keys, and those that the first check unit in service of its group lists for it
 unfoldable pub dataKeys : List ℕ → ℕ → ℕ → ℕ
@@ -109,7 +105,7 @@ checkGood s c = pick (eqb (byte s (24 + c)) 1) (sameAsFirst s c) (checkZero s c)
 unfoldable pub pieces : List ℕ → Bool
 pieces s =
     ranges s
-    && all 16 (λ u. placed (ltb u (byte s 6)) (byte s (8 + u)))
-    && all 4 (groupPlaced s)
+    && all 16 (dataFits s)
+    && all 12 (checkFits s)
     && all 16 (unitGood s)
     && all 12 (checkGood s)

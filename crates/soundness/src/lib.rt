@@ -42,7 +42,7 @@ pub fn survey_of(s: &[u8]) -> Survey
     if !states::units_placed(s) {
         return unsound();
     }
-    if !states::groups_placed(s) {
+    if !states::checks_placed(s) {
         return unsound();
     }
     let first_checks = states::first_checks_of(s);

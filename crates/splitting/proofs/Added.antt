@@ -1,19 +1,18 @@
 -- The steps that add a unit leave what grow is to leave. Assumes nothing.
-use Prim.Native.Nat.{ℕ, _+_, _/_, _%_, _≤_, _<_}
+use Prim.Native.Nat.{ℕ, _+_, _≤_, _<_}
 use mathlib.Core.Path.{_≡_, refl, ap, _∙_}
 use mathlib.Core.List.{List}
-use mathlib.Core.Bool.{Bool, not, _&&_}
+use mathlib.Core.Bool.{Bool, not}
 use native.Mathlib.Omega.{arith}
 use native.Mathlib.Numerals.{add-one}
-use lib.Dec.{eqb, ltb}
+use lib.Dec.{eqb}
 use lib.ListN.{length, getD, set}
-use Rattle.buffer.specs.Choice.{pick}
 use Rattle.buffer.specs.ChoiceLaws.{by-pick}
 use Rattle.buffer.specs.RangeLaws.{first-le}
 use Rattle.buffer.specs.Bytes.{zeros}
 use Rattle.buffer.specs.ByteLaws.{length-zeros}
 use Rattle.group.specs.Widths.{slotBytes}
-use Rattle.model.specs.Units.{splitPointer, touched, broughtUp, moves}
+use Rattle.model.specs.Units.{splitPointer, moves}
 use Rattle.model.specs.Layout.{Store, bytes, view, levelIn, keyOf}
 use Rattle.model.specs.Places.{data-units}
 use Rattle.model.specs.Parts.{withFront, withDstates, withCstates, withSlots, withChecks}
@@ -21,11 +20,12 @@ use Rattle.model.specs.LayoutLaws.{Shaped, Same, bytes-ext, view-shaped}
 use Rattle.model.specs.StoreLaws.{chunks-shaped}
 use Rattle.model.specs.Reads.{fillIn}
 use Rattle.model.specs.Changes.{filterBy, rows, recordsIn, dealt, grown, grownState}
-use Rattle.splitting.specs.Steps.{Split, marked, levelled, madeRecord, remade, ofFirst, ofBoth}
+use Rattle.encoding.specs.Made.{madeRecord, madeAt, madeIn}
+use Rattle.encoding.specs.Holding.{Holds, holds-step}
+use Rattle.encoding.specs.MadeLaws.{made-in-change}
+use Rattle.splitting.specs.Steps.{Split, marked, levelled, ofFirst, ofBoth}
 use Rattle.splitting.proofs.Lists.{kept-holds}
-use Rattle.splitting.proofs.Holding.{Holds, holds-step}
-use Rattle.splitting.proofs.StepLaws.{marked-change, levelled-change, remade-change}
-use Rattle.splitting.proofs.Places.{pick-or}
+use Rattle.splitting.proofs.StepLaws.{marked-change, levelled-change}
 
 -- a unit has no more records than ranks
 pub fill-most : (v : Store) (u : ℕ) → fillIn v u ≤ v .size
@@ -44,23 +44,18 @@ dealt-long v m h hn u r a b =
     by-pick (λ (x : List ℕ). length x ≡ slotBytes) (eqb u n) _ _ (λ _. each (λ x. not (moves m (keyOf x)))) (λ _. h .slot u r a b))
 
 -- ---- all the steps
-unfoldable pub added : Store → ℕ → ℕ → ℕ → Store
-added v n m k = remade (ofBoth m) (levelled (ofFirst n) k (levelled (ofFirst m) k (marked (withSlots v (dealt v m)) (m + 1) m 1)))
+unfoldable pub added : Store → ℕ → ℕ → Store
+added v m k = madeIn 1 (ofBoth m) (levelled (ofFirst m) k (marked (withSlots v (dealt v m)) (m + 1) m 1))
 
-states-added : (v : Store) (n m k c : ℕ) → n ≡ splitPointer m → k ≡ levelIn v
-    → pick (ofFirst n c) (pick (ltb (c % 3) k) 1 0) (pick (ofFirst m c) (pick (ltb (c % 3) k) 1 0) (v .cstate c)) ≡ grownState v m c
-unfolding grownState broughtUp
-states-added v n m k c en ek = pick-or (ofFirst m c) (ofFirst n c) (pick (ltb (c % 3) k) 1 0) (v .cstate c) ∙ rw (en, ek)
-
-pub added-grown : (v : Store) (n m k : ℕ) → n ≡ splitPointer m → k ≡ levelIn v → Same (added v n m k) (grown v m)
-unfolding added remade levelled marked withSlots withFront withDstates withCstates withChecks madeRecord grown
-added-grown v n m k en ek = record {
+pub added-grown : (v : Store) (m k : ℕ) → k ≡ levelIn v → Same (added v m k) (grown v m)
+unfolding added madeAt levelled marked withSlots withFront withDstates withCstates withChecks madeRecord grown grownState
+added-grown v m k ek = record {
   front = ap (set (v .front) 6) (add-one m);
   size = refl;
   dstate = λ u l. refl;
-  cstate = λ c l. states-added v n m k c en ek;
+  cstate = λ c l. rw ek;
   slot = λ u r a b. refl;
-  check = λ c r a b. ap (λ x. pick (touched m (c / 3) && eqb x 1) (madeRecord (withSlots v (dealt v m)) c r) (v .check c r)) (states-added v n m k c en ek);
+  check = λ c r a b. rw ek;
   rest = refl;
 }
 
@@ -81,10 +76,6 @@ module _ {s s₁ : List ℕ} {n m : ℕ} (sp : Split s n m) (e₁ : s₁ ≡ byt
       pub new-holds : Holds s s₃ (levelled (ofFirst m) k (marked (withSlots (view s) (dealt (view s) m)) (m + 1) m 1))
       new-holds = holds-step (levelled-change (ofFirst m) k) marked-holds e₃
 
-      module _ {s₄ : List ℕ} (e₄ : s₄ ≡ bytes (levelled (ofFirst n) k (view s₃))) where
-        pub old-holds : Holds s s₄ (levelled (ofFirst n) k (levelled (ofFirst m) k (marked (withSlots (view s) (dealt (view s) m)) (m + 1) m 1)))
-        old-holds = holds-step (levelled-change (ofFirst n) k) new-holds e₄
-
-        pub all-added : {s₅ : List ℕ} → k ≡ levelIn (view s) → s₅ ≡ bytes (remade (ofBoth m) (view s₄)) → s₅ ≡ bytes (grown (view s) m)
-        all-added {s₅} ek e₅ =
-            holds-step (remade-change (ofBoth m)) old-holds e₅ .state ∙ (unfold added in bytes-ext _ _ (added-grown (view s) n m k (sp .from) ek))
+      pub all-added : {s₄ : List ℕ} → k ≡ levelIn (view s) → s₄ ≡ bytes (madeIn 1 (ofBoth m) (view s₃)) → s₄ ≡ bytes (grown (view s) m)
+      all-added {s₄} ek e₄ =
+          holds-step (made-in-change 1 (ofBoth m)) new-holds e₄ .state ∙ (unfold added in bytes-ext _ _ (added-grown (view s) m k ek))

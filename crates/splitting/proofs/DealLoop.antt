@@ -25,8 +25,8 @@ use Rattle.model.specs.Changes.{filterBy, rows, recordsIn, dealt}
 use Rattle.lookup.specs.Sized.{Sized}
 use Rattle.splitting.specs.Steps.{Split, cleared}
 use Rattle.splitting.proofs.Lists.{getD-snoc, length-snoc, getD-default, kept-none, kept-yes, kept-no, kept-holds}
-use Rattle.splitting.proofs.Holding.{Holds, holds-step, holds-five, holds-length, slots-sized}
-use Rattle.splitting.proofs.StepLaws.{cleared-change}
+use Rattle.encoding.specs.Holding.{Holds, holds-step, holds-five, holds-length}
+use Rattle.splitting.proofs.StepLaws.{slots-sized, cleared-change}
 use Rattle.splitting.proofs.Added.{fill-most}
 
 -- of the first t records of unit n, those that move to unit m and those that stay

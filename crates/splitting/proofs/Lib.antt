@@ -1,11 +1,9 @@
 pub mod Lists
-pub mod Holding
 pub mod StepLaws
 pub mod Places
 pub mod DealLoop
 pub mod MergeLoop
 pub mod Added
 pub mod Removed
+pub mod Raised
 pub mod Rows
-pub mod Ranks
-pub mod RankLoop

@@ -22,7 +22,7 @@ use Rattle.model.specs.Reads.{fillIn}
 use Rattle.model.specs.Changes.{rows, recordsIn, merged}
 use Rattle.splitting.specs.Steps.{Split, cleared}
 use Rattle.splitting.proofs.Lists.{getD-snoc, getD-default, length-rows, rows-self, behind-none, behind-more, behind-holds}
-use Rattle.splitting.proofs.Holding.{Holds, holds-step, holds-five, holds-long, holds-length}
+use Rattle.encoding.specs.Holding.{Holds, holds-step, holds-five, holds-long, holds-length}
 use Rattle.splitting.proofs.StepLaws.{cleared-change}
 
 -- the records of unit n with the first t of unit m behind them

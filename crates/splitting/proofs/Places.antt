@@ -1,29 +1,32 @@
--- What single writes leave: a unit cleared from a rank on, a check unit cleared, the states of a group's three check units. And changes of the check
--- units that one test picks, and then of those that another picks. Assumes nothing.
+-- What single writes leave: a unit cleared from a rank on, check units cleared, the states of a group's three check units. And the check units that
+-- the tests of grow and shrink pick. Assumes nothing.
 use Prim.Native.Nat.{ℕ, _+_, _*_, _-_, _/_, _%_, _≤_, _<_}
 use mathlib.Core.Path.{_≡_, refl, sym, ap, _∙_}
 use mathlib.Core.List.{List}
-use mathlib.Core.Bool.{Bool, true, false, _&&_, _||_, and-true, and-false}
+use mathlib.Core.Bool.{Bool, true, false, _&&_, _||_, and-true}
 use native.Mathlib.Omega.{arith}
 use lib.Dec.{eqb, leb, ltb}
 use lib.ListN.{length, set, length-set}
 use lib.Seq.{getD-set-other}
-use borrow.Author.Tests.{eq-eqb, ne-eqb, eqb-true, eqb-false, lt-ltb, le-leb}
+use borrow.Author.Tests.{eq-eqb, ne-eqb, eqb-true, lt-ltb, le-leb}
 use Rattle.buffer.specs.Choice.{pick}
-use Rattle.buffer.specs.ChoiceLaws.{by-pick, pick-true, pick-false}
-use Rattle.buffer.specs.TestLaws.{and-ext}
+use Rattle.buffer.specs.ChoiceLaws.{pick-false, pick-or}
+use Rattle.buffer.specs.TestLaws.{and-ext, same-test}
 use Rattle.buffer.specs.Bytes.{byte, zeros, splice}
 use Rattle.buffer.specs.Table.{upd}
 use Rattle.group.specs.Widths.{slotBytes, checkBytes}
-use Rattle.model.specs.Units.{splitPointer, touched}
+use Rattle.model.specs.Units.{splitPointer, touched, begins}
 use Rattle.model.specs.Layout.{Store, bytes, view, slotAt, checkAt}
 use Rattle.model.specs.Places.{Long, data-units, check-units}
 use Rattle.model.specs.Parts.{withFront, withCstates, withChecks}
 use Rattle.model.specs.LayoutLaws.{Shaped, Same, bytes-ext, bytes-view, view-shaped, ranks-within}
 use Rattle.model.specs.RunLaws.{run}
 use Rattle.model.specs.StoreLaws.{size-of, front-set, dstate-set, cstate-set, chunks-clear, chunks-ext, chunks-same}
-use Rattle.splitting.specs.Steps.{cleared, marked, levelled, wiped, madeRecord, remade, isUnit, inGroup, ofFirst, ofBoth}
-use Rattle.splitting.proofs.Holding.{Change, holds-start, holds-step}
+use Rattle.encoding.specs.Made.{isUnit, inGroup}
+use Rattle.encoding.specs.Holding.{holds-start, holds-step}
+use Rattle.encoding.specs.PlaceLaws.{by-place, three-places}
+use Rattle.splitting.specs.Steps.{cleared, marked, levelled, wiped, ofFirst, ofBoth}
+use Rattle.splitting.proofs.StepLaws.{wiped-change}
 
 -- ---- a run to the end of a unit
 run-rest : (f : ℕ → ℕ → List ℕ) (u q m : ℕ) (z : List ℕ) (w r : ℕ) → r < q + m → run f u q m (λ _. z) w r ≡ pick (eqb w u && leb q r) z (f w r)
@@ -60,48 +63,7 @@ clear-check s s′ b from to n c l eb ef et en hc es =
     run-rest (v .check) c 0 b (zeros checkBytes) d r (omega arith)
     ∙ ap (λ t. pick t (zeros checkBytes) (v .check d r)) (ap (λ t. eqb d c && t) (le-leb 0 r (omega arith)) ∙ and-true (eqb d c)))
 
--- ---- the three places of a group
-pub by-place : {A : Type 0} (c g : ℕ) (a : ℕ → A) (y : A)
-    → pick (eqb c (3 * g + 2)) (a 2) (pick (eqb c (3 * g + 1)) (a 1) (pick (eqb c (3 * g)) (a 0) y)) ≡ pick (eqb (c / 3) g) (a (c % 3)) y
-by-place c g a y =
-    by-pick (λ x. x ≡ pick (eqb (c / 3) g) (a (c % 3)) y) (eqb c (3 * g + 2)) _ _ (λ e. at 2 (omega arith) (eqb-true c (3 * g + 2) e)) (λ e2.
-    by-pick (λ x. x ≡ pick (eqb (c / 3) g) (a (c % 3)) y) (eqb c (3 * g + 1)) _ _ (λ e. at 1 (omega arith) (eqb-true c (3 * g + 1) e)) (λ e1.
-    by-pick (λ x. x ≡ pick (eqb (c / 3) g) (a (c % 3)) y) (eqb c (3 * g)) _ _ (λ e. let h = eqb-true c (3 * g) e in at 0 (omega arith) (omega arith)) (λ e0.
-    sym (pick-false (ne-eqb (c / 3) g (λ d. none d (eqb-false c (3 * g) e0) (eqb-false c (3 * g + 1) e1) (eqb-false c (3 * g + 2) e2))) (a (c % 3)) y))))
-  where
-    at : (j : ℕ) → j < 3 → c ≡ 3 * g + j → a j ≡ pick (eqb (c / 3) g) (a (c % 3)) y
-    at j l e =
-        let place : c % 3 ≡ j = omega arith in
-        let group : c / 3 ≡ g = omega arith in
-        sym (pick-true (eq-eqb (c / 3) g group) (a (c % 3)) y ∙ ap a place)
-
-    none : c / 3 ≡ g → (c ≡ 3 * g → ⊥) → (c ≡ 3 * g + 1 → ⊥) → (c ≡ 3 * g + 2 → ⊥) → ⊥
-    none d n0 n1 n2 = omega arith
-
--- the tests of the three places together are that of the group
-pub three-places : (g c : ℕ) → (isUnit (3 * g) c || isUnit (3 * g + 1) c || isUnit (3 * g + 2) c) ≡ inGroup g c
-unfolding pick
-three-places g c = go (eqb c (3 * g)) (eqb c (3 * g + 1)) (eqb c (3 * g + 2)) (eqb (c / 3) g) (by-place c g (λ _. true) false)
-  where
-    go : (x y z w : Bool) → pick z true (pick y true (pick x true false)) ≡ pick w true false → (x || y || z) ≡ w
-    go true true true true e = refl
-    go true true true false e = e
-    go true true false true e = refl
-    go true true false false e = e
-    go true false true true e = refl
-    go true false true false e = e
-    go true false false true e = refl
-    go true false false false e = e
-    go false true true true e = refl
-    go false true true false e = e
-    go false true false true e = refl
-    go false true false false e = e
-    go false false true true e = refl
-    go false false true false e = e
-    go false false false true e = e
-    go false false false false e = refl
-
--- three state bytes written
+-- ---- the states of a group's check units: three state bytes written
 pub set-states : (s : List ℕ) (at g k x y z : ℕ) → Long s → at ≡ 24 + 3 * g → g < 4 → x ≡ pick (ltb 0 k) 1 0 → y ≡ pick (ltb 1 k) 1 0 → z ≡ pick (ltb 2 k) 1 0
     → set (set (set s at x) (at + 1) y) (at + 2) z ≡ bytes (levelled (inGroup g) k (view s))
 unfolding levelled withCstates upd
@@ -140,27 +102,11 @@ set-marks s at m u state l ea hu =
     } in
     dstate-set t shaped (set s 6 m) (front-set v h s (sym (bytes-view s l)) (set s 6 m) 6 m (omega arith) refl) _ at u state ea hu refl
 
--- ---- first the check units that one test picks, then those that another picks
-pub pick-or : {A : Type 0} (a b : Bool) (x y : A) → pick b x (pick a x y) ≡ pick (a || b) x y
-unfolding pick
-pick-or true true x y = refl
-pick-or true false x y = refl
-pick-or false b x y = refl
-
-pick-or-and : {A : Type 0} (a b s : Bool) (x y : A) → pick (b && s) x (pick (a && s) x y) ≡ pick ((a || b) && s) x y
-unfolding pick
-pick-or-and true true true x y = refl
-pick-or-and true true false x y = refl
-pick-or-and true false true x y = refl
-pick-or-and true false false x y = refl
-pick-or-and false true true x y = refl
-pick-or-and false true false x y = refl
-pick-or-and false false s x y = refl
-
-module _ (p q o : ℕ → Bool) (e : (c : ℕ) → (p c || q c) ≡ o c) (v : Store) where
-  pub wiped-twice : Same (wiped q (wiped p v)) (wiped o v)
+-- ---- check units cleared: those that one test picks, and then those that another picks
+module _ (p q o : ℕ → Bool) (e : (c : ℕ) → (p c || q c) ≡ o c) where
+  wiped-twice : (v : Store) → Same (wiped q (wiped p v)) (wiped o v)
   unfolding wiped withChecks
-  wiped-twice = record {
+  wiped-twice v = record {
     front = refl;
     size = refl;
     dstate = λ u a. refl;
@@ -170,19 +116,15 @@ module _ (p q o : ℕ → Bool) (e : (c : ℕ) → (p c || q c) ≡ o c) (v : St
     rest = refl;
   }
 
-  pub remade-twice : Same (remade q (remade p v)) (remade o v)
-  unfolding remade withChecks madeRecord
-  remade-twice = record {
-    front = refl;
-    size = refl;
-    dstate = λ u a. refl;
-    cstate = λ c a. refl;
-    slot = λ u r a b. refl;
-    check = λ c r a b.
-        pick-or-and (p c) (q c) (eqb (v .cstate c) 1) (madeRecord v c r) (v .check c r)
-        ∙ ap (λ t. pick (t && eqb (v .cstate c) 1) (madeRecord v c r) (v .check c r)) (e c);
-    rest = refl;
-  }
+  two-wiped : (s : List ℕ) {s₁ s₂ : List ℕ} → Long s → s₁ ≡ bytes (wiped p (view s)) → s₂ ≡ bytes (wiped q (view s₁)) → s₂ ≡ bytes (wiped o (view s))
+  two-wiped s l e₁ e₂ = holds-step (wiped-change q) (holds-step (wiped-change p) (holds-start l) e₁) e₂ .state ∙ bytes-ext _ _ (wiped-twice (view s))
+
+-- the three check units of a group
+pub three-wiped : (s : List ℕ) {s₁ s₂ s₃ : List ℕ} (g : ℕ) → Long s → s₁ ≡ bytes (wiped (isUnit (3 * g)) (view s))
+    → s₂ ≡ bytes (wiped (isUnit (3 * g + 1)) (view s₁)) → s₃ ≡ bytes (wiped (isUnit (3 * g + 2)) (view s₂)) → s₃ ≡ bytes (wiped (inGroup g) (view s))
+three-wiped s g l e₁ e₂ e₃ =
+    let pair : ℕ → Bool = λ c. isUnit (3 * g) c || isUnit (3 * g + 1) c in
+    two-wiped pair (isUnit (3 * g + 2)) (inGroup g) (three-places g) s l (two-wiped (isUnit (3 * g)) (isUnit (3 * g + 1)) pair (λ c. refl) s l e₁ e₂) e₃
 
 -- ---- where the test picks none
 module _ (p : ℕ → Bool) (none : (c : ℕ) → p c ≡ false) (s : List ℕ) (l : Long s) where
@@ -208,10 +150,14 @@ module _ (p : ℕ → Bool) (none : (c : ℕ) → p c ≡ false) (s : List ℕ) 
 -- the group of unit u, where u is its first, and where it isn't
 module _ (u : ℕ) where
   pub first-unit : u % 4 ≡ 0 → inGroup (u / 4) ≡ ofFirst u
-  first-unit e = λ i c. sym (ap (λ t. eqb (c / 3) (u / 4) && t) (eq-eqb (u % 4) 0 e) ∙ and-true (eqb (c / 3) (u / 4))) i
+  unfolding begins
+  first-unit e = λ i c. same-test (eqb (c / 3) (u / 4)) (eqb (4 * (c / 3)) u)
+      (λ f. eq-eqb (4 * (c / 3)) u (omega (arith, eqb-true (c / 3) (u / 4) f)))
+      (λ f. eq-eqb (c / 3) (u / 4) (omega (arith, eqb-true (4 * (c / 3)) u f))) i
 
   pub other-unit : (u % 4 ≡ 0 → ⊥) → (c : ℕ) → ofFirst u c ≡ false
-  other-unit h c = ap (λ t. eqb (c / 3) (u / 4) && t) (ne-eqb (u % 4) 0 h) ∙ and-false (eqb (c / 3) (u / 4))
+  unfolding begins
+  other-unit h c = ne-eqb (4 * (c / 3)) u (λ f. h (omega arith))
 
 -- the groups of unit m and of unit n, which m is split from
 module _ (n m : ℕ) (from : n ≡ splitPointer m) where
@@ -225,17 +171,3 @@ module _ (n m : ℕ) (from : n ≡ splitPointer m) where
       or-same : (t : Bool) → (t || t) ≡ t
       or-same true = refl
       or-same false = refl
-
--- ---- a change of the check units that a test picks, made of the bytes: for one test and then for another, and for the three places of a group
-module _ (f : (ℕ → Bool) → Store → Store) (change : (p : ℕ → Bool) → Change (f p))
-    (twice : (p q o : ℕ → Bool) → ((c : ℕ) → (p c || q c) ≡ o c) → (v : Store) → Same (f q (f p v)) (f o v)) where
-  pub two-steps : (s : List ℕ) {s₁ s₂ : List ℕ} (p q o : ℕ → Bool) → ((c : ℕ) → (p c || q c) ≡ o c) → Long s → s₁ ≡ bytes (f p (view s))
-      → s₂ ≡ bytes (f q (view s₁)) → s₂ ≡ bytes (f o (view s))
-  two-steps s {s₁} {s₂} p q o e l e₁ e₂ =
-      holds-step (change q) (holds-step (change p) (holds-start l) e₁) e₂ .state ∙ bytes-ext _ _ (twice p q o e (view s))
-
-  pub three-steps : (s : List ℕ) {s₁ s₂ s₃ : List ℕ} (g : ℕ) → Long s → s₁ ≡ bytes (f (isUnit (3 * g)) (view s)) → s₂ ≡ bytes (f (isUnit (3 * g + 1)) (view s₁))
-      → s₃ ≡ bytes (f (isUnit (3 * g + 2)) (view s₂)) → s₃ ≡ bytes (f (inGroup g) (view s))
-  three-steps s {s₁} {s₂} {s₃} g l e₁ e₂ e₃ =
-      let pair : ℕ → Bool = λ c. isUnit (3 * g) c || isUnit (3 * g + 1) c in
-      two-steps s pair (isUnit (3 * g + 2)) (inGroup g) (three-places g) l (two-steps s (isUnit (3 * g)) (isUnit (3 * g + 1)) pair (λ c. refl) l e₁ e₂) e₃

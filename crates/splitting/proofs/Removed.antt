@@ -1,19 +1,18 @@
 -- The steps that remove a unit leave what shrink is to leave, in a store whose check units out of service are zero. Assumes nothing.
-use Prim.Native.Nat.{ℕ, _/_, _%_, _<_}
+use Prim.Native.Nat.{ℕ, _*_, _/_, _%_, _<_}
 use mathlib.Core.Path.{_≡_, refl, sym, ap, _∙_}
 use mathlib.Core.List.{List, []}
 use mathlib.Core.Bool.{false, _&&_}
 use native.Mathlib.Omega.{arith}
 use lib.Dec.{eqb, ltb}
 use lib.ListN.{length}
-use borrow.Author.Tests.{le-ltb, eqb-false}
+use borrow.Author.Tests.{le-ltb, ne-eqb, eqb-false}
 use Rattle.buffer.specs.Choice.{pick}
 use Rattle.buffer.specs.ChoiceLaws.{by-test, by-pick, pick-true, pick-false, pick-ext}
-use Rattle.buffer.specs.TestLaws.{and-false-first}
 use Rattle.buffer.specs.Bytes.{zeros}
 use Rattle.buffer.specs.ByteLaws.{length-zeros}
 use Rattle.group.specs.Widths.{slotBytes, checkBytes}
-use Rattle.model.specs.Units.{splitPointer, touched, emptied}
+use Rattle.model.specs.Units.{splitPointer, touched, begins}
 use Rattle.model.specs.Layout.{Store, bytes, view}
 use Rattle.model.specs.Places.{data-units}
 use Rattle.model.specs.Parts.{withFront, withDstates, withCstates, withSlots, withChecks}
@@ -21,10 +20,12 @@ use Rattle.model.specs.LayoutLaws.{Shaped, Same, bytes-ext, view-shaped}
 use Rattle.model.specs.StoreLaws.{size-of, chunks-shaped}
 use Rattle.model.specs.Reads.{fillIn}
 use Rattle.model.specs.Changes.{rows, recordsIn, merged, shrunk, shrunkState}
-use Rattle.splitting.specs.Steps.{Split, Blank, marked, levelled, wiped, madeRecord, remade, ofFirst, ofBoth}
+use Rattle.encoding.specs.Made.{madeRecord, madeAt, madeIn}
+use Rattle.encoding.specs.Holding.{Holds, holds-step}
+use Rattle.encoding.specs.MadeLaws.{made-in-change}
+use Rattle.splitting.specs.Steps.{Split, Blank, marked, levelled, wiped, ofFirst, ofBoth}
 use Rattle.splitting.proofs.Lists.{behind-holds}
-use Rattle.splitting.proofs.Holding.{Holds, holds-step}
-use Rattle.splitting.proofs.StepLaws.{or-first, marked-change, levelled-change, wiped-change, remade-change}
+use Rattle.splitting.proofs.StepLaws.{or-first, marked-change, levelled-change, wiped-change}
 use Rattle.splitting.proofs.Added.{fill-most}
 
 -- ---- the records merged
@@ -42,20 +43,22 @@ merged-long v m h hn hm u r a b =
 
 -- ---- all the steps
 unfoldable pub removed : Store → ℕ → Store
-removed v m = remade (ofBoth m) (wiped (ofFirst m) (levelled (ofFirst m) 0 (marked (withSlots v (merged v m)) m m 0)))
+removed v m = madeIn 1 (ofBoth m) (wiped (ofFirst m) (levelled (ofFirst m) 0 (marked (withSlots v (merged v m)) m m 0)))
 
 states-removed : (v : Store) (m c : ℕ) → pick (ofFirst m c) (pick (ltb (c % 3) 0) 1 0) (v .cstate c) ≡ shrunkState v m c
-unfolding shrunkState emptied
+unfolding shrunkState
 states-removed v m c = ap (λ x. pick (ofFirst m c) x (v .cstate c)) (pick-false (le-ltb (c % 3) 0 (omega arith)) 1 0)
 
 -- the records of check unit c, by whether its group is touched
 module _ (v : Store) (m c : ℕ) (x y : List ℕ) (blank : (v .cstate c ≡ 1 → ⊥) → y ≡ zeros checkBytes) where
   untouched : touched m (c / 3) ≡ false → pick (ofFirst m c) (zeros checkBytes) y ≡ y
-  unfolding touched
-  untouched e = pick-false (and-false-first (or-first (eqb (c / 3) (m / 4)) (eqb (c / 3) (splitPointer m / 4)) e) (eqb (m % 4) 0)) (zeros checkBytes) y
+  unfolding touched begins
+  untouched e =
+      let other : c / 3 ≡ m / 4 → ⊥ = eqb-false (c / 3) (m / 4) (or-first _ (eqb (c / 3) (splitPointer m / 4)) e) in
+      pick-false (ne-eqb (4 * (c / 3)) m (λ f. other (omega arith))) (zeros checkBytes) y
 
   state-kept : ofFirst m c ≡ false → shrunkState v m c ≡ v .cstate c
-  unfolding shrunkState emptied
+  unfolding shrunkState
   state-kept f = pick-false f 0 (v .cstate c)
 
   out-of-service : eqb (shrunkState v m c) 1 ≡ false → pick (ofFirst m c) (zeros checkBytes) y ≡ zeros checkBytes
@@ -75,7 +78,7 @@ module _ (v : Store) (m c : ℕ) (x y : List ℕ) (blank : (v .cstate c ≡ 1 �
 
 pub removed-shrunk : (v : Store) (m : ℕ) → ((c r : ℕ) → c < 12 → r < v .size → (v .cstate c ≡ 1 → ⊥) → v .check c r ≡ zeros checkBytes)
     → Same (removed v m) (shrunk v m)
-unfolding removed remade wiped levelled marked withSlots withFront withDstates withCstates withChecks madeRecord shrunk
+unfolding removed madeAt wiped levelled marked withSlots withFront withDstates withCstates withChecks madeRecord shrunk
 removed-shrunk v m blank = record {
   front = refl;
   size = refl;
@@ -110,7 +113,7 @@ module _ {s s₁ : List ℕ} {n m : ℕ} (sp : Split s n m) (e₁ : s₁ ≡ byt
         pub wiped-holds : Holds s s₄ (wiped (ofFirst m) (levelled (ofFirst m) 0 (marked (withSlots (view s) (merged (view s) m)) m m 0)))
         wiped-holds = holds-step (wiped-change (ofFirst m)) states-hold e₄
 
-        pub all-removed : {s₅ : List ℕ} → Blank s → s₅ ≡ bytes (remade (ofBoth m) (view s₄)) → s₅ ≡ bytes (shrunk (view s) m)
+        pub all-removed : {s₅ : List ℕ} → Blank s → s₅ ≡ bytes (madeIn 1 (ofBoth m) (view s₄)) → s₅ ≡ bytes (shrunk (view s) m)
         all-removed {s₅} blank e₅ =
-            holds-step (remade-change (ofBoth m)) wiped-holds e₅ .state
+            holds-step (made-in-change 1 (ofBoth m)) wiped-holds e₅ .state
             ∙ (unfold removed in bytes-ext _ _ (removed-shrunk (view s) m (λ c r a b h. blank c r a (rw (size-of s) b) (unfold view in h))))

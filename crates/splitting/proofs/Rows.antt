@@ -5,25 +5,25 @@ use mathlib.Core.Bool.{Bool, true, false, not, _||_}
 use mathlib.Core.List.{List, [], _∷_}
 use native.Mathlib.Omega.{arith}
 use lib.Dec.{eqb, ltb, leb}
-use lib.ListN.{set, getD}
+use lib.ListN.{getD}
 use borrow.Author.Tests.{not-false, leb-false, ltb-false, ne-eqb}
 use Rattle.buffer.specs.Choice.{pick}
 use Rattle.buffer.specs.ChoiceLaws.{pick-ext}
 use Rattle.buffer.specs.TestLaws.{or-other}
+use Rattle.buffer.specs.Range.{sum}
+use Rattle.buffer.specs.RangeLaws.{sum-ext}
 use Rattle.buffer.specs.Bytes.{byte, zeros}
 use Rattle.group.specs.Widths.{checkBytes}
 use Rattle.model.specs.Units.{splitPointer}
 use Rattle.model.specs.UnitLaws.{split-below}
-use Rattle.model.specs.Layout.{view, bytes, unitsIn, levelIn}
+use Rattle.model.specs.Layout.{view, unitsIn}
 use Rattle.model.specs.Places.{Long}
-use Rattle.model.specs.Parts.{withFront}
-use Rattle.model.specs.LayoutLaws.{bytes-view, view-shaped}
-use Rattle.model.specs.StoreLaws.{size-of, units-of, level-of, front-set}
-use Rattle.model.specs.Reads.{fillIn, outsIn}
+use Rattle.model.specs.StoreLaws.{size-of, units-of, level-of}
+use Rattle.model.specs.Reads.{fillIn, outsIn, unitsOutIn}
+use Rattle.model.specs.ReadLaws.{units-out-groups}
 use Rattle.model.specs.Sound.{sound}
 use Rattle.model.specs.SoundLaws.{same-true}
 use Rattle.model.specs.Numbers.{Call, grow, shrink, raise, firstOf, refusalsIn}
-use Rattle.model.specs.Changes.{raised}
 use Rattle.model.specs.RowLaws.{row-pair, first-free}
 use Rattle.model.specs.PerformLaws.{none-holds}
 use Rattle.model.specs.SoundSays.{zeroed-says, clauses}
@@ -67,23 +67,25 @@ module _ (s : List ℕ) (ok : Bool) {m : ℕ} (e : m ≡ byte s 6) where
       rw (← units, ← pred-of m) (ap (λ n. pick (not ok) 1 (pick (leb m 1) 9 n))
       (row-pair _ _ 4 ((pairCrowded (view s .size) (fillIn (view s)) (m - 1), 7) ∷ [])))
 
-  pub raise-rows : firstOf (refusalsIn ok (view s) Call.raise) ≡ firstOf
-      ((not ok, 1) ∷ (ltb 0 (splitPointer m), 9) ∷ (leb 16 m, 9) ∷ (leb 3 (byte s 7), 9) ∷ [])
-  unfolding refusalsIn
-  raise-rows = rw (← units, level-of s)
+pub raise-rows : (s : List ℕ) (ok : Bool) {k : ℕ} → k ≡ byte s 7
+    → firstOf (refusalsIn ok (view s) Call.raise) ≡ firstOf ((not ok, 1) ∷ (leb 3 k, 9) ∷ (ltb 0 (unitsOutIn (view s)), 4) ∷ [])
+unfolding refusalsIn
+raise-rows s ok e = rw (e ∙ level-of s)
 
 -- the last unit of a store with more than one
 pub last-unit : {s : List ℕ} {m : ℕ} → Sized s → m ≡ byte s 6 → 1 < m → (1 ≤ m - 1) × (m - 1 < 16)
 last-unit {s} {m} store e some = (omega arith, omega (arith, store .units))
 
 -- ---- a store that was tested
-pub sized : (s : List ℕ) {ok : Bool} → ok ≡ sound s → ok ≡ true → Sized s
-sized s e h = sound-sized (sym e ∙ h)
-
 blank : (s : List ℕ) → sound s ≡ true → Blank s
 blank s h c r a b out =
     let zero : (eqb (view s .cstate c) 1 || _) ≡ true = zeroed-says (view s) (clauses s h .zeros) .checks c r a (rw (← size-of s) b) in
     same-true (view s .check c r) (zeros checkBytes) (or-other (eqb (view s .cstate c) 1) _ (ne-eqb (view s .cstate c) 1 (unfold view in out)) zero)
+
+-- ---- what the survey says of all units
+pub outs-any : {s : List ℕ} {ok : Bool} {fills firstChecks outs : List ℕ} → Surveyed s ok fills firstChecks outs → ok ≡ true
+    → unitsOutIn (view s) ≡ sum 4 (λ g. getD outs g 0)
+outs-any {s} {outs = outs} g e = units-out-groups (view s) ∙ sym (sum-ext 4 (λ i. getD outs i 0) (outsIn (view s)) (λ i l. outs-read g e i refl l))
 
 -- ---- what the survey says of unit m and of the unit that it is split from
 module _ {s : List ℕ} {ok : Bool} {fills firstChecks outs : List ℕ} (g : Surveyed s ok fills firstChecks outs)
@@ -142,10 +144,6 @@ pub record Shrinks (s fills : List ℕ) (m : ℕ) : Type 0 where
   pub last : Pair s fills (m - 1)
   pub room : fillIn (view s) (splitPointer (m - 1)) + fillIn (view s) (m - 1) ≤ byte s 5
 
-pub record Raises (s : List ℕ) (ok : Bool) : Type 0 where
-  pub sound : ok ≡ true
-  pub low : byte s 7 < 3
-
 uncrowded : (size : ℕ) (fill : ℕ → ℕ) (m : ℕ) → pairCrowded size fill m ≡ false → fill (splitPointer m) + fill m ≤ size
 unfolding pairCrowded
 uncrowded size fill m e = ltb-false size _ e
@@ -167,11 +165,14 @@ module _ {s : List ℕ} {ok : Bool} {fills firstChecks outs : List ℕ} (g : Sur
         room = rw (size-of s) (uncrowded (view s .size) (fillIn (view s)) (m - 1) (free .1 .1 .1 .0));
       }
 
-pub raises : (s : List ℕ) {ok : Bool} {r : ℕ} → r ≡ 0 → r ≡ firstOf (refusalsIn ok (view s) Call.raise) → Raises s ok
+-- the level may be raised
+pub raises : (s : List ℕ) {ok : Bool} {r : ℕ} → ok ≡ sound s → r ≡ 0 → r ≡ firstOf (refusalsIn ok (view s) Call.raise)
+    → Long s × (byte s 6 ≤ 16) × (byte s 7 < 3)
 unfolding refusalsIn
-raises s {ok} {r} z e =
+raises s {ok} {r} t z e =
     let free = none-holds ok (view s) Call.raise r e z in
-    record { sound = not-false ok (free .0); low = rw (level-of s) (leb-false _ _ (free .1 .1 .1 .0)) }
+    let good = sound-sized (sym t ∙ not-false ok (free .0)) in
+    (good .long, good .units, rw (level-of s) (leb-false _ _ (free .1 .0)))
 
 -- ---- what the code reads for the unit that it adds or removes, at the indices i and j
 module _ {s fills : List ℕ} {m n i : ℕ} where
@@ -186,10 +187,3 @@ module _ {s fills : List ℕ} {m n i : ℕ} where
       let own = h .last .own j ej in
       let room : fillIn (view s) n + fillIn (view s) (m - 1) ≤ byte s 5 = rw (en .0) (h .room) in
       (splits (h .last) en, blank s (h .last .tested), from, own, omega arith)
-
--- ---- the level raised
-pub raised-bytes : (s : List ℕ) (k : ℕ) → Long s → k ≡ byte s 7 + 1 → set s 7 k ≡ bytes (raised (view s))
-unfolding raised withFront
-raised-bytes s k l e =
-    let more : k ≡ suc (levelIn (view s)) = e ∙ rw (level-of s) (omega arith) in
-    front-set (view s) (view-shaped s l) s (sym (bytes-view s l)) (set s 7 k) 7 k (omega arith) refl ∙ rw more

@@ -1,25 +1,26 @@
 -- The steps of grow and shrink are changes of a store's parts. Assumes nothing.
-use Prim.Native.Nat.{ℕ, _+_, _*_, _/_, _%_, _<_}
+use Prim.Native.Nat.{ℕ, _<_}
 use mathlib.Core.Path.{_≡_, refl, ap, _∙_}
 use mathlib.Core.List.{List}
 use mathlib.Core.Bool.{Bool, true, false, _&&_, _||_}
 use native.Mathlib.Omega.{arith}
 use lib.Dec.{eqb, leb}
 use lib.ListN.{length, set, length-set}
-use lib.Seq.{getD-set-other}
+use lib.Seq.{getD-take, getD-set-other}
 use Rattle.buffer.specs.Choice.{pick}
 use Rattle.buffer.specs.ChoiceLaws.{by-pick}
 use Rattle.buffer.specs.TestLaws.{not-both}
-use Rattle.buffer.specs.Bytes.{zeros}
+use Rattle.buffer.specs.Bytes.{byte, zeros}
 use Rattle.buffer.specs.ByteLaws.{length-zeros}
 use Rattle.buffer.specs.Table.{upd}
-use Rattle.group.specs.Widths.{bodyBytes, slotBytes, checkBytes}
-use Rattle.group.specs.CheckRecordLaws.{checkRecord-ext, length-checkRecord}
-use Rattle.model.specs.Layout.{Store}
-use Rattle.model.specs.Parts.{withFront, withDstates, withCstates, withSlots, withChecks}
-use Rattle.model.specs.LayoutLaws.{Shaped, Same}
-use Rattle.splitting.specs.Steps.{cleared, marked, levelled, wiped, madeRecord, remade}
-use Rattle.splitting.proofs.Holding.{Change}
+use Rattle.group.specs.Widths.{slotBytes, checkBytes}
+use Rattle.model.specs.Layout.{Store, view}
+use Rattle.model.specs.Parts.{withFront, withDstates, withCstates, withSlots}
+use Rattle.model.specs.LayoutLaws.{Shaped, Same, byte-front}
+use Rattle.model.specs.StoreLaws.{cstate-at}
+use Rattle.lookup.specs.Sized.{Sized}
+use Rattle.encoding.specs.Holding.{Holds, Change, holds-five, holds-long, checks-change}
+use Rattle.splitting.specs.Steps.{cleared, marked, levelled, wiped}
 
 -- ---- tests joined by "or", of which none holds
 pub or-first : (s t : Bool) → (s || t) ≡ false → s ≡ false
@@ -30,7 +31,7 @@ pub or-second : (s t : Bool) → (s || t) ≡ false → t ≡ false
 or-second true t e = not-both refl e
 or-second false t e = e
 
--- ---- changes of one part
+-- ---- other slots
 slots-change : (f : Store → ℕ → ℕ → List ℕ) → ((t : Store) → Shaped t → (u r : ℕ) → u < 16 → r < t .size → length (f t u r) ≡ slotBytes)
     → ((s t : Store) → Same s t → (u r : ℕ) → u < 16 → r < t .size → f s u r ≡ f t u r) → Change (λ t. withSlots t (f t))
 unfolding withSlots
@@ -41,15 +42,21 @@ slots-change f long same = record {
   rest = λ t. refl;
 }
 
-pub checks-change : (f : Store → ℕ → ℕ → List ℕ) → ((t : Store) → Shaped t → (c r : ℕ) → c < 12 → r < t .size → length (f t c r) ≡ checkBytes)
-    → ((s t : Store) → Same s t → (c r : ℕ) → c < 12 → r < t .size → f s c r ≡ f t c r) → Change (λ t. withChecks t (f t))
-unfolding withChecks
-checks-change f long same = record {
-  shaped = λ t h. record { front = h .front; size = h .size; slot = h .slot; check = long t h };
-  same = λ s t h. record { front = h .front; size = h .size; dstate = h .dstate; cstate = h .cstate; slot = h .slot; check = same s t h; rest = h .rest };
-  size = λ t. refl;
-  rest = λ t. refl;
-}
+-- the header is as it was
+pub slots-sized : {s₀ s : List ℕ} (f : ℕ → ℕ → List ℕ) → Sized s₀ → Holds s₀ s (withSlots (view s₀) f) → Sized s
+unfolding withSlots view
+slots-sized {s₀} {s} f z h =
+    let five : byte s 5 ≡ byte s₀ 5 = holds-five h in
+    let six : byte s 6 ≡ byte s₀ 6 =
+    ap (λ x. byte x 6) (h .state) ∙ byte-front (withSlots (view s₀) f) (h .shaped) 6 (omega arith) ∙ getD-take 8 s₀ 6 0 (omega arith) in
+    record {
+      some = rw five (z .some);
+      ranks = rw five (z .ranks);
+      unit = rw six (z .unit);
+      units = rw six (z .units);
+      long = holds-long h;
+      checks = λ c l. rw (cstate-at (withSlots (view s₀) f) (h .shaped) s (h .state) c l) (z .checks c l);
+    }
 
 -- ---- the slots of a unit from a rank on
 pub cleared-change : (u q : ℕ) → Change (λ t. cleared t u q)
@@ -111,20 +118,3 @@ module _ (p : ℕ → Bool) where
       (λ t h c r a b. by-pick (λ (x : List ℕ). length x ≡ checkBytes) (p c) (zeros checkBytes)
       (t .check c r) (λ _. length-zeros checkBytes) (λ _. h .check c r a b))
       (λ s t h c r a b. rw (h .check c r a b))
-
--- a record made from the data
-pub made-long : (t : Store) → Shaped t → (c r : ℕ) → c < 12 → r < t .size → length (madeRecord t c r) ≡ checkBytes
-unfolding madeRecord
-made-long t h c r a b = length-checkRecord bodyBytes (c % 3) (λ p. t .slot (4 * (c / 3) + p) r) (λ p l. h .slot (4 * (c / 3) + p) r (omega arith) b)
-
-pub made-same : (s t : Store) → Same s t → (c r : ℕ) → c < 12 → r < t .size → madeRecord s c r ≡ madeRecord t c r
-unfolding madeRecord
-made-same s t h c r a b = checkRecord-ext (c % 3) _ _ (λ p l. h .slot (4 * (c / 3) + p) r (omega arith) b)
-
-pub remade-change : (p : ℕ → Bool) → Change (remade p)
-unfolding remade
-remade-change p =
-    checks-change
-    (λ t c r. pick (p c && eqb (t .cstate c) 1) (madeRecord t c r) (t .check c r))
-    (λ t h c r a b. by-pick (λ (x : List ℕ). length x ≡ checkBytes) (p c && eqb (t .cstate c) 1) _ _ (λ _. made-long t h c r a b) (λ _. h .check c r a b))
-    (λ s t h c r a b. rw (h .check c r a b, h .cstate c a, made-same s t h c r a b))

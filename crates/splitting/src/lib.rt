@@ -1,13 +1,15 @@
 // Growing and shrinking a store by a unit, and raising its level.
 pub mod dealing;
 pub mod making;
+pub mod raising;
 pub mod states;
 
 ghost use mathlib.Core.Path.{_≡_};
-ghost use mathlib.Core.Bool.{true};
 ghost use Prim.Native.Nat.{_+_, _≤_, _<_};
+ghost use lib.Dec.{ltb};
 ghost use lib.ListN.{getD};
 ghost use Rattle.buffer.specs.Choice.{pick};
+ghost use Rattle.buffer.specs.Range.{sum};
 ghost use Rattle.buffer.specs.Bytes.{byte};
 ghost use Rattle.model.specs.Layout.{bytes, view};
 ghost use Rattle.model.specs.Reads.{fillIn};
@@ -15,7 +17,6 @@ ghost use Rattle.model.specs.Numbers.{Call, grow, shrink, raise, firstOf, refus
 ghost use Rattle.model.specs.Changes.{grown, shrunk};
 ghost use Rattle.model.specs.Perform.{outcome, plain, perform};
 ghost use Rattle.soundness.specs.Survey.{Surveyed};
-ghost use Rattle.lookup.specs.Sized.{Sized};
 ghost use Rattle.splitting.specs.Steps.{Split, Blank, pairOut, pairCrowded};
 
 // Adds unit m: the records of unit n, which is split and has count of them, are dealt out, and the check units of both groups are made anew.
@@ -27,7 +28,6 @@ fn add_unit(s: &mut [u8], n: u8, m: u8, count: u8)
     dealing::deal_out(s, n, m, count);
     states::mark(s, m + 1, m, 1);
     states::set_first(s, m, level);
-    states::set_first(s, n, level);
     making::make_groups(s, n, m);
 }
 
@@ -61,6 +61,17 @@ fn pair_crowded(b: u8, fills: [u8; 16], m: u8) -> bool
     let into = buffer::wide(fills[buffer::wide(lookup::split_pointer(m))]);
     let own = buffer::wide(fills[buffer::wide(m)]);
     buffer::wide(b) < into + own
+}
+
+// Whether a unit of the store is out, by the units out of each group.
+fn any_out(outs: [u8; 4]) -> bool
+    ensures { λ r. ⌜ r ≡ ltb 0 (sum 4 (λ g. getD outs g 0)) ⌝ }
+{
+    let total = buffer::wide(outs[0])
+        + buffer::wide(outs[1])
+        + buffer::wide(outs[2])
+        + buffer::wide(outs[3]);
+    0 < total
 }
 
 // The number of a row of the table where its test holds, and otherwise that of the rows behind it.
@@ -110,19 +121,17 @@ fn shrink_number(s: &[u8], survey: soundness::Survey) -> u8
     row(pair_out(outs, m), 4, row(pair_crowded(b, fills, m), 7, 0))
 }
 
-// The number of a raise, for a store that is sound or not.
-fn raise_number(s: &[u8], ok: bool) -> u8
-    requires { ⌜ (ok ≡ true → Sized (now s)) ⌝ }
-    ensures { λ r. ⌜ r ≡ firstOf (refusalsIn ok (view (now (s .entry))) Call.raise) ⌝ }
+// The number of a raise.
+fn raise_number(s: &[u8], survey: soundness::Survey) -> u8
+    requires { ⌜ Surveyed (now s) (survey .sound) (survey .fills) (survey .«first_checks») (survey .outs) ⌝ }
+    ensures { λ r. ⌜ r ≡ firstOf (refusalsIn (survey .sound) (view (now (s .entry))) Call.raise) ⌝ }
 {
-    if !ok {
+    if !survey.sound {
         return 1;
     }
-    let m = buffer::byte_at(s, lookup::UNITS_AT);
-    let between = 0 < lookup::split_pointer(m);
-    let whole = 16 <= m;
     let top = 3 <= buffer::byte_at(s, lookup::LEVEL_AT);
-    row(between, 9, row(whole, 9, row(top, 9, 0)))
+    let outs = survey.outs;
+    row(top, 9, row(any_out(outs), 4, 0))
 }
 
 // Grows the store by a unit.
@@ -157,15 +166,15 @@ pub fn shrink(s: &mut [u8]) -> u8
     0
 }
 
-// Raises the store's level by one.
+// Raises the store's level by one: each group in place gets a check unit.
 pub fn raise(s: &mut [u8]) -> u8
     ensures { λ r. ⌜ outcome (plain r) (now (s .exit)) ≡ perform (now (s .entry)) Call.raise ⌝ }
 {
-    let ok = soundness::is_sound(s);
-    let number = raise_number(s, ok);
+    let survey = soundness::survey_of(s);
+    let number = raise_number(s, survey);
     if number != 0 {
         return number;
     }
-    s[lookup::LEVEL_AT] = s[lookup::LEVEL_AT] + 1;
+    raising::raise_level(s);
     0
 }

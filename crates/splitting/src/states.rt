@@ -5,7 +5,8 @@ ghost use lib.Dec.{ltb};
 ghost use Rattle.buffer.specs.Choice.{pick};
 ghost use Rattle.model.specs.Layout.{bytes, view};
 ghost use Rattle.model.specs.Places.{Long};
-ghost use Rattle.splitting.specs.Steps.{marked, levelled, inGroup, ofFirst};
+ghost use Rattle.encoding.specs.Made.{inGroup};
+ghost use Rattle.splitting.specs.Steps.{marked, levelled, ofFirst};
 
 // The store has m units, and data unit u this state.
 pub fn mark(s: &mut [u8], m: u8, u: u8, state: u8)

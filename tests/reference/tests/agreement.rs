@@ -20,7 +20,7 @@ const NUMBERS: [(Kind, &[u8]); 11] = [
     (Kind::Repair, &[0, 2, 3, 8]),
     (Kind::Grow, &[0, 4, 9]),
     (Kind::Shrink, &[0, 4, 7, 9]),
-    (Kind::Raise, &[0, 9]),
+    (Kind::Raise, &[0, 4, 9]),
 ];
 
 type Reached = HashSet<(Kind, u8)>;
@@ -49,6 +49,43 @@ fn ledger_and_bytes_agree() {
     (0..250).for_each(|seed| agree(&history(seed), &mut reached));
     let due = NUMBERS.iter().flat_map(|(kind, numbers)| numbers.iter().map(|n| (*kind, *n)));
     assert_eq!(reached, due.collect());
+}
+
+/// The raises of a history: the units and the level that each one met, whether a data unit and
+/// whether a check unit was out, and its number.
+fn raises(calls: &[Call]) -> Vec<(usize, usize, bool, bool, u8)> {
+    let Call::LayOut { b } = calls[0] else { panic!("a history starts with a layout") };
+    let mut ledger = Ledger::open(b, usize::MAX).unwrap();
+    let mut raises = Vec::new();
+    for call in &calls[1..] {
+        let (data, checks) = ledger.out.split_at(16);
+        let out = (data.contains(&true), checks.contains(&true));
+        let (units, level) = (ledger.units(), ledger.level);
+        let number = ledger.perform(call).number();
+        if call.kind() == Kind::Raise {
+            raises.push((units, level, out.0, out.1, number.unwrap()));
+        }
+    }
+    raises
+}
+
+/// Raises are granted at every number of units, and refused by 4 for a data unit alone, for a check
+/// unit alone and for both, at levels 1 and 2 each; 9 comes with units out too.
+#[test]
+fn histories_raise_everywhere() {
+    let met: HashSet<_> = (0..1500).flat_map(|seed| raises(&history(seed))).collect();
+    for level in [1, 2] {
+        for units in 1..=16 {
+            assert!(met.contains(&(units, level, false, false, 0)), "{units} units, level {level}");
+        }
+        for (data, checks) in [(true, false), (false, true), (true, true)] {
+            let refused = (1..=16).any(|units| met.contains(&(units, level, data, checks, 4)));
+            assert!(refused, "level {level}, data unit out {data}, check unit out {checks}");
+        }
+    }
+    assert!(met.iter().any(|&(_, level, data, checks, number)| {
+        level == 3 && (data || checks) && number == 9
+    }));
 }
 
 #[test]

@@ -43,16 +43,22 @@ fn value_4_rebuilding() {
     assert_eq!(matrix::rebuild([3, 4, 5, 6], [9, 0xF, 8, 0xA]), (0, [5, 1, 4, 9]));
 }
 
-/// Four units with two check units, and a record of the paper in each.
-fn paper_store() -> Vec<u8> {
+/// Four units with two check units, and a record of the paper in each. The level is raised at the
+/// start or at the end.
+fn paper_store(raise_first: bool) -> Vec<u8> {
     let mut bytes = laid_out(2);
-    assert_eq!(raise(&mut bytes), 0);
+    if raise_first {
+        assert_eq!(raise(&mut bytes), 0);
+    }
     for _ in 0..3 {
         assert_eq!(grow(&mut bytes), 0);
     }
     let texts = [b"En A", b"Am A", b"Dans", b"In p"];
     for (key, text) in [4, 1, 2, 3].into_iter().zip(texts) {
         assert_eq!(teach(&mut bytes, key, &body(text)), 0);
+    }
+    if !raise_first {
+        assert_eq!(raise(&mut bytes), 0);
     }
     bytes
 }
@@ -63,17 +69,21 @@ fn parity(bytes: &[u8], check: usize) -> &[u8] {
 
 #[test]
 fn value_5_parity() {
-    let bytes = paper_store();
-    assert_eq!(parity(&bytes, 0), [0x4F, 0x63, 0x6E, 0xE4]);
-    assert_eq!(parity(&bytes, 1), [0x48, 0x6E, 0xDC, 0xEE]);
+    for raise_first in [true, false] {
+        let bytes = paper_store(raise_first);
+        assert_eq!(parity(&bytes, 0), [0x4F, 0x63, 0x6E, 0xE4]);
+        assert_eq!(parity(&bytes, 1), [0x48, 0x6E, 0xDC, 0xEE]);
+    }
 }
 
 #[test]
 fn value_6_changed_parity() {
-    let mut bytes = paper_store();
-    assert_eq!(correct(&mut bytes, 4, &body(&[0x49, 0x6E, 0x20, 0x69])), 0);
-    assert_eq!(parity(&bytes, 0), [0x45, 0x63, 0x6E, 0xD8]);
-    assert_eq!(parity(&bytes, 1), [0x40, 0x6E, 0xDC, 0x3F]);
+    for raise_first in [true, false] {
+        let mut bytes = paper_store(raise_first);
+        assert_eq!(correct(&mut bytes, 4, &body(&[0x49, 0x6E, 0x20, 0x69])), 0);
+        assert_eq!(parity(&bytes, 0), [0x45, 0x63, 0x6E, 0xD8]);
+        assert_eq!(parity(&bytes, 1), [0x40, 0x6E, 0xDC, 0x3F]);
+    }
 }
 
 #[test]

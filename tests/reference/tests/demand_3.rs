@@ -1,10 +1,10 @@
 //! What the ledger is to show, seen on histories of the byte store.
 
-use reference::call::{Answer, Call};
+use reference::call::{Answer, Call, Kind};
 use reference::generate::history;
 use reference::store::layout::{unit_range, View, IN_SERVICE, OUT};
 use reference::store::{lay_out, perform, read, repair};
-use std::collections::HashMap;
+use std::collections::{BTreeSet, HashMap};
 
 /// A history that has run: its bytes, and the calls that were granted.
 struct Past {
@@ -50,6 +50,58 @@ fn nothing_is_lost_in_service() {
             assert!(past.bytes[range.clone()] == alone[range], "seed {seed}, unit {unit}");
         }
     }
+}
+
+/// The check units of each group in place.
+fn check_units(bytes: &[u8]) -> Vec<usize> {
+    let view = View::new(bytes).unwrap();
+    (0..view.units().div_ceil(4)).map(|group| view.checks_in_place(group)).collect()
+}
+
+fn is_raise(call: &Call) -> bool {
+    call.kind() == Kind::Raise
+}
+
+/// After every call each group in place has one check unit more than raises were granted since the
+/// layout.
+#[test]
+fn check_units_count_the_raises_granted() {
+    for seed in 0..400 {
+        let calls = history(seed);
+        let mut bytes = laid_out(&calls);
+        let mut raises = 0;
+        for call in &calls[1..] {
+            let granted = perform(&mut bytes, call).number() == Some(0);
+            raises += (granted && is_raise(call)) as usize;
+            let due = vec![1 + raises; check_units(&bytes).len()];
+            assert_eq!(check_units(&bytes), due, "seed {seed}, {call}");
+        }
+    }
+}
+
+/// Two histories with equally many raises granted have equally many check units in every group in
+/// place, whatever else they have; those with no raise, one and two each come to one group, to two,
+/// to three and to four.
+#[test]
+fn equally_many_raises_leave_equally_many_check_units() {
+    let pasts: Vec<(usize, Vec<usize>)> = (0..400)
+        .map(past)
+        .map(|past| {
+            let raises = past.granted.iter().filter(|call| is_raise(call)).count();
+            (raises, check_units(&past.bytes))
+        })
+        .collect();
+    let mut met = BTreeSet::new();
+    for (raises, checks) in &pasts {
+        met.insert((*raises, checks.len()));
+        for (_, others) in pasts.iter().filter(|other| other.0 == *raises) {
+            let mut pairs =
+                checks.iter().flat_map(|one| others.iter().map(move |other| (one, other)));
+            assert!(pairs.all(|(one, other)| one == other), "{raises} raises granted");
+        }
+    }
+    let all = (0..3).flat_map(|raises| (1..5).map(move |groups| (raises, groups)));
+    assert_eq!(met, all.collect());
 }
 
 /// The body of each key by its last granted teach, correct or erase.

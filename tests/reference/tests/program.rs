@@ -19,7 +19,7 @@ const NUMBERS: [(u8, &[u8]); 11] = [
     (b'F', &[0, 1, 2, 3, 8, 10]),
     (b'G', &[0, 1, 4, 9, 10]),
     (b'S', &[0, 1, 4, 7, 9, 10]),
-    (b'K', &[0, 1, 9, 10]),
+    (b'K', &[0, 1, 4, 9, 10]),
     (b'P', &[0, 1, 8, 10]),
 ];
 
@@ -38,6 +38,49 @@ O 00 > 0
 O 10 > 0
 F 00 > 8
 ";
+
+/// Raises: refused while a data unit or a check unit is out, and at level 3; with two groups in place
+/// and n = 2, where the new check unit then rebuilds two units; and at 16 units, with three.
+const RAISES: [&str; 3] = [
+    "
+O 01 > 0
+K > 4
+F 00 > 0
+O 11 > 0
+K > 4
+F 00 > 0
+O 01 > 0
+O 02 > 0
+R 00000002 > 0 44616E73000000000000000000000000
+F 00 > 0
+",
+    "
+G > 0
+G > 0
+G > 0
+G > 0
+G > 0
+T 00000004 04040404040404040404040404040404 > 0
+T 00000005 05050505050505050505050505050505 > 0
+K > 0
+O 04 > 0
+O 05 > 0
+R 00000004 > 0 04040404040404040404040404040404
+K > 4
+F 01 > 0
+R 00000005 > 0 05050505050505050505050505050505
+",
+    "
+G > 9
+K > 0
+O 0E > 0
+O 0F > 0
+O 19 > 0
+R FFFFFFFF > 0 FEDCBA98765432100123456789ABCDEF
+K > 9
+F 03 > 0
+",
+];
 
 #[test]
 fn example() {
@@ -107,12 +150,22 @@ fn the_stored_input_reaches_every_number_of_every_letter() {
     assert_every_number(&[STORED_INPUT.to_vec()]);
 }
 
-#[test]
-fn the_stored_input_shows_values_9_to_11() {
+/// The lines of the stored input, each with what it prints.
+fn stored_transcript() -> String {
     let answered = answers(STORED_INPUT).into_iter();
     let beside = |(line, answer)| format!("{} > {answer}", String::from_utf8_lossy(line));
-    let transcript: String = answered.map(beside).collect();
-    assert!(transcript.contains(VALUES_9_TO_11));
+    answered.map(beside).collect()
+}
+
+#[test]
+fn the_stored_input_shows_values_9_to_11() {
+    assert!(stored_transcript().contains(VALUES_9_TO_11));
+}
+
+#[test]
+fn the_stored_input_shows_raises() {
+    let transcript = stored_transcript();
+    assert!(RAISES.iter().all(|part| transcript.contains(part)));
 }
 
 #[test]
@@ -170,6 +223,10 @@ fn lists_of_the_other_fixed_inputs() {
     assert_eq!(lists("fullest-list-of-sixteen-units"), [(0, 92)]);
     let listed = run(&fixed_input("fullest-list-of-sixteen-units"));
     assert!((0..16).all(|unit| listed.contains(&format!("\n{unit:02X} 03 "))));
+    assert_eq!(fixed_input("raised-at-sixteen-units").len(), 4096);
+    let raised = run(&fixed_input("raised-at-sixteen-units"));
+    let records = listed.strip_suffix('\n').unwrap().rsplit_once("\n0\n").unwrap().1;
+    assert!(raised.ends_with(&format!("\n0\n0\n0\n0\n{records}\n")));
     assert_eq!(lists("lists-up-to-the-cut"), [(0, 92); 21]);
     assert_eq!(fixed_input("lists-up-to-the-cut")[4095..4097], *b"P\n");
     assert_eq!(lists("full-unit-out"), [(0, 92), (8, 0)]);

@@ -5,6 +5,7 @@ pub mod Sound
 pub mod Numbers
 pub mod Written
 pub mod Repaired
+pub mod Raised
 pub mod Dealt
 pub mod LedgerOf
 pub mod LedgerAlike

@@ -5,7 +5,7 @@ pub mod States
 pub mod Dealt
 pub mod Seek
 pub mod Changed
-pub mod Shared
+pub mod Power
 pub mod Split
 pub mod Touched
 pub mod Grown

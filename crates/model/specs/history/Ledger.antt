@@ -27,16 +27,15 @@ pub record Ledger : Type 0 where
   pub units : ℕ  -- M, the data units
   pub level : ℕ  -- K
   pub records : ℕ → List Rec  -- data unit → its records; the rank is the place in the list
-  pub checks : ℕ → ℕ  -- group → its check units
   pub out : ℕ → Bool  -- the units marked out: data units 0 to 15, check units 16 + 3g + j
 
 -- a ledger of these parts
-abbrev pub ledger : ℕ → ℕ → ℕ → (ℕ → List Rec) → (ℕ → ℕ) → (ℕ → Bool) → Ledger
-ledger size units level records checks out = record { size = size; units = units; level = level; records = records; checks = checks; out = out }
+abbrev pub ledger : ℕ → ℕ → ℕ → (ℕ → List Rec) → (ℕ → Bool) → Ledger
+ledger size units level records out = record { size = size; units = units; level = level; records = records; out = out }
 
--- a granted layout opens it: b as given, M = 1, K = 1, an empty list of records per data unit, one check unit in group 0, none out
+-- a granted layout opens it: b as given, M = 1, K = 1, an empty list of records per data unit, none out
 unfoldable pub opened : ℕ → Ledger
-opened b = ledger b 1 1 (λ u. []) (λ g. pick (eqb g 0) 1 0) (λ w. false)
+opened b = ledger b 1 1 (λ u. []) (λ w. false)
 
 -- the unit of a key; the record at a rank; the place of a key in a list, or the list's length
 unfoldable pub home : Ledger → ℕ → ℕ
@@ -48,9 +47,9 @@ recordAt l u r = getD (l .records u) r empty
 unfoldable pub rankOf : List Rec → ℕ → ℕ
 rankOf rs k = first (length rs) (λ r. eqb (getD rs r empty .key) k)
 
--- a unit in place, one out, and its state as a number: 0 not in place, 1 in service, 2 out
+-- a unit in place, one out, and its state as a number: 0 not in place, 1 in service, 2 out. A group with a data unit in place has K check units.
 unfoldable pub placed : Ledger → ℕ → Bool
-placed l w = pick (ltb w 16) (ltb w (l .units)) (ltb ((w - 16) % 3) (l .checks ((w - 16) / 3)))
+placed l w = pick (ltb w 16) (ltb w (l .units)) (ltb (4 * ((w - 16) / 3)) (l .units) && ltb ((w - 16) % 3) (l .level))
 
 unfoldable pub isOut : Ledger → ℕ → Bool
 isOut l w = placed l w && l .out w
@@ -68,6 +67,10 @@ beyondOf l g = ltb (count 3 (λ j. placed l (16 + (3 * g + j)))) (outsOf l g)
 unfoldable pub lost : Ledger → Bool
 lost l = ltb 0 (count 16 (λ u. isOut l u && beyondOf l (u / 4)))
 
+-- all units that are out
+unfoldable pub unitsOut : Ledger → ℕ
+unitsOut l = count 28 (isOut l)
+
 -- all records
 unfoldable pub total : Ledger → ℕ
 total l = sum 16 (λ u. length (l .records u))
@@ -76,28 +79,26 @@ total l = sum 16 (λ u. length (l .records u))
 
 -- the list of unit u replaced
 unfoldable pub withRecords : Ledger → ℕ → List Rec → Ledger
-withRecords l u rs = ledger (l .size) (l .units) (l .level) (upd (l .records) u rs) (l .checks) (l .out)
+withRecords l u rs = ledger (l .size) (l .units) (l .level) (upd (l .records) u rs) (l .out)
 
 -- the group of a unit
 unfoldable pub groupOf : ℕ → ℕ
 groupOf w = pick (ltb w 16) (w / 4) ((w - 16) / 3)
 
--- grow deals list n out again, in order, by the new M; a group whose first unit is the new one or the split one then has K check units
+-- grow deals list n out again, in order, by the new M
 unfoldable pub grownLedger : Ledger → Ledger
 grownLedger l =
     let m : ℕ = l .units in
     let n : ℕ = splitPointer m in
     ledger (l .size) (suc m) (l .level)
-    (λ u. pick (eqb u m || eqb u n) (filterBy (λ x. eqb (unitOf (suc m) (x .key)) u) (l .records n)) (l .records u))
-    (λ g. pick (eqb (4 * g) m || eqb (4 * g) n) (l .level) (l .checks g)) (l .out)
+    (λ u. pick (eqb u m || eqb u n) (filterBy (λ x. eqb (unitOf (suc m) (x .key)) u) (l .records n)) (l .records u)) (l .out)
 
--- shrink puts the last list, of unit m, behind that of the unit it was split from; a group with no unit below m loses its check units
+-- shrink puts the last list, of unit m, behind that of the unit it was split from
 unfoldable pub shrunkLedger : Ledger → ℕ → Ledger
 shrunkLedger l m =
     let n : ℕ = splitPointer m in
     ledger (l .size) m (l .level)
-    (λ u. pick (eqb u m) [] (pick (eqb u n) (l .records n ++ l .records m) (l .records u)))
-    (λ g. pick (ltb (4 * g) m) (l .checks g) 0) (l .out)
+    (λ u. pick (eqb u m) [] (pick (eqb u n) (l .records n ++ l .records m) (l .records u))) (l .out)
 
 -- the ledger after a granted call
 unfoldable pub granted : Ledger → Call → Ledger
@@ -113,9 +114,9 @@ granted l (read k out) = l
 granted l (readInPlace k) = l
 granted l (list out) = l
 -- unit out marks a unit out, repair unmarks its group's; neither touches a list
-granted l (unitOut w) = ledger (l .size) (l .units) (l .level) (l .records) (l .checks) (upd (l .out) w true)
-granted l (repair g) = ledger (l .size) (l .units) (l .level) (l .records) (l .checks) (λ w. not (eqb (groupOf w) g) && l .out w)
+granted l (unitOut w) = ledger (l .size) (l .units) (l .level) (l .records) (upd (l .out) w true)
+granted l (repair g) = ledger (l .size) (l .units) (l .level) (l .records) (λ w. not (eqb (groupOf w) g) && l .out w)
 granted l grow = grownLedger l
 granted l shrink = shrunkLedger l (pred (l .units))
 -- raise adds one to K
-granted l raise = ledger (l .size) (l .units) (suc (l .level)) (l .records) (l .checks) (l .out)
+granted l raise = ledger (l .size) (l .units) (suc (l .level)) (l .records) (l .out)

@@ -1,5 +1,5 @@
 -- Runs of the store: a list of calls, each getting the store as the one before left it; and what a list of calls says of a key. Assumes nothing.
-use Prim.Native.Nat.{ℕ, _-_}
+use Prim.Native.Nat.{ℕ, _+_, _-_}
 use mathlib.Core.List.{List, [], _∷_}
 use mathlib.Core.Option.{Option, none, some}
 use mathlib.Core.Bool.{Bool, true, false, _&&_}
@@ -7,7 +7,7 @@ use lib.Dec.{eqb, ltb}
 use Rattle.buffer.specs.Choice.{pick}
 use Rattle.buffer.specs.Table.{tab}
 use Rattle.model.specs.Layout.{Store}
-use Rattle.model.specs.Numbers.{Call, byKind, numberIn}
+use Rattle.model.specs.Numbers.{Call, teach, correct, erase, read, readInPlace, list, unitOut, repair, grow, shrink, raise, byKind, numberIn}
 use Rattle.model.specs.Perform.{Answer, copied, perform}
 
 -- the answers of a list of calls, and the bytes at its end
@@ -32,6 +32,24 @@ aloneIn s (c ∷ cs) = pick (eqb (numberIn s c) 0 && lasting c) (c ∷ aloneIn (
 unfoldable pub allGranted : List ℕ → List Call → Bool
 allGranted s [] = true
 allGranted s (c ∷ cs) = eqb (numberIn s c) 0 && allGranted (perform s c .store) cs
+
+-- how many raises a call is: one or none; and how many raises of a run are granted
+unfoldable pub raises : Call → ℕ
+raises (teach k x) = 0
+raises (correct k x) = 0
+raises (erase k) = 0
+raises (read k out) = 0
+raises (readInPlace k) = 0
+raises (list out) = 0
+raises (unitOut w) = 0
+raises (repair g) = 0
+raises grow = 0
+raises shrink = 0
+raises raise = 1
+
+unfoldable pub raisesIn : List ℕ → List Call → ℕ
+raisesIn s [] = 0
+raisesIn s (c ∷ cs) = pick (eqb (numberIn s c) 0) (raises c) 0 + raisesIn (perform s c .store) cs
 
 -- the bytes of a unit: 0 to 15 data, 16 + 3g + j check
 unfoldable pub unitIn : Store → ℕ → List ℕ

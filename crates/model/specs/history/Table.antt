@@ -7,7 +7,7 @@ use lib.ListN.{length}
 use Rattle.group.specs.Widths.{bodyBytes, slotBytes}
 use Rattle.model.specs.Units.{splitPointer}
 use Rattle.model.specs.Numbers.{Call, teach, correct, erase, read, readInPlace, list, unitOut, repair, grow, shrink, raise, firstOf}
-use Rattle.model.specs.history.Ledger.{Ledger, home, rankOf, state, isOut, outsOf, beyondOf, lost, total}
+use Rattle.model.specs.history.Ledger.{Ledger, home, rankOf, state, isOut, outsOf, unitsOut, beyondOf, lost, total}
 
 -- the rows of each call
 unfoldable pub refusals : Ledger → Call → List (Bool × ℕ)
@@ -32,7 +32,7 @@ refusals l shrink =
     let m : ℕ = pred (l .units) in
     (false, 1) ∷ (leb (l .units) 1, 9) ∷ (ltb 0 (outsOf l (m / 4)), 4) ∷ (ltb 0 (outsOf l (splitPointer m / 4)), 4)
     ∷ (ltb (l .size) (length (l .records (splitPointer m)) + length (l .records m)), 7) ∷ []
-refusals l raise = (false, 1) ∷ (ltb 0 (splitPointer (l .units)), 9) ∷ (leb 16 (l .units), 9) ∷ (leb 3 (l .level), 9) ∷ []
+refusals l raise = (false, 1) ∷ (leb 3 (l .level), 9) ∷ (ltb 0 (unitsOut l), 4) ∷ []
 
 unfoldable pub number : Ledger → Call → ℕ
 number l c = firstOf (refusals l c)

@@ -26,12 +26,12 @@ returns-2 : tie.Need-returns-2
 unfolding pieces
 returns-2 c = not-sound (c .unsound2 .ensures) (simp (is-no (c .before .before .units-placed .ensures) (c .before .if2 .taken), and-false))
 
-groups-placed-requires : tie.Need-groups-placed-requires
-groups-placed-requires c κs = let h = in-range (c .before .before) in omega arith
+checks-placed-requires : tie.Need-checks-placed-requires
+checks-placed-requires c κs = let h = in-range (c .before .before) in omega arith
 
 returns-3 : tie.Need-returns-3
 unfolding pieces
-returns-3 c = not-sound (c .unsound3 .ensures) (simp (is-no (c .before .before .groups-placed .ensures) (c .before .if3 .taken), and-false))
+returns-3 c = not-sound (c .unsound3 .ensures) (simp (is-no (c .before .before .checks-placed .ensures) (c .before .if3 .taken), and-false))
 
 first-checks-of-requires : tie.Need-first-checks-of-requires
 first-checks-of-requires c κs = let h = in-range (c .before .before .before .before) in omega arith
@@ -63,7 +63,7 @@ returns-6 c =
     surveyed
     (is-yes (states .before .before .ranges-hold .ensures) (states .before .if1 .left))
     (is-yes (states .units-placed .ensures) (groups .before .if2 .left))
-    (is-yes (groups .groups-placed .ensures) (units .before .before .if3 .left))
+    (is-yes (groups .checks-placed .ensures) (units .before .before .if3 .left))
     (units .count-units .ensures)
     (not-false _ (checks .before .if4 .left))
     (is-yes (checks .checks-good .ensures) (test .if5 .left))
@@ -72,6 +72,6 @@ returns-6 c =
 
 pub survey-of-spec : {M : Type 1} → statement M
 survey-of-spec =
-    tie.close (tie.spec (λ c κs. search needs) (λ c κs. search needs) returns units-placed-requires (λ c κs. search needs) returns-2 groups-placed-requires
+    tie.close (tie.spec (λ c κs. search needs) (λ c κs. search needs) returns units-placed-requires (λ c κs. search needs) returns-2 checks-placed-requires
     (λ c κs. search needs) returns-3 first-checks-of-requires count-units-requires (λ c κs. search needs) returns-4 checks-good-requires (λ c κs. search needs)
     returns-5 outs-of-requires returns-6)

@@ -1,9 +1,9 @@
 -- `splitting::add_unit` meets its contract. Assumes nothing.
 use borrow.Author.Needs.{needs}
 use native.Mathlib.Omega.{arith}
-use Rattle.splitting.proofs.Holding.{holds-long}
+use Rattle.encoding.specs.Holding.{holds-long}
 use Rattle.model.specs.StoreLaws.{level-of}
-use Rattle.splitting.proofs.Added.{dealt-holds, marked-holds, new-holds, old-holds, all-added}
+use Rattle.splitting.proofs.Added.{dealt-holds, marked-holds, new-holds, all-added}
 use Rattle.splitting.proofs.add_unit.Statement.{statement}
 use Rattle.splitting.proofs.add_unit.Tie as tie
 
@@ -29,40 +29,27 @@ set-first-requires c κs =
     let d = k .before .before .before .before in
     let e = d .before .before .before .before in
     let sp = e .pre .0 in
-    (holds-long (marked-holds sp (d .deal-out .ensures) (k .mark .ensures)), sp .unit)
+    (holds-long (marked-holds sp (d .deal-out .ensures) (k .mark .ensures)), omega (arith, sp .apart, sp .unit))
 
-set-first-requires-2 : tie.Need-set-first-requires-2
-set-first-requires-2 c κs =
+make-groups-requires : tie.Need-make-groups-requires
+make-groups-requires c κs =
     let f = c .before .before .before in
     let k = f .before .before .before .before in
     let d = k .before .before .before .before in
     let e = d .before .before .before .before in
     let sp = e .pre .0 in
-    (holds-long (new-holds sp (d .deal-out .ensures) (k .mark .ensures) _ (f .set-first .ensures)), omega (arith, sp .apart, sp .unit))
-
-make-groups-requires : tie.Need-make-groups-requires
-make-groups-requires c κs =
-    let f2 = c .before .before .before in
-    let f = f2 .before .before .before .before in
-    let k = f .before .before .before .before in
-    let d = k .before .before .before .before in
-    let e = d .before .before .before .before in
-    let sp = e .pre .0 in
-    (holds-long (old-holds sp (d .deal-out .ensures) (k .mark .ensures) _ (f .set-first .ensures) (f2 .set-first2 .ensures)), sp .from, sp .apart, sp .unit)
+    (holds-long (new-holds sp (d .deal-out .ensures) (k .mark .ensures) _ (f .set-first .ensures)), sp .from, sp .apart, sp .unit)
 
 returns : tie.Need-returns
 returns c =
     let g = c .before .before in
-    let f2 = g .before .before .before .before in
-    let f = f2 .before .before .before .before in
+    let f = g .before .before .before .before in
     let k = f .before .before .before .before in
     let d = k .before .before .before .before in
     let e = d .before .before .before .before in
     let sp = e .pre .0 in
-    all-added sp (d .deal-out .ensures) (k .mark .ensures) _ (f .set-first .ensures) (f2 .set-first2 .ensures)
-    (level-of (e .args .s .now)) (g .make-groups .ensures)
+    all-added sp (d .deal-out .ensures) (k .mark .ensures) _ (f .set-first .ensures) (level-of (e .args .s .now)) (g .make-groups .ensures)
 
 pub add-unit-spec : {M : Type 1} → statement M
 add-unit-spec =
-    tie.close (tie.spec slice-read-level deal-out-requires add-mark mark-requires set-first-requires set-first-requires-2 make-groups-requires
-    (λ c. search needs) returns)
+    tie.close (tie.spec slice-read-level deal-out-requires add-mark mark-requires set-first-requires make-groups-requires (λ c. search needs) returns)

@@ -1,6 +1,7 @@
 -- `splitting::remove_unit` meets its contract. Assumes nothing.
 use borrow.Author.Needs.{needs}
-use Rattle.splitting.proofs.Holding.{holds-long}
+use native.Mathlib.Omega.{arith}
+use Rattle.encoding.specs.Holding.{holds-long}
 use Rattle.splitting.proofs.Removed.{merged-holds, marked-holds, states-hold, wiped-holds, all-removed}
 use Rattle.splitting.proofs.remove_unit.Statement.{statement}
 use Rattle.splitting.proofs.remove_unit.Tie as tie
@@ -21,7 +22,7 @@ set-first-requires c κs =
     let d = k .before .before .before .before in
     let e = d .before .before .before in
     let sp = e .pre .0 in
-    (holds-long (marked-holds sp (d .merge-into .ensures) (k .mark .ensures)), sp .unit)
+    (holds-long (marked-holds sp (d .merge-into .ensures) (k .mark .ensures)), omega (arith, sp .apart, sp .unit))
 
 clear-first-requires : tie.Need-clear-first-requires
 clear-first-requires c κs =

@@ -1,7 +1,9 @@
 //! Faults that the comparison has to catch, chosen by the environment variable LHRS_FAULT.
 
 use crate::call::Kind;
-use crate::store::layout::{check_at, length, View, CHECK_RECORD, HEADER};
+use crate::store;
+use crate::store::layout::{check_at, length, state_at, unit_range, View};
+use crate::store::layout::{CHECK_RECORD, HEADER, OUT, VERSION};
 use std::env;
 use std::sync::OnceLock;
 
@@ -9,7 +11,7 @@ use std::sync::OnceLock;
 /// after it and the number, and returns the number to hand back.
 type Fault = (&'static str, Kind, fn(&[u8], &mut [u8], u8) -> u8);
 
-const FAULTS: [Fault; 10] = [
+const FAULTS: [Fault; 18] = [
     ("teach-does-nothing", Kind::Teach, |before, after, number| {
         after.copy_from_slice(before);
         number
@@ -44,6 +46,13 @@ const FAULTS: [Fault; 10] = [
         number
     }),
     ("lay-out-writes-behind", Kind::LayOut, lay_out_writes_behind),
+    ("grow-gives-a-new-group-one-check-unit", Kind::Grow, |before, after, number| {
+        if number == 0 && before[6].is_multiple_of(4) {
+            let first = 16 + 3 * (before[6] as usize / 4);
+            (1..before[7] as usize).for_each(|j| remove_unit(after, first + j));
+        }
+        number
+    }),
     ("raise-tests-the-header-only", Kind::Raise, |_, after, number| {
         if number == 1 && View::new(after).is_some() {
             after[7] += 1;
@@ -51,6 +60,34 @@ const FAULTS: [Fault; 10] = [
         }
         number
     }),
+    ("raise-passes-over-a-group", Kind::Raise, |before, after, number| {
+        if number == 0 && before[6] > 4 {
+            let last = (before[6] as usize - 1) / 4;
+            remove_unit(after, 16 + 3 * last + before[7] as usize);
+        }
+        number
+    }),
+    ("raise-marks-only", Kind::Raise, |before, after, number| {
+        restore_checks(before, after, number);
+        number
+    }),
+    ("raise-makes-all-check-units-anew", Kind::Raise, raise_makes_all_check_units_anew),
+    ("raise-with-a-check-unit-out", Kind::Raise, |before, after, number| {
+        if number == 4 && !before[state_at(0)..state_at(16)].contains(&OUT) {
+            after[7] += 1;
+            return 0;
+        }
+        number
+    }),
+    ("raise-refused-where-n-is-not-0-and-at-16-units", Kind::Raise, |before, after, number| {
+        if number == 0 && (!before[6].is_power_of_two() || before[6] == 16) {
+            after.copy_from_slice(before);
+            return 9;
+        }
+        number
+    }),
+    ("version-1-accepted", Kind::Grow, version_1_accepted),
+    ("fewer-check-units-accepted", Kind::Repair, fewer_check_units_accepted),
 ];
 
 /// Faults of what is handed back beside a number, which `exports` asks for by name.
@@ -108,6 +145,13 @@ fn restore_checks(before: &[u8], after: &mut [u8], number: u8) {
     }
 }
 
+/// Takes a unit out of its place.
+fn remove_unit(bytes: &mut [u8], unit: usize) {
+    let range = unit_range(bytes[5] as usize, unit);
+    bytes[range].fill(0);
+    bytes[state_at(unit)] = 0;
+}
+
 fn parity_at_the_first_teach_only(before: &[u8], after: &mut [u8], number: u8) -> u8 {
     if before.len() > HEADER && before[HEADER..].iter().any(|&byte| byte != 0) {
         restore_checks(before, after, number);
@@ -127,6 +171,43 @@ fn erase_forgets_the_rank_left(before: &[u8], after: &mut [u8], number: u8) -> u
         if let [_, last] = records[..] {
             after[last + 16..last + 32].copy_from_slice(&before[last + 16..last + 32]);
         }
+    }
+    number
+}
+
+/// The check units that stood before the raise are made anew too, by a loss and a repair.
+fn raise_makes_all_check_units_anew(before: &[u8], after: &mut [u8], number: u8) -> u8 {
+    if number == 0 {
+        for unit in (16..28).filter(|&unit| before[state_at(unit)] != 0) {
+            store::unit_out(after, unit as u32);
+            store::repair(after, (unit as u32 - 16) / 3);
+        }
+    }
+    number
+}
+
+/// Grows a store of version 1 that would be sound by its other bytes.
+fn version_1_accepted(before: &[u8], after: &mut [u8], number: u8) -> u8 {
+    if number != 1 || before.first() != Some(&1) {
+        return number;
+    }
+    after[0] = VERSION;
+    let number = store::grow(after);
+    after[0] = 1;
+    number
+}
+
+/// Takes a store for sound whose groups have 1 to K check units, and has nothing to repair where no
+/// unit is out.
+fn fewer_check_units_accepted(_: &[u8], after: &mut [u8], number: u8) -> u8 {
+    let accepted = number == 1
+        && View::new(after).is_some_and(|view| {
+            let counts = (0..view.units().div_ceil(4)).map(|group| view.checks_in_place(group));
+            counts.into_iter().all(|count| (1..=view.level()).contains(&count))
+                && (0..28).all(|unit| view.state(unit) != OUT)
+        });
+    if accepted && store::broken_clauses(after) == Some(vec!["check units in place"]) {
+        return 0;
     }
     number
 }

@@ -104,7 +104,7 @@ impl Arguments {
             3..=7 => self.random.below(ledger.units()) as u32,
             _ => {
                 let group = self.random.below(ledger.units().div_ceil(4));
-                let j = self.random.below(ledger.checks[group]);
+                let j = self.random.below(ledger.level);
                 (16 + 3 * group + j) as u32
             }
         }

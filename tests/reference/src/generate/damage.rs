@@ -1,13 +1,15 @@
-//! Damage to a store: header, states, keys, bodies, parity, and the length of the slice.
+//! Damage to a store: header, states, check units, keys, bodies, parity, and the length of the slice.
 
 use crate::compare::case::Step;
 use crate::random::Random;
-use crate::store::layout::{check_at, length, slot_at, unit_range, View, IN_SERVICE, OUT};
+use crate::store::layout::{
+    check_at, length, slot_at, state_at, unit_range, View, CHECK_RECORD, IN_SERVICE, OUT,
+};
 
 /// Some damage to a sound store.
 pub fn damage(random: &mut Random, bytes: &[u8]) -> Vec<Step> {
     let view = View::new(bytes).expect("a sound store");
-    match random.below(16) {
+    match random.below(18) {
         0 | 1 => header(random, view),
         2 => vec![state(random)],
         3 => vec![units(random, view)],
@@ -20,6 +22,8 @@ pub fn damage(random: &mut Random, bytes: &[u8]) -> Vec<Step> {
         12 => vec![empty_slot(random, view)],
         13 => vec![wrong_body(random, view)],
         14 => wrong_parity(random, bytes),
+        15 => vec![other_version(random)],
+        16 => check_units(random, view),
         _ => vec![anywhere(random, view)],
     }
 }
@@ -37,6 +41,25 @@ fn near(random: &mut Random, value: u8) -> u8 {
 fn header(random: &mut Random, view: View) -> Vec<Step> {
     let at = random.below(8);
     vec![write(at, vec![near(random, view.bytes[at])])]
+}
+
+/// Another version, mostly that of the stores before.
+fn other_version(random: &mut Random) -> Step {
+    write(0, vec![random.pick(&[1, 1, 1, 0, 3])])
+}
+
+/// A group in place has one check unit less than the level, or one more, which is there whole: it is
+/// as the group's first one.
+fn check_units(random: &mut Random, view: View) -> Vec<Step> {
+    let first = 16 + 3 * random.below(view.units().div_ceil(4));
+    let more = view.level() < 3 && random.chance(1, 2);
+    let (unit, state, bytes) = if more {
+        let whole = view.bytes[unit_range(view.b, first)].to_vec();
+        (first + view.level(), view.state(first), whole)
+    } else {
+        (first + view.level() - 1, 0, vec![0; CHECK_RECORD * view.b])
+    };
+    vec![write(state_at(unit), vec![state]), write(unit_range(view.b, unit).start, bytes)]
 }
 
 fn state(random: &mut Random) -> Step {

@@ -1,5 +1,5 @@
 //! Fixed inputs of hallrun, for what generated ones do not reach: lists as long as lines can make
-//! them, and a second layout that is granted.
+//! them, also with units out behind a raise, and a second layout that is granted.
 
 use crate::call::Call;
 use crate::random::Random;
@@ -10,10 +10,12 @@ use crate::random::Random;
 const RECORDS: u32 = 92;
 
 /// Each input with its name.
-pub fn fixed_inputs() -> [(&'static str, Vec<u8>); 5] {
+pub fn fixed_inputs() -> [(&'static str, Vec<u8>); 6] {
     [
         ("fullest-list", fullest(2) + "P\n"),
         ("fullest-list-of-sixteen-units", fullest(16) + "P\n"),
+        // The list is rebuilt with the check unit that the raise made. It ends at 4,096 bytes.
+        ("raised-at-sixteen-units", fullest(16) + "K\nO 00\nO 01\nP"),
         // The cut at 4,096 bytes falls between a P and its 0A.
         ("lists-up-to-the-cut", fullest(2) + &"P\n".repeat(30)),
         ("full-unit-out", fullest(2) + "O 00\nP\nR FFFFFFFE\nO 01\nP\nR FFFFFFFE\n"),

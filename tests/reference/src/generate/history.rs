@@ -46,7 +46,7 @@ pub fn short_history(seed: u64) -> Vec<Call> {
 
 fn make(mut random: Random, b: usize, mixed: usize) -> Vec<Call> {
     let units = random.pick(&[1, 2, 3, 4, 4, 5, 6, 7, 8, 8, 9, 10, 12, 13, 15, 16]);
-    let raises = random.below(3);
+    let raises: Vec<usize> = (0..random.below(4)).map(|_| 1 + random.below(units)).collect();
     let fill = random.pick(&[0, 30, 75, 100]);
     let weights = random.pick(&[BALANCED, LOSING, MOVING, FILLING]);
     let mut maker = Maker {
@@ -54,7 +54,7 @@ fn make(mut random: Random, b: usize, mixed: usize) -> Vec<Call> {
         ledger: Ledger::open(b as u32, usize::MAX).expect("b is in its range"),
         calls: vec![Call::LayOut { b: b as u32 }],
     };
-    maker.grow_to(units, raises);
+    maker.grow_to(units, &raises);
     maker.fill(fill);
     (0..mixed).for_each(|_| maker.any_call(&weights));
     maker.calls
@@ -68,13 +68,14 @@ impl Maker {
         self.calls.push(call);
     }
 
-    /// Grows to so many units, with a few records and up to so many raises between.
-    fn grow_to(&mut self, units: usize, mut raises: usize) {
-        while self.ledger.units() < units {
+    /// Grows to so many units, with a few records between, and raises at the given numbers of units.
+    fn grow_to(&mut self, units: usize, raises: &[usize]) {
+        loop {
             (0..self.ledger.b.min(3)).for_each(|_| self.teach_of_pool());
-            if raises > 0 && self.arguments.random.chance(1, 2) {
-                self.push(Call::Raise);
-                raises -= 1;
+            let now = raises.iter().filter(|&&at| at == self.ledger.units()).count();
+            (0..now).for_each(|_| self.push(Call::Raise));
+            if self.ledger.units() == units {
+                return;
             }
             self.push(Call::Grow);
         }

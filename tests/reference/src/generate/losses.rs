@@ -1,4 +1,4 @@
-//! Every choice of members out of one group with three check units.
+//! Every choice of members out of one group with three check units, the last of them made by a raise.
 
 use crate::call::Call;
 
@@ -9,9 +9,10 @@ pub const LOSSES: u64 = 256;
 /// group has three data units in place, otherwise four.
 pub fn losses(choice: u64) -> Vec<Call> {
     let units = if choice & 0x80 == 0 { 4 } else { 3 };
-    let mut calls = vec![Call::LayOut { b: 3 }, Call::Raise, Call::Raise];
+    let mut calls = vec![Call::LayOut { b: 3 }, Call::Raise];
     calls.extend((1..units).map(|_| Call::Grow));
     calls.extend((1..=9).map(|key| Call::Teach { key, body: body(key) }));
+    calls.push(Call::Raise);
     let out = [0, 1, 2, 3, 16, 17, 18].into_iter().enumerate();
     let out = out.filter(|(member, _)| choice >> member & 1 == 1);
     calls.extend(out.map(|(_, unit)| Call::Out { unit }));

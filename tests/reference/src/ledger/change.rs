@@ -49,19 +49,11 @@ impl Ledger {
         for record in std::mem::take(&mut self.lists[split]) {
             self.lists[unit_of(added + 1, record.key)].push(record);
         }
-        for unit in [split, added] {
-            if unit.is_multiple_of(4) {
-                self.checks[unit / 4] = self.level;
-            }
-        }
     }
 
     fn shrink(&mut self) {
         let moved = self.lists.pop().unwrap();
         let last = self.units();
         self.lists[split_unit(last)].extend(moved);
-        if last.is_multiple_of(4) {
-            self.checks[last / 4] = 0;
-        }
     }
 }

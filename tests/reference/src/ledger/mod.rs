@@ -22,8 +22,6 @@ pub struct Ledger {
     pub level: usize,
     /// One list of records for each data unit in place; their number is M.
     pub lists: Vec<Vec<Record>>,
-    /// Check units in place, by group.
-    pub checks: [usize; 4],
     /// Units out: data units 0 to 15, check unit j of group g at 16 + 3g + j.
     pub out: [bool; 28],
 }
@@ -58,18 +56,21 @@ impl Ledger {
         if slice < 36 + 704 * b as usize {
             return Err(7);
         }
-        Ok(Ledger {
-            b: b as usize,
-            level: 1,
-            lists: vec![Vec::new()],
-            checks: [1, 0, 0, 0],
-            out: [false; 28],
-        })
+        Ok(Ledger { b: b as usize, level: 1, lists: vec![Vec::new()], out: [false; 28] })
     }
 
     /// M, the number of data units in place.
     pub fn units(&self) -> usize {
         self.lists.len()
+    }
+
+    /// Check units in place of a group.
+    pub fn checks(&self, group: usize) -> usize {
+        if 4 * group < self.units() {
+            self.level
+        } else {
+            0
+        }
     }
 
     pub fn unit_of(&self, key: u32) -> usize {
@@ -92,7 +93,7 @@ impl Ledger {
     }
 
     pub fn beyond_recovery(&self, group: usize) -> bool {
-        self.lost(group) > self.checks[group]
+        self.lost(group) > self.checks(group)
     }
 
     /// Answers a call and takes it into the ledger. A layout opens a new ledger instead.

@@ -36,7 +36,7 @@ impl Ledger {
         if unit < 16 {
             unit < self.units()
         } else {
-            (unit - 16) % 3 < self.checks[(unit - 16) / 3]
+            (unit - 16) % 3 < self.checks((unit - 16) / 3)
         }
     }
 
@@ -44,10 +44,7 @@ impl Ledger {
         match call {
             Call::Grow => self.units() == 16,
             Call::Shrink => self.units() == 1,
-            Call::Raise => {
-                let granted = split_unit(self.units()) == 0 && self.units() < 16 && self.level < 3;
-                !granted
-            }
+            Call::Raise => self.level == 3,
             _ => false,
         }
     }
@@ -59,6 +56,7 @@ impl Ledger {
             }
             Call::Grow => self.pair_lost(self.units()),
             Call::Shrink => self.pair_lost(self.units() - 1),
+            Call::Raise => self.out.contains(&true),
             Call::Out { unit } => self.out[*unit as usize],
             _ => false,
         }

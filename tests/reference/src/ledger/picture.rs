@@ -6,12 +6,12 @@ use super::Ledger;
 impl Ledger {
     /// The bytes of the store, of its length, put together from the front.
     pub fn picture(&self) -> Vec<u8> {
-        let mut bytes = vec![1];
+        let mut bytes = vec![2];
         bytes.extend((36 + 704 * self.b as u32).to_be_bytes());
         bytes.extend([self.b as u8, self.units() as u8, self.level as u8]);
         bytes.extend((0..16).map(|unit| self.state(unit, unit < self.units())));
         for group in 0..4 {
-            let state = |j| self.state(16 + 3 * group + j, j < self.checks[group]);
+            let state = |j| self.state(16 + 3 * group + j, j < self.checks(group));
             bytes.extend((0..3).map(state));
         }
         for unit in 0..16 {
@@ -48,7 +48,7 @@ impl Ledger {
     }
 
     fn check_unit(&self, group: usize, j: usize) -> Vec<u8> {
-        if j >= self.checks[group] || self.out[16 + 3 * group + j] {
+        if j >= self.checks(group) || self.out[16 + 3 * group + j] {
             return vec![0; 32 * self.b];
         }
         (0..self.b).flat_map(|place| self.check_record(group, j, place)).collect()

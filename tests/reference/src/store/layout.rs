@@ -1,5 +1,6 @@
 //! "Bytes of a store": where its parts lie, and reading them. Ranks count from 0 here.
 
+pub const VERSION: u8 = 2;
 pub const HEADER: usize = 36;
 pub const SLOT: usize = 20;
 pub const CHECK_RECORD: usize = 32;
@@ -52,7 +53,7 @@ impl<'a> View<'a> {
             return None;
         }
         let b = bytes[5] as usize;
-        let in_order = bytes[0] == 1
+        let in_order = bytes[0] == VERSION
             && (1..=64).contains(&b)
             && word(bytes, 1) as usize == length(b)
             && bytes.len() >= length(b)

@@ -39,16 +39,15 @@ fn data_units_in_place(view: View) -> bool {
     })
 }
 
-/// Each group in place has 1 to K check units, lowest places first, other groups none.
+/// Each group in place has K check units, at its lowest places; there are no others.
 fn check_units_in_place(view: View) -> bool {
-    (0..4).all(|group| {
-        let states = [0, 1, 2].map(|j| view.state(16 + 3 * group + j));
-        let count = states.iter().take_while(|&&state| state != 0).count();
-        let known = states[..count].iter().all(|&state| state == IN_SERVICE || state == OUT);
-        let rest = states[count..].iter().all(|&state| state == 0);
-        let fits =
-            if 4 * group < view.units() { (1..=view.level()).contains(&count) } else { count == 0 };
-        known && rest && fits
+    (0..12).all(|check| {
+        let due = 4 * (check / 3) < view.units() && check % 3 < view.level();
+        match view.state(16 + check) {
+            IN_SERVICE | OUT => due,
+            0 => !due,
+            _ => false,
+        }
     })
 }
 

@@ -1,6 +1,6 @@
 //! The calls on units: lay out, unit out, repair, grow, shrink, raise.
 
-use super::layout::{length, parent, unit_of, View, IN_SERVICE, OUT};
+use super::layout::{length, parent, unit_of, View, IN_SERVICE, OUT, VERSION};
 use super::recover;
 use super::sound::sound;
 use super::write::{clear_unit, make_check, set_state, set_unit, Record};
@@ -14,7 +14,7 @@ pub fn lay_out(bytes: &mut [u8], b: u32) -> u8 {
         return 7;
     }
     bytes[..length].fill(0);
-    bytes[0] = 1;
+    bytes[0] = VERSION;
     bytes[1..5].copy_from_slice(&(length as u32).to_be_bytes());
     bytes[5] = b as u8;
     bytes[6] = 1;
@@ -92,10 +92,8 @@ pub fn grow(bytes: &mut [u8]) -> u8 {
     set_unit(bytes, added, &moving);
     set_state(bytes, added, IN_SERVICE);
     bytes[6] += 1;
-    for unit in [split, added] {
-        if unit.is_multiple_of(4) {
-            (0..level).for_each(|j| set_state(bytes, 16 + 3 * (unit / 4) + j, IN_SERVICE));
-        }
+    if added.is_multiple_of(4) {
+        (0..level).for_each(|j| set_state(bytes, 16 + 3 * (added / 4) + j, IN_SERVICE));
     }
     make_checks(bytes, split / 4);
     make_checks(bytes, added / 4);
@@ -151,9 +149,14 @@ pub fn raise(bytes: &mut [u8]) -> u8 {
         return 1;
     }
     let view = View::new(bytes).unwrap();
-    if parent(view.units()) != 0 || view.units() == 16 || view.level() == 3 {
+    let (level, groups) = (view.level(), view.units().div_ceil(4));
+    if level == 3 {
         return 9;
     }
+    if (0..28).any(|unit| view.state(unit) == OUT) {
+        return 4;
+    }
     bytes[7] += 1;
+    (0..groups).for_each(|group| make_check(bytes, 3 * group + level));
     0
 }

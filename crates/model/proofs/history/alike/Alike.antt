@@ -12,6 +12,7 @@ use lib.ListN.{length, take}
 use borrow.Author.Tests.{ltb-true, ltb-false}
 use Rattle.buffer.specs.Choice.{pick}
 use Rattle.buffer.specs.ChoiceLaws.{pick-ext}
+use Rattle.buffer.specs.TestLaws.{not-both}
 use Rattle.buffer.specs.Range.{first}
 use Rattle.buffer.specs.RangeLaws.{first-ext, count-ext}
 use Rattle.buffer.specs.Bytes.{byte, zeros, part}
@@ -22,9 +23,8 @@ use Rattle.group.specs.Members.{outs, checks, beyond}
 use Rattle.model.specs.Units.{unitOf}
 use Rattle.model.specs.Layout.{Store, bytes, view, unitsIn, levelIn, keyOf}
 use Rattle.model.specs.LayoutLaws.{Shaped, Same, view-bytes, key-first}
-use Rattle.model.specs.Reads.{homeIn, fillIn, rankIn, stateIn, outsIn, beyondIn, firstCheck, listedKey, listedFill}
+use Rattle.model.specs.Reads.{homeIn, fillIn, rankIn, stateIn, outsIn, beyondIn, unitsOutIn, firstCheck, listedKey, listedFill}
 use Rattle.model.specs.ReadLaws.{fill-le}
-use Rattle.model.specs.Sound.{checksIn}
 
 -- two slots with one key; an empty slot is the same
 pub record LikeSlot (x y : List ℕ) : Type 0 where
@@ -132,6 +132,13 @@ module _ (v w : Store) (a : Alike v w) where
         rest = s .rest ∙ a .rest ∙ sym (t .rest);
       }
 
+  -- where a test puts a check unit in service and gives it other records: if it is not in service then, it was not before, and its records are the same
+  pub idle-kept : (t : Bool) (x y : List ℕ) (c r : ℕ) → c < 12 → r < v .size → eqb (pick t 1 (v .cstate c)) 1 ≡ false
+      → pick t x (v .check c r) ≡ pick t y (w .check c r)
+  unfolding pick
+  idle-kept true x y c r l m e = not-both refl e
+  idle-kept false x y c r l m e = a .idle c r l m e
+
   -- ---- the header and the states
 
   pub units-alike : unitsIn v ≡ unitsIn w
@@ -167,9 +174,9 @@ module _ (v w : Store) (a : Alike v w) where
   unfolding beyondIn beyond checks
   beyond-alike g l = ap₂ ltb (count-ext 3 _ _ (check-states (ltb 0) g l)) (unfold outsIn in outs-alike g l)
 
-  pub checks-alike : (g : ℕ) → g < 4 → checksIn v g ≡ checksIn w g
-  unfolding checksIn
-  checks-alike g l = first-ext 3 _ _ (check-states (λ n. eqb n 0) g l)
+  pub units-out-alike : unitsOutIn v ≡ unitsOutIn w
+  unfolding unitsOutIn
+  units-out-alike = count-ext 28 _ _ (λ n l. ap (λ (k : ℕ). eqb k 2) (state-alike n l))
 
   -- ---- keys
 

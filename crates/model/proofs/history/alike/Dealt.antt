@@ -2,11 +2,13 @@
 use Prim.Native.Nat.{ℕ, zero, suc, _+_, _*_, _/_, _%_, _<_}
 use mathlib.Core.Path.{_≡_, refl, sym, ap, _∙_}
 use mathlib.Core.List.{List, [], _∷_, _++_}
-use mathlib.Core.Bool.{Bool, true, false, not, _&&_, _||_}
+use mathlib.Core.Logic.{inl}
+use mathlib.Core.Bool.{Bool, true, false, not, _&&_}
 use native.Mathlib.Omega.{arith}
 use lib.Dec.{eqb, ltb}
 use lib.ListN.{length, getD, set, length-set}
 use lib.Seq.{getD-set-other}
+use borrow.Author.Tests.{ne-eqb}
 use Rattle.buffer.specs.Choice.{pick}
 use Rattle.buffer.specs.ChoiceLaws.{by-test, pick-true, pick-false, pick-ext}
 use Rattle.buffer.specs.TestLaws.{not-both, and-false-second}
@@ -14,13 +16,14 @@ use Rattle.buffer.specs.Bytes.{byte, zeros}
 use Rattle.buffer.specs.Table.{upd}
 use Rattle.group.specs.Widths.{slotBytes, checkBytes}
 use Rattle.group.specs.CheckRecord.{checkRecord}
-use Rattle.model.specs.Units.{splitPointer, moves, touched, broughtUp, emptied}
+use Rattle.model.specs.Units.{splitPointer, moves, touched, begins}
 use Rattle.model.specs.Layout.{Store, levelIn, keyOf}
 use Rattle.model.specs.LayoutLaws.{Shaped}
 use Rattle.model.specs.Reads.{fillIn}
 use Rattle.model.specs.ReadLaws.{fill-le}
 use Rattle.model.specs.Changes.{filterBy, rows, recordsIn, dealt, grownState, grown, merged, shrunkState, shrunk}
 use Rattle.model.proofs.history.alike.Alike.{LikeSlot, LikeCheck, Alike, pick-both, no-slot, no-check, key-like, level-alike, fill-alike}
+use Rattle.model.proofs.history.ledger.Touched.{is-touched}
 use Rattle.model.proofs.history.alike.Repaired.{anew-like}
 
 -- ---- lists of alike slots
@@ -112,7 +115,7 @@ module _ (v w : Store) (a : Alike v w) (m : ℕ) (hm : m < 16) (hn : splitPointe
     grown-idle : (c : ℕ) → c < 12 → eqb (grownState v m c) 1 ≡ false → eqb (v .cstate c) 1 ≡ false
     unfolding grownState
     grown-idle c l =
-        by-test (λ (t : Bool). eqb (pick t (pick (ltb (c % 3) (levelIn v)) 1 0) (v .cstate c)) 1 ≡ false → eqb (v .cstate c) 1 ≡ false) (broughtUp m (c / 3))
+        by-test (λ (t : Bool). eqb (pick t (pick (ltb (c % 3) (levelIn v)) 1 0) (v .cstate c)) 1 ≡ false → eqb (v .cstate c) 1 ≡ false) (begins m (c / 3))
         (λ _ e. by-test (λ (t : Bool). t ≡ false) (eqb (v .cstate c) 1)
         (λ q. not-both (ap (λ (n : ℕ). eqb n 1) (pick-true refl (pick (ltb (c % 3) (levelIn v)) 1 0) (v .cstate c) ∙ pick-true (within c l q) 1 0)) e)
         (λ _. refl))
@@ -150,18 +153,14 @@ module _ (v w : Store) (a : Alike v w) (m : ℕ) (hm : m < 16) (hn : splitPointe
   unfolding shrunkState
   shrunk-state c l = rw (a .cstate c l)
 
-  -- a group that is emptied is touched
-  not-emptied : (g : ℕ) → touched m g ≡ false → emptied m g ≡ false
-  unfolding touched emptied
-  not-emptied g = go (eqb g (m / 4)) (eqb g (splitPointer m / 4)) (eqb (m % 4) 0)
-    where
-      go : (s t z : Bool) → (s || t) ≡ false → (s && z) ≡ false
-      go true t z e = not-both refl e
-      go false t z e = refl
+  -- a group that unit m begins is touched
+  not-begun : (g : ℕ) → touched m g ≡ false → begins m g ≡ false
+  unfolding begins
+  not-begun g e = ne-eqb (4 * g) m (λ d. not-both (is-touched m g (inl (omega arith))) e)
 
   shrunk-idle : (c : ℕ) → touched m (c / 3) ≡ false → eqb (shrunkState v m c) 1 ≡ false → eqb (v .cstate c) 1 ≡ false
   unfolding shrunkState
-  shrunk-idle c t e = ap (λ (n : ℕ). eqb n 1) (sym (pick-false (not-emptied (c / 3) t) 0 (v .cstate c))) ∙ e
+  shrunk-idle c t e = ap (λ (n : ℕ). eqb n 1) (sym (pick-false (not-begun (c / 3) t) 0 (v .cstate c))) ∙ e
 
   pub shrunk-alike : Alike (shrunk v m) (shrunk w m)
   unfolding shrunk upd

@@ -9,8 +9,7 @@ use lib.Dec.{eqb, ltb}
 use lib.ListN.{length, take, drop, getD}
 use lib.Seq.{take-at, take-add, drop-cons, drop-drop, length-take-le, getD-take}
 use borrow.Author.Tests.{eqb-true, ltb-true, ltb-false}
-use Rattle.buffer.specs.Choice.{pick}
-use Rattle.buffer.specs.ChoiceLaws.{by-test, pick-true, pick-false}
+use Rattle.buffer.specs.ChoiceLaws.{by-test, pick-true}
 use Rattle.buffer.specs.TestLaws.{not-both, and-true, and-first, and-second, and-false-first}
 use Rattle.buffer.specs.Range.{first}
 use Rattle.buffer.specs.RangeLaws.{all-fails}
@@ -27,7 +26,7 @@ use Rattle.model.specs.LayoutLaws.{Shaped, view-shaped, key-first}
 use Rattle.model.specs.Reads.{fillIn, listedKey, listedFill}
 use Rattle.model.specs.ReadLaws.{fill-key, own-bytes, own-key, own-fill}
 use Rattle.model.specs.Sound.{keysKnown, sound}
-use Rattle.model.specs.SoundSays.{Ranged, ranged, Stateful, data-states, zero-slot, zero-check, listed-past, lists}
+use Rattle.model.specs.SoundSays.{Ranged, ranged, Stateful, fits-placed, fits-absent, by-fitting, data-states, zero-slot, zero-check, listed-past, lists}
 use Rattle.model.specs.history.Ledger.{Rec, Ledger, empty, recordAt, state}
 use Rattle.model.specs.history.Picture.{recordBytes, pictureSlot, checkOver, pictureCheck, image}
 use Rattle.model.specs.history.Typed.{Bytes}
@@ -81,10 +80,8 @@ known-of : (x y n : Bool) → (x || y) ≡ true → n ≡ true → (x || y && n)
 known-of true y n e f = refl
 known-of false y n e f = and-true e f
 
-placed-of : (p : Bool) (n : ℕ) → Stateful p n → n ≡ 1 → p ≡ true
-unfolding pick
-placed-of true n e q = refl
-placed-of false n e q = not-both e (ap (λ (k : ℕ). eqb k 0) q)
+placed-of : (p : Bool) (n : ℕ) → Stateful p n → eqb n 1 ≡ true → p ≡ true
+placed-of p n e = by-fitting (λ p n. eqb n 1 ≡ true → p ≡ true) p n e (λ _. refl) (λ _. refl) (λ q. not-both q refl)
 
 module _ (s : List ℕ) (b : Bytes s) (h : sound s ≡ true) where
   abbrev v : Store
@@ -146,7 +143,7 @@ module _ (s : List ℕ) (b : Bytes s) (h : sound s ≡ true) where
 
     read : readable v u ≡ true
     unfolding keysKnown
-    read = and-true (placed-of (ltb u (unitsIn v)) (v .dstate u) (data-states s h u hu) serving) (rw on)
+    read = and-true (placed-of (ltb u (unitsIn v)) (v .dstate u) (data-states s h u hu) on) (rw on)
 
     shown : (r : ℕ) → pictureSlot l u r ≡ recordBytes (recordAt l u r)
     shown r = slot-on l u r (ap (λ (n : ℕ). eqb n 1) (dstate-shown s b h u hu) ∙ on)
@@ -205,15 +202,14 @@ module _ (s : List ℕ) (b : Bytes s) (h : sound s ≡ true) where
         let u : ℕ = 4 * (c / 3) + p in
         let k : 3 * (u / 4) + c % 3 ≡ c = omega arith in
         and-true e (known-of (eqb (v .dstate u) 1) (eqb (v .dstate u) 2) _
-        (sym (pick-true e (eqb (v .dstate u) 1 || eqb (v .dstate u) 2) (eqb (v .dstate u) 0)) ∙ data-states s h u (omega arith))
+        (fits-placed (v .dstate u) (data-states s h u (omega arith)) e)
         (ap not (all-fails 3 (λ j. not (eqb (v .cstate (3 * (u / 4) + j)) 1)) (c % 3) (omega arith) (ap (λ (n : ℕ). not (eqb (v .cstate n) 1)) k ∙ ap not on))))
 
     not-in-place : (p : ℕ) → p < 4 → ltb (4 * (c / 3) + p) (unitsIn v) ≡ false → recordAt l (4 * (c / 3) + p) r .key ≡ keyOf (listedKey v (4 * (c / 3) + p) r)
     unfolding keyOf empty
     not-in-place p a e =
         let u : ℕ = 4 * (c / 3) + p in
-        let d : v .dstate u ≡ 0 =
-        eqb-true (v .dstate u) 0 (sym (pick-false e (eqb (v .dstate u) 1 || eqb (v .dstate u) 2) (eqb (v .dstate u) 0)) ∙ data-states s h u (omega arith)) in
+        let d : v .dstate u ≡ 0 = fits-absent (v .dstate u) (data-states s h u (omega arith)) e in
         let z : v .slot u r ≡ zeros slotBytes = zero-slot s h u r (omega arith) hr (and-false-first (ap (λ (n : ℕ). eqb n 1) d) (ltb r (fillIn v u))) in
         ap (λ (x : Rec). x .key) (past l u r (omega (arith, ap length (valid .none u (beyond u e)))))
         ∙ sym (own-key v u (ap (λ (n : ℕ). eqb n 2) d) r ∙ ap keyOf z ∙ be32-zeros slotBytes 0)

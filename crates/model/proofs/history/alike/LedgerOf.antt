@@ -1,18 +1,17 @@
 -- The ledger that a sound store shows by its header, its states and its keys, with empty bodies: it is valid. Assumes that the store holds bytes.
 use Prim.Native.Nat.{ℕ, _+_, _*_, _-_, _/_, _%_, _≤_, _<_}
-use mathlib.Core.Path.{_≡_, refl, sym, ap, _∙_}
+use mathlib.Core.Path.{_≡_, refl, ap, _∙_}
 use mathlib.Core.Logic.{_≢_}
 use mathlib.Core.List.{List, [], map}
-use mathlib.Core.Bool.{Bool, true, false, _&&_, _||_}
+use mathlib.Core.Bool.{Bool, true, false, _&&_}
 use native.Mathlib.Omega.{arith}
 use native.Mathlib.Nat.{not-suc-le-zero}
-use lib.Dec.{eqb, ltb, leb}
+use lib.Dec.{eqb, ltb}
 use lib.ListN.{length, take, drop, getD, length-map, length-take, List·getD-map, List·getD-eq-default}
-use lib.Seq.{getD-take}
-use borrow.Author.Tests.{eqb-true, eqb-false, ltb-true, ltb-false, lt-ltb, le-ltb, leb-true, not-true}
+use borrow.Author.Tests.{eqb-false, ltb-true, ltb-false, lt-ltb, le-ltb, not-true}
 use Rattle.buffer.specs.Choice.{pick}
 use Rattle.buffer.specs.ChoiceLaws.{by-test, by-pick, pick-true, pick-false}
-use Rattle.buffer.specs.TestLaws.{not-both, and-first, and-second, and-false-first}
+use Rattle.buffer.specs.TestLaws.{and-first, and-second, and-false-first}
 use Rattle.buffer.specs.Loops.{entries}
 use Rattle.buffer.specs.RangeLaws.{length-entries, getD-entries}
 use Rattle.buffer.specs.Bytes.{byte, zeros, part}
@@ -23,12 +22,13 @@ use Rattle.model.specs.Units.{unitOf}
 use Rattle.model.specs.Layout.{Store, view, slotAt, checkAt, unitsIn, levelIn, keyOf}
 use Rattle.model.specs.Reads.{stateIn, firstCheck, listedKey, listedFill}
 use Rattle.model.specs.ReadLaws.{listed-le, listed-some}
-use Rattle.model.specs.Sound.{checksIn, checksAllowed, keysKnown, sound}
-use Rattle.model.specs.SoundSays.{ranged, units-some, units-few, Stateful, data-states, group-number, check-states, listed-own, listed-differ}
+use Rattle.model.specs.Sound.{checkPlaced, keysKnown, sound}
+use Rattle.model.specs.SoundSays.{ranged, units-some, units-few, level-some, level-few, Stateful, fits-absent, by-fitting, data-states, check-states}
+use Rattle.model.specs.SoundSays.{listed-own, listed-differ}
 use Rattle.model.specs.history.Ledger.{Rec, Ledger, empty, recordAt, placed, state}
 use Rattle.model.specs.history.Typed.{Bytes}
 use Rattle.model.proofs.history.ledger.Valid.{Good, Valid}
-use Rattle.model.proofs.history.ledger.States.{placed-unit, placed-place}
+use Rattle.model.proofs.history.ledger.States.{placed-unit, placed-check}
 
 -- a record of a key alone
 abbrev pub keyRecord : ℕ → Rec
@@ -49,7 +49,6 @@ ledgerOf v = record {
   units = unitsIn v;
   level = levelIn v;
   records = λ u. pick (readable v u) (listedRecords v u) [];
-  checks = λ g. pick (ltb g 4) (checksIn v g) 0;
   out = λ w. ltb w 28 && eqb (stateIn v w) 2;
 }
 
@@ -68,22 +67,11 @@ bytes-part at n s h i =
 
 state-of : (p : Bool) (n : ℕ) → Stateful p n → pick p (pick (eqb n 2) 2 1) 0 ≡ n
 unfolding pick
-state-of true n e = go (eqb n 2) refl
-  where
-    go : (t : Bool) → eqb n 2 ≡ t → pick t 2 1 ≡ n
-    go true q = sym (eqb-true n 2 q)
-    go false q = sym (eqb-true n 1 (left (eqb n 1) (eqb n 2) e q))
-      where
-        left : (x y : Bool) → (x || y) ≡ true → y ≡ false → x ≡ true
-        left true y e q = refl
-        left false y e q = not-both e q
-state-of false n e = sym (eqb-true n 0 e)
+state-of p n e = by-fitting (λ p n. pick p (pick (eqb n 2) 2 1) 0 ≡ n) p n e refl refl refl
 
 -- a unit that is not in place is not out
 state-absent : (p : Bool) (n : ℕ) → Stateful p n → p ≡ false → eqb n 2 ≡ false
-unfolding pick
-state-absent true n e q = not-both refl q
-state-absent false n e q = ap (λ (k : ℕ). eqb k 2) (eqb-true n 0 e)
+state-absent p n e q = ap (λ (k : ℕ). eqb k 2) (fits-absent n e q)
 
 -- ---- a list of records
 
@@ -110,10 +98,6 @@ module _ (s : List ℕ) (b : Bytes s) (h : sound s ≡ true) where
   abbrev l : Ledger
   l = ledgerOf (view s)
 
-  level-most : levelIn v ≤ 3
-  unfolding levelIn view
-  level-most = rw (getD-take 8 s 7 0 (omega arith)) (ranged s h .topped)
-
   -- ---- keys are bytes
 
   listed-bytes : (u r : ℕ) → Bytes (listedKey v u r)
@@ -130,10 +114,9 @@ module _ (s : List ℕ) (b : Bytes s) (h : sound s ≡ true) where
 
   -- ---- states
 
-  check-placed : (g j : ℕ) → g < 4 → j < 3 → placed l (16 + (3 * g + j)) ≡ ltb j (checksIn v g)
-  unfolding ledgerOf
-  check-placed g j a m =
-      placed-place l g j m ∙ ap (ltb j) (pick-true (lt-ltb g 4 a) (checksIn v g) 0)
+  check-placed : (c : ℕ) → placed l (16 + c) ≡ checkPlaced (unitsIn v) (levelIn v) c
+  unfolding ledgerOf checkPlaced
+  check-placed c = placed-check l c
 
   unit-placed : (u : ℕ) → u < 16 → placed l u ≡ ltb u (unitsIn v)
   unfolding ledgerOf
@@ -145,13 +128,8 @@ module _ (s : List ℕ) (b : Bytes s) (h : sound s ≡ true) where
       (λ e. let i : w < 16 = ltb-true w 16 e in rw (unit-placed w i, low e) (data-states s h w i))
       (λ e.
       let i : 16 ≤ w = ltb-false w 16 e in
-      let g : ℕ = (w - 16) / 3 in
-      let j : ℕ = (w - 16) % 3 in
-      let k : w - 16 ≡ 3 * g + j = omega arith in
-      let m : w ≡ 16 + (3 * g + j) = omega arith in
-      let there : placed l w ≡ ltb j (checksIn v g) = ap (placed l) m ∙ check-placed g j (omega arith) (omega arith) in
-      let shown : stateIn v w ≡ v .cstate (3 * g + j) = high e ∙ ap (λ (n : ℕ). v .cstate n) k in
-      rw (there, shown) (check-states s h g j (omega arith) (omega arith)))
+      let k : w ≡ 16 + (w - 16) = omega arith in
+      rw (ap (placed l) k ∙ check-placed (w - 16), high e) (check-states s h (w - 16) (omega arith)))
     where
       low : ltb w 16 ≡ true → stateIn v w ≡ v .dstate w
       low e = unfold stateIn in pick-true e (v .dstate w) (v .cstate (w - 16))
@@ -180,22 +158,6 @@ module _ (s : List ℕ) (b : Bytes s) (h : sound s ≡ true) where
       by-test (λ (t : Bool). (t && eqb (stateIn v w) 2) ≡ false) (ltb w 28)
       (λ q. state-absent (placed l w) (stateIn v w) (stateful w (ltb-true w 28 q)) e)
       (λ q. refl)
-
-  -- ---- check units
-
-  allowed : (g : ℕ) → g < 4 → 4 * g < unitsIn v → (leb 1 (checksIn v g) && leb (checksIn v g) (levelIn v)) ≡ true
-  unfolding checksAllowed
-  allowed g a i = sym (pick-true (lt-ltb (4 * g) (unitsIn v) i) _ (eqb (checksIn v g) 0)) ∙ group-number s h g a
-
-  absent : (g : ℕ) → g < 4 → unitsIn v ≤ 4 * g → checksIn v g ≡ 0
-  absent g a i = eqb-true (checksIn v g) 0 (sym (pick-false (le-ltb (4 * g) (unitsIn v) i) (checksAllowed (levelIn v) (checksIn v g)) _) ∙ group-number s h g a)
-
-  checks-capped : (g : ℕ) → g < 4 → checksIn v g ≤ levelIn v
-  checks-capped g a =
-      by-test (λ (t : Bool). checksIn v g ≤ levelIn v) (ltb (4 * g) (unitsIn v))
-      (λ e. leb-true (checksIn v g) (levelIn v)
-      (and-second (leb 1 (checksIn v g)) (leb (checksIn v g) (levelIn v)) (allowed g a (ltb-true (4 * g) (unitsIn v) e))))
-      (λ e. omega (arith, absent g a (ltb-false (4 * g) (unitsIn v) e)))
 
   -- ---- records
 
@@ -241,7 +203,8 @@ module _ (s : List ℕ) (b : Bytes s) (h : sound s ≡ true) where
     few = units-few s h;
     least = unfold view in ranged s h .least;
     most = unfold view in ranged s h .most;
-    topped = level-most;
+    levelled = level-some s h;
+    topped = level-few s h;
     fits = λ u. by-records (λ (xs : List Rec). length xs ≤ v .size) u (λ _. omega (arith, length-listed v u, listed-le v u)) (omega arith);
     good = λ u r. by-records (λ (xs : List Rec). Good (getD xs r empty)) u (λ _. good-listed u r) (good-none r);
     keyed = λ u r. by-records (λ (xs : List Rec). r < length xs → getD xs r empty .key ≢ 0) u
@@ -256,10 +219,5 @@ module _ (s : List ℕ) (b : Bytes s) (h : sound s ≡ true) where
         (listed-differ s h u (unit-low u e) (known u e) r q i (omega (arith, at-listed u q a, listed-le v u)) (lt-ltb q (listedFill v u) (at-listed u q a))))))
         (λ a. absurd (not-suc-le-zero a));
     none = λ u a. pick-false (and-false-first (le-ltb u (unitsIn v) a) (keysKnown v u)) (listedRecords v u) [];
-    capped = λ g. by-pick (λ (n : ℕ). n ≤ levelIn v) (ltb g 4) (checksIn v g) 0 (λ e. checks-capped g (ltb-true g 4 e)) (λ e. omega arith);
-    manned = λ g a.
-        let i : g < 4 = omega (arith, units-few s h) in
-        rw (pick-true (lt-ltb g 4 i)) (leb-true 1 (checksIn v g) (and-first (leb 1 (checksIn v g)) (leb (checksIn v g) (levelIn v)) (allowed g i a)));
-    unmanned = λ g a. by-pick (λ (n : ℕ). n ≡ 0) (ltb g 4) (checksIn v g) 0 (λ e. absent g (ltb-true g 4 e) a) (λ e. refl);
     calm = out-calm;
   }

@@ -12,7 +12,8 @@ use Rattle.model.specs.Layout.{Store, unitsIn}
 use Rattle.model.specs.Reads.{homeIn, fillIn, rankIn, outsIn, stateIn}
 use Rattle.model.specs.Numbers.{teach, correct, erase, unitOut, repair, grow, shrink, raise, refusalsIn}
 use Rattle.model.specs.RowLaws.{Agree, row}
-use Rattle.model.proofs.history.alike.Alike.{Alike, units-alike, level-alike, home-alike, state-alike, outs-alike, beyond-alike, fill-alike, rank-alike}
+use Rattle.model.proofs.history.alike.Alike.{Alike, units-alike, level-alike, home-alike, state-alike, outs-alike, units-out-alike, beyond-alike}
+use Rattle.model.proofs.history.alike.Alike.{fill-alike, rank-alike}
 
 module _ (v w : Store) (a : Alike v w) (some : 1 ≤ unitsIn v) (few : unitsIn v ≤ 16) where
   -- ---- a key's unit
@@ -100,7 +101,4 @@ module _ (v w : Store) (a : Alike v w) (some : 1 ≤ unitsIn v) (few : unitsIn v
 
     pub raise-rows : Agree (refusalsIn o v raise) (refusalsIn p w raise)
     unfolding refusalsIn
-    raise-rows =
-        let m : unitsIn v ≡ unitsIn w = units-alike v w a in
-        row (ap not e) (λ _. row (ap (λ (n : ℕ). ltb 0 (splitPointer n)) m) (λ _.
-        row (ap (leb 16) m) (λ _. row (ap (leb 3) (level-alike v w a)) (λ _. tt))))
+    raise-rows = row (ap not e) (λ _. row (ap (leb 3) (level-alike v w a)) (λ _. row (ap (ltb 0) (units-out-alike v w a)) (λ _. tt)))

@@ -1,16 +1,14 @@
 -- A repair leads from alike stores to alike stores: keys are those that a check unit lists, whatever bodies are rebuilt. Assumes nothing.
 use Prim.Native.Nat.{ℕ, _+_, _*_, _-_, _/_, _%_, _≤_, _<_}
-use mathlib.Core.Path.{_≡_, refl, sym, ap, _∙_}
+use mathlib.Core.Path.{_≡_, sym, ap, _∙_}
 use mathlib.Core.List.{List, _++_}
-use mathlib.Core.Bool.{Bool, true, false, _&&_}
+use mathlib.Core.Bool.{true, false, _&&_}
 use native.Mathlib.Omega.{arith}
 use lib.Dec.{eqb, ltb}
 use lib.ListN.{length, take, drop, getD, length-append, length-drop}
 use lib.Seq.{take-at}
 use borrow.Author.Tests.{eqb-true, eqb-false, ltb-true, ltb-false}
-use Rattle.buffer.specs.Choice.{pick}
-use Rattle.buffer.specs.ChoiceLaws.{by-pick, by-test, pick-true, pick-false}
-use Rattle.buffer.specs.TestLaws.{not-both}
+use Rattle.buffer.specs.ChoiceLaws.{by-pick, pick-true}
 use Rattle.buffer.specs.RangeLaws.{first-found}
 use Rattle.buffer.specs.Bytes.{zeros, part}
 use Rattle.buffer.specs.ByteLaws.{be32-left}
@@ -29,7 +27,7 @@ use Rattle.model.specs.Reads.{beyondIn, servesIn, holds, firstCheck, lis
 use Rattle.model.specs.ReadLaws.{four-serve, check-serves}
 use Rattle.model.specs.Changes.{repaired}
 use Rattle.model.proofs.history.alike.Alike.{LikeSlot, LikeCheck, Alike, pick-both, no-slot, left-shaped, right-shaped, beyond-alike, Served}
-use Rattle.model.proofs.history.alike.Alike.{first-check-low, listed-alike}
+use Rattle.model.proofs.history.alike.Alike.{first-check-low, listed-alike, idle-kept}
 
 -- check records made anew from alike slots
 pub anew-like : (j : ℕ) (f g : ℕ → List ℕ) → ((p : ℕ) → p < 4 → LikeSlot (f p) (g p)) → LikeCheck (checkRecord j f) (checkRecord j g)
@@ -132,13 +130,7 @@ module _ (v w : Store) (a : Alike v w) (g : ℕ) (hg : g < 4) (low : (c : ℕ) �
         (pick-both LikeCheck (eqb (c / 3) g && eqb (v .cstate c) 2) (made v c r) (made w c r) (v .check c r) (w .check c r)
         (λ _. anew-like (c % 3) _ _ (λ p n. whole-like (4 * g + p) r (omega arith) m (omega arith)))
         (λ _. a .check c r l m));
-    idle = λ c r l m. rw (← (a .cstate c l))
-        (by-test (λ (t : Bool). eqb (pick t 1 (v .cstate c)) 1 ≡ false → pick t (made v c r) (v .check c r) ≡ pick t (made w c r) (w .check c r))
-        (eqb (c / 3) g && eqb (v .cstate c) 2)
-        (λ _ e. not-both (ap (λ (n : ℕ). eqb n 1) (pick-true refl 1 (v .cstate c))) e)
-        (λ _ e. pick-false refl (made v c r) (v .check c r)
-        ∙ a .idle c r l m (ap (λ (n : ℕ). eqb n 1) (sym (pick-false refl 1 (v .cstate c))) ∙ e)
-        ∙ sym (pick-false refl (made w c r) (w .check c r))));
+    idle = λ c r l m. rw (← (a .cstate c l)) (idle-kept v w a (eqb (c / 3) g && eqb (v .cstate c) 2) (made v c r) (made w c r) c r l m);
     rest = a .rest;
   }
     where

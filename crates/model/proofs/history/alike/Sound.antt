@@ -19,10 +19,10 @@ use Rattle.model.specs.Units.{unitOf}
 use Rattle.model.specs.Layout.{Store, bytes, view, storeBytes, unitsIn, keyOf}
 use Rattle.model.specs.LayoutLaws.{byte-front, length-bytes}
 use Rattle.model.specs.Reads.{fillIn, listedKey, listedFill}
-use Rattle.model.specs.Sound.{same, ranges, unitsPlaced, checksIn, groupsPlaced, zeroed, keysKnown, keysPlaced, listsAgree, sound}
+use Rattle.model.specs.Sound.{same, ranges, unitsPlaced, checksPlaced, zeroed, keysKnown, keysPlaced, listsAgree, sound}
 use Rattle.model.specs.SoundLaws.{same-true}
 use Rattle.model.specs.SoundSays.{slot-test, check-test, Zeroed, zeroed-says, clauses}
-use Rattle.model.proofs.history.alike.Alike.{Alike, left-shaped, right-shaped, seen-alike, units-alike, level-alike, check-states, checks-alike}
+use Rattle.model.proofs.history.alike.Alike.{Alike, left-shaped, right-shaped, seen-alike, units-alike, level-alike, check-states}
 use Rattle.model.proofs.history.alike.Alike.{fill-alike, Served, listed-like, listed-alike, listed-fill-alike}
 
 -- ---- tests
@@ -55,14 +55,9 @@ module _ (v w : Store) (a : Alike v w) where
   unfolding unitsPlaced
   units-placed = all-ext 16 _ _ (λ u l. rw (a .dstate u l, units-alike v w a))
 
-  groups-placed : groupsPlaced v ≡ groupsPlaced w
-  unfolding groupsPlaced
-  groups-placed = all-ext 4 _ _ (λ g l. rw (places g l, checks-alike v w a g l, units-alike v w a, level-alike v w a))
-    where
-      places : (g : ℕ) → g < 4
-          → all 3 (λ j. pick (ltb j (checksIn v g)) (eqb (v .cstate (3 * g + j)) 1 || eqb (v .cstate (3 * g + j)) 2) (eqb (v .cstate (3 * g + j)) 0))
-          ≡ all 3 (λ j. pick (ltb j (checksIn w g)) (eqb (w .cstate (3 * g + j)) 1 || eqb (w .cstate (3 * g + j)) 2) (eqb (w .cstate (3 * g + j)) 0))
-      places g l = all-ext 3 _ _ (λ j m. rw (checks-alike v w a g l, a .cstate (3 * g + j) (omega arith)))
+  checks-placed : checksPlaced v ≡ checksPlaced w
+  unfolding checksPlaced
+  checks-placed = all-ext 12 _ _ (λ c l. rw (a .cstate c l, units-alike v w a, level-alike v w a))
 
   slot-carry : (u r : ℕ) → u < 16 → r < v .size → slot-test v u r ≡ true → slot-test w u r ≡ true
   unfolding keyOf
@@ -157,4 +152,4 @@ sound-alike v w a e =
     let y : Store = view (bytes w) in
     let b : Alike x y = seen-alike v w a in
     let z : zeroed x ≡ true = clauses (bytes v) e .zeros in
-    rw (← (same-ranges v w a), ← (units-placed x y b), ← (groups-placed x y b), zeros-kept x y b z ∙ sym z, ← (keys-placed x y b), ← (lists-agree x y b)) e
+    rw (← (same-ranges v w a), ← (units-placed x y b), ← (checks-placed x y b), zeros-kept x y b z ∙ sym z, ← (keys-placed x y b), ← (lists-agree x y b)) e

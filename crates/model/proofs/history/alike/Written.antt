@@ -1,17 +1,17 @@
--- The changes that touch one unit, or the header alone, lead from alike stores to alike stores: a slot written and followed in the check units, a
--- record erased, a unit out, the level raised. Assumes nothing.
-use Prim.Native.Nat.{ℕ, suc, _+_, _*_, _/_, _%_, _<_}
+-- The changes that touch one unit lead from alike stores to alike stores: a slot written and followed in the check units, a record erased, a unit out.
+-- Assumes nothing.
+use Prim.Native.Nat.{ℕ, _+_, _*_, _/_, _%_, _<_}
 use mathlib.Core.Path.{_≡_, refl, sym, ap, ap₂, _∙_}
 use mathlib.Core.List.{List}
 use mathlib.Core.Bool.{Bool, _&&_}
 use native.Mathlib.Omega.{arith}
 use lib.Dec.{eqb}
-use lib.ListN.{length, take, drop, set, length-set}
-use lib.Seq.{take-at, length-take-le, getD-set-other}
+use lib.ListN.{length, take, drop}
+use lib.Seq.{take-at, length-take-le}
 use Rattle.buffer.specs.Choice.{pick}
 use Rattle.buffer.specs.ChoiceLaws.{pick-false, pick-ext}
 use Rattle.buffer.specs.TestLaws.{and-false-second}
-use Rattle.buffer.specs.Bytes.{byte, zeros, splice}
+use Rattle.buffer.specs.Bytes.{zeros, splice}
 use Rattle.buffer.specs.SpliceLaws.{length-splice}
 use Rattle.buffer.specs.Table.{upd}
 use Rattle.group.specs.Widths.{keyBytes, bodyBytes, keysBytes, slotBytes, checkBytes}
@@ -19,8 +19,8 @@ use Rattle.group.specs.Body.{addBody}
 use Rattle.group.specs.Parity.{adjusted}
 use Rattle.group.specs.CheckRecord.{patched}
 use Rattle.group.specs.CheckRecordLaws.{length-key}
-use Rattle.model.specs.Layout.{Store, levelIn}
-use Rattle.model.specs.Changes.{written, erased, unitLost, raised}
+use Rattle.model.specs.Layout.{Store}
+use Rattle.model.specs.Changes.{written, erased, unitLost}
 use Rattle.model.specs.ChangeLaws.{length-follow}
 use Rattle.model.proofs.history.alike.Alike.{LikeSlot, LikeCheck, Alike, pick-both, no-slot, no-check}
 
@@ -107,22 +107,5 @@ module _ (v w : Store) (a : Alike v w) where
         (λ _. a .check c r l m);
     idle = λ c r l m e. pick-ext (eqb (16 + c) n) (zeros checkBytes) (v .check c r) (zeros checkBytes) (w .check c r) (λ _. refl)
         (λ t. a .idle c r l m (ap (λ (k : ℕ). eqb k 1) (sym (pick-false t 2 (v .cstate c))) ∙ e));
-    rest = a .rest;
-  }
-
-  -- ---- the level raised
-
-  pub raised-alike : Alike (raised v) (raised w)
-  unfolding raised levelIn
-  raised-alike = record {
-    front = ap (λ (x : List ℕ). set x 7 (suc (byte x 7))) (a .front);
-    whole = length-set (v .front) 7 (suc (byte (v .front) 7)) ∙ a .whole;
-    sized = getD-set-other (v .front) 7 5 (suc (byte (v .front) 7)) 0 (omega arith) ∙ a .sized;
-    size = a .size;
-    dstate = a .dstate;
-    cstate = a .cstate;
-    slot = a .slot;
-    check = a .check;
-    idle = a .idle;
     rest = a .rest;
   }

@@ -13,7 +13,7 @@ use Rattle.model.specs.Units.{splitPointer}
 use Rattle.model.specs.Numbers.{Call, teach, correct, erase, read, readInPlace, list, unitOut, repair, grow, shrink, raise, firstOf}
 use Rattle.model.specs.RowLaws.{Free, free-first}
 use Rattle.model.specs.history.Ledger.{Ledger, opened, home, placed, isOut, state, outsOf, beyondOf, lost, total, withRecords, grownLedger, shrunkLedger}
-use Rattle.model.specs.history.Ledger.{granted}
+use Rattle.model.specs.history.Ledger.{unitsOut, granted}
 use Rattle.model.specs.history.Table.{refusals, number}
 use Rattle.model.specs.history.Answers.{after, final}
 use Rattle.model.specs.history.Runs.{lasting}
@@ -23,7 +23,7 @@ use Rattle.model.proofs.history.ledger.States.{by-state}
 
 -- the same ledger with no unit out
 unfoldable pub lossless : Ledger → Ledger
-lossless l = record { size = l .size; units = l .units; level = l .level; records = l .records; checks = l .checks; out = λ w. false }
+lossless l = record { size = l .size; units = l .units; level = l .level; records = l .records; out = λ w. false }
 
 -- the granted calls of a list other than losses and repairs, by the ledger
 unfoldable pub alone : Ledger → List Call → List Call
@@ -58,7 +58,7 @@ module _ (l : Ledger) where
 
   -- what is granted is granted with no unit out
   free-lossless : (c : Call) → lasting c ≡ true → Free (refusals l c) → Free (refusals (lossless l) c)
-  unfolding refusals lasting lossless home total
+  unfolding refusals lasting lossless home total unitsOut
   free-lossless (teach k x) a f = (f .0, (f .1 .0, (refl, (none-out (home l k / 4), f .1 .1 .1 .1))))
   free-lossless (correct k x) a f = (f .0, (f .1 .0, (refl, (none-out (home l k / 4), f .1 .1 .1 .1))))
   free-lossless (erase k) a f = (f .0, (refl, (none-out (home l k / 4), f .1 .1 .1)))
@@ -70,7 +70,7 @@ module _ (l : Ledger) where
   free-lossless (repair g) a f = not-both a refl
   free-lossless grow a f = (refl, (f .1 .0, (none-out (l .units / 4), (none-out (splitPointer (l .units) / 4), tt))))
   free-lossless shrink a f = (refl, (f .1 .0, (none-out (pred (l .units) / 4), (none-out (splitPointer (pred (l .units)) / 4), f .1 .1 .1 .1))))
-  free-lossless raise a f = f
+  free-lossless raise a f = (refl, (f .1 .0, (rw (count-fails 28 (isOut (lossless l)) (λ w b. isOut-lossless w)), tt)))
 
   number-lossless : (c : Call) → lasting c ≡ true → eqb (number l c) 0 ≡ true → eqb (number (lossless l) c) 0 ≡ true
   unfolding number
@@ -90,7 +90,7 @@ module _ (l : Ledger) where
   granted-lossless shrink a = refl
   granted-lossless raise a = refl
 
-  -- losses and repairs touch no list and no check unit
+  -- losses and repairs touch no list
   passing-lossless : (c : Call) → lasting c ≡ false → lossless (granted l c) ≡ lossless l
   unfolding granted lasting lossless
   passing-lossless (teach k x) a = not-both refl a

@@ -50,7 +50,7 @@ cut-other rs e q a n = by-test (λ (t : Bool). getD (take e rs) q empty ≡ getD
 
 with-twice : (l : Ledger) (u : ℕ) (a b : List Rec) → withRecords (withRecords l u a) u b ≡ withRecords l u b
 unfolding withRecords upd pick
-with-twice l u a b = λ i. record { size = l .size; units = l .units; level = l .level; records = p i; checks = l .checks; out = l .out }
+with-twice l u a b = λ i. record { size = l .size; units = l .units; level = l .level; records = p i; out = l .out }
   where
     go : (t : Bool) (x : List Rec) → pick t b (pick t a x) ≡ pick t b x
     go true x = refl

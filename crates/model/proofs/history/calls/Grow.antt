@@ -16,37 +16,36 @@ use Rattle.buffer.specs.Bytes.{bytes32, zeros}
 use Rattle.buffer.specs.Table.{upd}
 use Rattle.group.specs.Widths.{slotBytes}
 use Rattle.group.specs.CheckRecord.{checkRecord}
-use Rattle.model.specs.Units.{splitPointer, unitOf, moves, touched}
+use Rattle.model.specs.Units.{splitPointer, unitOf, moves, touched, begins}
 use Rattle.model.specs.UnitLaws.{split-below}
-use Rattle.model.specs.Layout.{Store, bytes, view, keyOf, frontOf}
+use Rattle.model.specs.Layout.{Store, bytes, view, levelIn, keyOf, frontOf}
 use Rattle.model.specs.LayoutLaws.{Same, bytes-ext}
 use Rattle.model.specs.Numbers.{grow, refusalsIn}
 use Rattle.model.specs.RowLaws.{row}
 use Rattle.model.specs.Changes.{filterBy, recordsIn, dealt, grownState, grown}
 use Rattle.model.specs.Perform.{reply, givenIn, grantedIn}
-use Rattle.model.specs.history.Ledger.{Rec, empty, Ledger, recordAt, state, outsOf, grownLedger, granted}
+use Rattle.model.specs.history.Ledger.{Rec, empty, Ledger, recordAt, placed, state, outsOf, grownLedger, granted}
 use Rattle.model.specs.history.Picture.{recordBytes, pictureSlot, pictureCheck, image, picture}
 use Rattle.model.specs.history.Table.{refusals}
 use Rattle.model.specs.history.Answers.{given}
 use Rattle.model.proofs.history.ledger.Valid.{Valid}
-use Rattle.model.proofs.history.ledger.States.{data-state, check-state}
+use Rattle.model.proofs.history.ledger.States.{fewer-placed, data-state, check-state, place-kept}
 use Rattle.model.proofs.history.ledger.Dealt.{filter-ext, filter-map}
-use Rattle.model.proofs.history.ledger.Shared.{wording}
 use Rattle.model.proofs.history.ledger.Split.{not-moves}
-use Rattle.model.proofs.history.ledger.Touched.{by-either, is-touched, quiet-data, quiet-check}
-use Rattle.model.proofs.history.ledger.Grown.{goesTo, dealtTo, by-dealt, fewer, more-checks, valid-grown, by-raised}
+use Rattle.model.proofs.history.ledger.Touched.{is-touched, quiet-data, quiet-check}
+use Rattle.model.proofs.history.ledger.Grown.{goesTo, dealtTo, by-dealt, valid-grown}
 use Rattle.model.proofs.history.picture.Records.{key-record, empty-bytes}
 use Rattle.model.proofs.history.picture.Picture.{seen, check-off}
 use Rattle.model.proofs.history.picture.Seen.{units-seen, level-seen, outs-seen, serving}
 use Rattle.model.proofs.history.picture.RecordsSeen.{records-seen}
 use Rattle.model.proofs.history.calls.Simulation.{Simulated}
 use Rattle.model.proofs.history.calls.OneList.{sound-row}
-use Rattle.model.proofs.history.calls.Resized.{shows, slot-same, made, check-same, Resized}
+use Rattle.model.proofs.history.calls.Resized.{shows, slot-same, made, state-same, check-same, Resized}
 
--- a check unit that is not out is in service where it is in place
-serves : (k : Ledger) (c : ℕ) → k .out (16 + c) ≡ false → eqb (state k (16 + c)) 1 ≡ ltb (c % 3) (k .checks (c / 3))
-unfolding pick
-serves k c e = rw (check-state k c, e) (go (ltb (c % 3) (k .checks (c / 3))))
+-- a unit that is not out is in service where it is in place
+serves : (k : Ledger) (w : ℕ) → k .out w ≡ false → eqb (state k w) 1 ≡ placed k w
+unfolding state pick
+serves k w e = rw e (go (placed k w))
   where
     go : (t : Bool) → eqb (pick t 1 0) 1 ≡ t
     go true = refl
@@ -144,37 +143,37 @@ module _ (l : Ledger) (rest : List ℕ) (h : Valid l) (top : l .units ≤ 15)
       (λ e. sym (ap (state next) (eqb-true u m e) ∙ state-new))
       (λ e. s .dstate u a ∙ sym (state-old u a (eqb-false u m e)))
 
+  -- a check unit of the new group
+  state-begun : (c : ℕ) → 4 * (c / 3) ≡ m → state next (16 + c) ≡ pick (ltb (c % 3) (l .level)) 1 0
+  unfolding grownLedger pick
+  state-begun c e = check-state next c
+      ∙ rw (lt-ltb (4 * (c / 3)) (suc m) (omega arith), quiet-check l (h .calm) m new old c (is-touched m (c / 3) (inl (omega arith))))
+
+  place-same : (c : ℕ) → (4 * (c / 3) ≡ m → ⊥) → placed l (16 + c) ≡ placed next (16 + c)
+  unfolding grownLedger
+  place-same c e = place-kept l next m refl refl refl c e
+
   cstate-grown : (c : ℕ) → c < 12 → grownState v m c ≡ state next (16 + c)
-  unfolding grownState grownLedger image pick
+  unfolding grownState begins image
   cstate-grown c a =
-      rw (level-seen l rest h, s .cstate c a, wording m (c / 3) (h .some) (h .few) (omega arith) .brought, check-state next c)
-      (by-either
-      (λ (t : Bool). pick t (pick (ltb (c % 3) (l .level)) 1 0) (state l (16 + c))
-      ≡ pick (ltb (c % 3) (pick t (l .level) (l .checks (c / 3)))) (pick (l .out (16 + c)) 2 1) 0)
-      (4 * (c / 3))
-      m
-      n
-      (λ one. rw (quiet-check l (h .calm) m new old c (is-touched m (c / 3) (⊎-elim (λ e. inl (omega arith)) (λ e. inr (omega arith)) one))))
-      (λ _ _. check-state l c))
+      by-pick (λ (i : ℕ). i ≡ state next (16 + c)) (eqb (4 * (c / 3)) m) (pick (ltb (c % 3) (levelIn v)) 1 0) (v .cstate c)
+      (λ e. rw (level-seen l rest h) (sym (state-begun c (eqb-true (4 * (c / 3)) m e))))
+      (λ e. s .cstate c a ∙ state-same resized c (place-same c (eqb-false (4 * (c / 3)) m e)))
 
   -- ---- check records
 
   was-off : (c : ℕ) → touched m (c / 3) ≡ true → eqb (state next (16 + c)) 1 ≡ false → eqb (state l (16 + c)) 1 ≡ false
+  unfolding grownLedger
   was-off c e f =
-      serves l c (quiet-check l (h .calm) m new old c e)
-      ∙ fewer (c % 3) (l .checks (c / 3)) (next .checks (c / 3)) (more-checks l h top (c / 3))
-      (sym (serves next c (resized .marks (16 + c) ∙ quiet-check l (h .calm) m new old c e)) ∙ f)
-
-  checks-same : (g : ℕ) → touched m g ≡ false → next .checks g ≡ l .checks g
-  checks-same g e = by-raised l (λ (i : ℕ). i ≡ l .checks g) g
-      (λ one. not-both (is-touched m g (⊎-elim (λ d. inl (omega arith)) (λ d. inr (omega arith)) one)) e) (λ _ _. refl)
+      let quiet : l .out (16 + c) ≡ false = quiet-check l (h .calm) m new old c e in
+      serves l (16 + c) quiet ∙ fewer-placed l next (omega arith) (le-refl (l .level)) (16 + c) (sym (serves next (16 + c) quiet) ∙ f)
 
   check-left : (c r : ℕ) → (touched m (c / 3) && eqb (state next (16 + c)) 1) ≡ false → pictureCheck l c r ≡ pictureCheck next c r
   check-left c r =
       by-test (λ (t : Bool). touched m (c / 3) ≡ t → (t && eqb (state next (16 + c)) 1) ≡ false → pictureCheck l c r ≡ pictureCheck next c r)
       (touched m (c / 3))
       (λ _ e f. check-off l c r (was-off c e f) ∙ sym (check-off next c r f))
-      (λ _ e f. check-same resized c r e (checks-same (c / 3) e))
+      (λ _ e f. check-same resized c r e (place-same c (λ d. not-both (is-touched m (c / 3) (inl (omega arith))) e)))
       refl
 
   check-grown : (c r : ℕ) → c < 12 → r < l .size

@@ -48,6 +48,7 @@ valid-with l u rs h a fits good keyed own differ = record {
   few = h .few;
   least = h .least;
   most = h .most;
+  levelled = h .levelled;
   topped = h .topped;
   fits = λ v. by-pick (λ (x : List Rec). length x ≤ l .size) (eqb v u) rs (l .records v) (λ e. fits) (λ e. h .fits v);
   good = λ v r. by-pick (λ (x : List Rec). Good (getD x r empty)) (eqb v u) rs (l .records v) (λ e. good r) (λ e. h .good v r);
@@ -57,9 +58,6 @@ valid-with l u rs h a fits good keyed own differ = record {
   differ = λ v r q. by-pick (λ (x : List Rec). r < q → q < length x → getD x r empty .key ≢ getD x q empty .key) (eqb v u) rs (l .records v)
       (λ e. differ r q) (λ e. h .differ v r q);
   none = λ v e. pick-false (ne-eqb v u (omega arith)) rs (l .records v) ∙ h .none v e;
-  capped = h .capped;
-  manned = h .manned;
-  unmanned = h .unmanned;
   calm = h .calm;
 }
 

@@ -3,12 +3,12 @@ use Prim.Native.Nat.{ℕ, _+_, _*_, _%_, _≤_}
 use mathlib.Core.Path.{_≡_, refl, sym, ap, _∙_}
 use mathlib.Core.List.{List, [], _∷_, _++_, append-assoc}
 use native.Mathlib.Omega.{arith}
-use native.Mathlib.Nat.{not-suc-le-zero, le-refl}
+use native.Mathlib.Nat.{not-suc-le-zero}
 use lib.Dec.{eqb}
 use lib.ListN.{drop}
-use borrow.Author.Tests.{eq-eqb, ne-eqb}
+use borrow.Author.Tests.{eq-eqb}
 use Rattle.buffer.specs.Choice.{pick}
-use Rattle.buffer.specs.ChoiceLaws.{by-pick, pick-true, pick-false, pick-same}
+use Rattle.buffer.specs.ChoiceLaws.{pick-true, pick-same}
 use Rattle.buffer.specs.Bytes.{zeros}
 use Rattle.buffer.specs.ByteLaws.{zeros-append}
 use Rattle.buffer.specs.Table.{tab}
@@ -69,6 +69,7 @@ module _ (b : ℕ) where
     few = omega arith;
     least = p;
     most = q;
+    levelled = omega arith;
     topped = omega arith;
     fits = λ u. omega arith;
     good = λ u r. empty-good;
@@ -76,8 +77,5 @@ module _ (b : ℕ) where
     own = λ u r l. absurd (not-suc-le-zero l);
     differ = λ u r q m l. absurd (not-suc-le-zero l);
     none = λ u l. refl;
-    capped = λ g. by-pick (λ (n : ℕ). n ≤ 1) (eqb g 0) 1 0 (λ e. omega arith) (λ e. omega arith);
-    manned = λ g a. rw (pick-true (eq-eqb g 0 (omega arith))) (le-refl 1);
-    unmanned = λ g a. pick-false (ne-eqb g 0 (omega arith)) 1 0;
     calm = λ w e. refl;
   }

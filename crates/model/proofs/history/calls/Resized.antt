@@ -11,7 +11,6 @@ use Rattle.model.specs.Units.{splitPointer, touched}
 use Rattle.model.specs.history.Ledger.{Ledger, recordAt, placed, isOut, state, outsOf}
 use Rattle.model.specs.history.Picture.{recordBytes, pictureSlot, pictureCheck}
 use Rattle.model.proofs.history.ledger.Valid.{Valid}
-use Rattle.model.proofs.history.ledger.States.{check-state}
 use Rattle.model.proofs.history.ledger.Touched.{not-touched, quiet-data}
 use Rattle.model.proofs.history.picture.Records.{over-ext, anew-over}
 use Rattle.model.proofs.history.picture.Picture.{check-on}
@@ -47,12 +46,13 @@ module _ {l next : Ledger} {m : ℕ} (z : Resized l next m) where
       same (4 * (c / 3) + p) (omega arith) ∙ shows (4 * (c / 3) + p) r (omega arith) (ap (touched m) d ∙ e))
       ∙ sym (check-on next c r on)
 
-  -- a check unit of a group with as many check units as before has its state
-  pub state-same : (c : ℕ) → next .checks (c / 3) ≡ l .checks (c / 3) → state l (16 + c) ≡ state next (16 + c)
-  state-same c e = check-state l c ∙ sym (check-state next c ∙ rw (e, z .marks (16 + c)))
+  -- a check unit that keeps its place has its state
+  pub state-same : (c : ℕ) → placed l (16 + c) ≡ placed next (16 + c) → state l (16 + c) ≡ state next (16 + c)
+  unfolding state
+  state-same c e = rw (e, z .marks (16 + c))
 
   -- and, of a group that is not touched, its check records
-  pub check-same : (c r : ℕ) → touched m (c / 3) ≡ false → next .checks (c / 3) ≡ l .checks (c / 3) → pictureCheck l c r ≡ pictureCheck next c r
+  pub check-same : (c r : ℕ) → touched m (c / 3) ≡ false → placed l (16 + c) ≡ placed next (16 + c) → pictureCheck l c r ≡ pictureCheck next c r
   unfolding pictureCheck
   check-same c r e same = rw (
     state-same c same,

@@ -1,22 +1,22 @@
 -- Shrink on a picture: the store that it leaves is the picture of the shrunk ledger. Assumes nothing.
 use Prim.Native.Nat.{ℕ, suc, pred, _+_, _*_, _/_, _%_, _≤_, _<_}
-use mathlib.Core.Path.{_≡_, refl, sym, ap, _∙_, subst}
+use mathlib.Core.Path.{_≡_, refl, sym, ap, _∙_}
 use mathlib.Core.Logic.{inl, inr}
 use mathlib.Core.List.{List, _++_, map-append}
-use mathlib.Core.Bool.{Bool, true, false, _&&_, not, and-false}
+use mathlib.Core.Bool.{false}
 use native.Mathlib.Omega.{arith}
 use native.Mathlib.Nat.{le-refl}
 use lib.Dec.{eqb, ltb, leb}
 use lib.ListN.{length, getD, set, List·getD-map}
-use borrow.Author.Tests.{leb-false, eqb-true, eqb-false, ltb-true, ltb-false, le-ltb}
+use borrow.Author.Tests.{leb-false, eqb-true, eqb-false, ltb-false, le-ltb}
 use Rattle.buffer.specs.Choice.{pick}
-use Rattle.buffer.specs.ChoiceLaws.{by-test, by-pick}
+use Rattle.buffer.specs.ChoiceLaws.{by-pick}
 use Rattle.buffer.specs.TestLaws.{not-both, ltb-suc}
 use Rattle.buffer.specs.Bytes.{bytes32, zeros}
 use Rattle.buffer.specs.Table.{upd}
 use Rattle.group.specs.Widths.{slotBytes, checkBytes}
 use Rattle.group.specs.CheckRecord.{checkRecord}
-use Rattle.model.specs.Units.{splitPointer, touched, emptied}
+use Rattle.model.specs.Units.{splitPointer, touched, begins}
 use Rattle.model.specs.Layout.{Store, bytes, view, frontOf}
 use Rattle.model.specs.LayoutLaws.{Same, bytes-ext}
 use Rattle.model.specs.Reads.{fillIn, outsIn}
@@ -24,15 +24,14 @@ use Rattle.model.specs.Numbers.{shrink, refusalsIn}
 use Rattle.model.specs.RowLaws.{row}
 use Rattle.model.specs.Changes.{recordsIn, merged, shrunkState, shrunk}
 use Rattle.model.specs.Perform.{reply, givenIn, grantedIn}
-use Rattle.model.specs.history.Ledger.{Rec, empty, Ledger, recordAt, state, outsOf, shrunkLedger, granted}
+use Rattle.model.specs.history.Ledger.{Rec, empty, Ledger, recordAt, placed, state, outsOf, shrunkLedger, granted}
 use Rattle.model.specs.history.Picture.{recordBytes, pictureSlot, pictureCheck, image, picture}
 use Rattle.model.specs.history.Table.{refusals}
 use Rattle.model.specs.history.Answers.{given}
 use Rattle.model.proofs.history.ledger.Valid.{Valid}
-use Rattle.model.proofs.history.ledger.States.{data-state, check-state}
-use Rattle.model.proofs.history.ledger.Shared.{wording}
+use Rattle.model.proofs.history.ledger.States.{data-state, check-state, place-kept}
 use Rattle.model.proofs.history.ledger.Touched.{is-touched}
-use Rattle.model.proofs.history.ledger.Shrunk.{bothLists, by-merged, before, checks-gone, checks-kept, valid-shrunk}
+use Rattle.model.proofs.history.ledger.Shrunk.{bothLists, by-merged, before, valid-shrunk}
 use Rattle.model.proofs.history.picture.Records.{empty-bytes}
 use Rattle.model.proofs.history.picture.Picture.{seen, check-off}
 use Rattle.model.proofs.history.picture.Seen.{size-seen, units-seen, outs-seen, serving, fill-seen}
@@ -40,16 +39,6 @@ use Rattle.model.proofs.history.picture.RecordsSeen.{records-seen}
 use Rattle.model.proofs.history.calls.Simulation.{Simulated}
 use Rattle.model.proofs.history.calls.OneList.{sound-row}
 use Rattle.model.proofs.history.calls.Resized.{Resized, shows, slot-same, made, check-same, state-same}
-
--- the emptied group is the one whose first unit is removed
-by-emptied : (P : Bool → Type 0) (m g : ℕ) → 1 ≤ m → m ≤ 16 → g < 4 → (4 * g ≡ m → P true) → ((4 * g ≡ m → ⊥) → P false) → P (emptied m g)
-by-emptied P m g a b c one none =
-    subst P (sym (wording m g a b c .emptied))
-    (by-test (λ (t : Bool). P (ltb (4 * g) (suc m) && not t)) (ltb (4 * g) m)
-    (λ e. subst P (sym (and-false (ltb (4 * g) (suc m)))) (none (omega (arith, ltb-true (4 * g) m e))))
-    (λ e. by-test (λ (t : Bool). P (t && true)) (ltb (4 * g) (suc m))
-    (λ f. one (omega (arith, ltb-false (4 * g) m e, ltb-true (4 * g) (suc m) f)))
-    (λ f. none (omega (arith, ltb-false (4 * g) (suc m) f)))))
 
 module _ (l : Ledger) (rest : List ℕ) (h : Valid l) (m : ℕ) (is : l .units ≡ suc m) (pos : 1 ≤ m)
     (new : ltb 0 (outsOf l (m / 4)) ≡ false) (old : ltb 0 (outsOf l (splitPointer m / 4)) ≡ false)
@@ -138,15 +127,19 @@ module _ (l : Ledger) (rest : List ℕ) (h : Valid l) (m : ℕ) (is : l .units �
       (λ e. s .dstate u a ∙ sym (state-old u a (eqb-false u m e)))
 
   check-gone : (c : ℕ) → 4 * (c / 3) ≡ m → state next (16 + c) ≡ 0
-  unfolding pick
-  check-gone c e = check-state next c ∙ rw (checks-gone l h m is pos (c / 3) (omega arith), le-ltb (c % 3) 0 (omega arith))
+  unfolding shrunkLedger pick
+  check-gone c e = check-state next c ∙ rw (le-ltb (4 * (c / 3)) m (omega arith))
+
+  place-same : (c : ℕ) → (4 * (c / 3) ≡ m → ⊥) → placed l (16 + c) ≡ placed next (16 + c)
+  unfolding shrunkLedger
+  place-same c e = sym (place-kept next l m refl is refl c e)
 
   cstate-shrunk : (c : ℕ) → c < 12 → shrunkState v m c ≡ state next (16 + c)
-  unfolding shrunkState image pick
+  unfolding shrunkState begins image
   cstate-shrunk c a =
-      by-emptied (λ (t : Bool). pick t 0 (v .cstate c) ≡ state next (16 + c)) m (c / 3) pos (omega (arith, top)) (omega arith)
-      (λ e. sym (check-gone c e))
-      (λ e. s .cstate c a ∙ state-same resized c (checks-kept l h m is pos (c / 3) e))
+      by-pick (λ (i : ℕ). i ≡ state next (16 + c)) (eqb (4 * (c / 3)) m) 0 (v .cstate c)
+      (λ e. sym (check-gone c (eqb-true (4 * (c / 3)) m e)))
+      (λ e. s .cstate c a ∙ state-same resized c (place-same c (eqb-false (4 * (c / 3)) m e)))
 
   -- ---- check records
 
@@ -160,7 +153,7 @@ module _ (l : Ledger) (rest : List ℕ) (h : Valid l) (m : ℕ) (is : l .units �
       (λ e. by-pick (λ (x : List ℕ). x ≡ pictureCheck next c r) (eqb (state next (16 + c)) 1) _ (zeros checkBytes)
       (λ f. made resized c r (λ u. merged v m u r) a (λ u i. slot-shrunk u r i b) e f)
       (λ f. sym (check-off next c r f)))
-      (λ e. s .check c r a b ∙ check-same resized c r e (checks-kept l h m is pos (c / 3) (λ d. not-both (is-touched m (c / 3) (inl (omega arith))) e)))
+      (λ e. s .check c r a b ∙ check-same resized c r e (place-same c (λ d. not-both (is-touched m (c / 3) (inl (omega arith))) e)))
 
   pub shrink-picture : bytes (shrunk v m) ≡ picture (shrunkLedger l m) rest
   unfolding shrunk image shrunkLedger frontOf bytes32

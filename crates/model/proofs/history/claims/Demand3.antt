@@ -67,10 +67,10 @@ module _ (s : List ℕ) (b : ℕ) (zero : layOutNumber s b ≡ 0) (cs : List Cal
   abbrev end : Ledger
   end = final (opened b) cs
 
-  start : layOut s b .store ≡ picture (opened b) (drop (storeBytes b) s)
+  pub start : layOut s b .store ≡ picture (opened b) (drop (storeBytes b) s)
   start = layout-is s b zero ∙ layout-picture b s
 
-  opened-is : Valid (opened b)
+  pub opened-is : Valid (opened b)
   opened-is = opened-valid b (layout-granted s b zero .least) (layout-granted s b zero .most)
 
   pub whole : Run (opened b) (drop (storeBytes b) s) cs

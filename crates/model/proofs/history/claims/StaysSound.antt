@@ -1,16 +1,15 @@
 -- A sound store stays sound under every call: it is alike to the picture of a valid ledger, a granted call leaves alike stores of the two, and what it
 -- leaves of the picture is the picture of a valid ledger again. Assumes nothing.
-use Prim.Native.Nat.{ℕ, pred, _+_, _/_, _%_, _≤_, _<_}
+use Prim.Native.Nat.{ℕ, pred, _+_, _*_, _/_, _%_, _≤_, _<_}
 use mathlib.Core.Path.{_≡_, sym, ap, _∙_}
 use mathlib.Core.List.{List}
-use mathlib.Core.Bool.{Bool, true, false, not}
+use mathlib.Core.Bool.{true, false, not}
 use native.Mathlib.Omega.{arith}
 use lib.Dec.{eqb, ltb, leb}
 use lib.ListN.{length, length-append}
-use borrow.Author.Tests.{eqb-true, eq-eqb, ltb-true, ltb-false, leb-false, lt-ltb, not-false}
-use Rattle.buffer.specs.Choice.{pick}
-use Rattle.buffer.specs.ChoiceLaws.{by-pick, by-test, pick-false}
-use Rattle.buffer.specs.TestLaws.{not-both}
+use borrow.Author.Tests.{eqb-true, eq-eqb, ltb-false, leb-false, not-false}
+use Rattle.buffer.specs.ChoiceLaws.{by-pick}
+use Rattle.buffer.specs.TestLaws.{and-second}
 use Rattle.buffer.specs.Bytes.{bytes32}
 use Rattle.buffer.specs.ByteLaws.{length-bytes32}
 use Rattle.group.specs.Widths.{bodyBytes, slotBytes}
@@ -30,7 +29,7 @@ use Rattle.model.specs.history.Typed.{Typed}
 use Rattle.model.specs.history.StaysSound.{StaysSound}
 use Rattle.model.proofs.history.ledger.Valid.{Valid}
 use Rattle.model.proofs.history.ledger.Granted.{granted-free}
-use Rattle.model.proofs.history.ledger.States.{state-le, check-state}
+use Rattle.model.proofs.history.ledger.States.{state-le, in-place, placed-check}
 use Rattle.model.proofs.history.picture.Seen.{size-seen, units-seen, level-seen, cstate-is, beyond-seen}
 use Rattle.model.proofs.history.picture.Sound.{picture-sound}
 use Rattle.model.proofs.history.calls.Simulation.{Simulated, number-agrees}
@@ -39,7 +38,8 @@ use Rattle.model.proofs.history.alike.Alike.{Alike, slot-refl, seen-ali
 use Rattle.model.proofs.history.alike.Sound.{sound-alike}
 use Rattle.model.proofs.history.alike.Numbers.{home-inside, fill-same, rank-same, split-inside, split-before, teach-rows, correct-rows, erase-rows}
 use Rattle.model.proofs.history.alike.Numbers.{out-rows, repair-rows, grow-rows, shrink-rows, raise-rows}
-use Rattle.model.proofs.history.alike.Written.{written-alike, erased-alike, lost-alike, raised-alike}
+use Rattle.model.proofs.history.alike.Written.{written-alike, erased-alike, lost-alike}
+use Rattle.model.proofs.history.alike.Raised.{raised-alike}
 use Rattle.model.proofs.history.alike.Repaired.{repaired-alike}
 use Rattle.model.proofs.history.alike.Dealt.{grown-alike, shrunk-alike}
 use Rattle.model.proofs.history.alike.LedgerOf.{ledgerOf, ledger-valid}
@@ -154,10 +154,8 @@ module _ (l : Ledger) (rest : List ℕ) (h : Valid l) (s : List ℕ) (ok : sound
 
   -- a check unit in service stands below the level
   within : (c : ℕ) → c < 12 → eqb (v .cstate c) 1 ≡ true → ltb (c % 3) (levelIn v) ≡ true
-  within c i e =
-      by-test (λ (t : Bool). ltb (c % 3) (levelIn v) ≡ true) (ltb (c % 3) (l .checks (c / 3)))
-      (λ q. lt-ltb (c % 3) (levelIn v) (omega (arith, ltb-true (c % 3) (l .checks (c / 3)) q, h .capped (c / 3), level-seen l rest h)))
-      (λ q. not-both e (ap (λ (n : ℕ). eqb n 1) (cstate-is l rest h c i ∙ check-state l c ∙ pick-false q (pick (l .out (16 + c)) 2 1) 0)))
+  within c i e = rw (level-seen l rest h)
+      (and-second (ltb (4 * (c / 3)) (l .units)) _ (sym (placed-check l c) ∙ in-place l (16 + c) (ap (λ (n : ℕ). eqb n 1) (sym (cstate-is l rest h c i)) ∙ e)))
 
   grow-sound : Typed grow → numberIn s grow ≡ 0 → sound (grantedIn s grow) ≡ true
   unfolding grantedIn refusals

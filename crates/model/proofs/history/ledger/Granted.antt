@@ -23,7 +23,7 @@ numbered l (unitOut w) = (refl, (refl, (refl, (refl, tt))))
 numbered l (repair g) = (refl, (refl, (refl, (refl, tt))))
 numbered l grow = (refl, (refl, (refl, (refl, tt))))
 numbered l shrink = (refl, (refl, (refl, (refl, (refl, tt)))))
-numbered l raise = (refl, (refl, (refl, (refl, tt))))
+numbered l raise = (refl, (refl, (refl, tt)))
 
 pub granted-free : (l : Ledger) (c : Call) → eqb (number l c) 0 ≡ true → Free (refusals l c)
 unfolding number

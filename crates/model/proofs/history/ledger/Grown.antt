@@ -1,21 +1,22 @@
 -- The ledger after a grow: it is valid where it was before. Assumes nothing.
-use Prim.Native.Nat.{ℕ, suc, _*_, _-_, _/_, _%_, _≤_, _<_}
+use Prim.Native.Nat.{ℕ, suc, _≤_, _<_}
 use mathlib.Core.Path.{_≡_, sym, _∙_, subst}
 use mathlib.Core.Logic.{_≢_, _⊎_, ⊎-elim}
 use mathlib.Core.List.{List, []}
-use mathlib.Core.Bool.{Bool, false}
+use mathlib.Core.Bool.{Bool}
 use native.Mathlib.Omega.{arith}
 use native.Mathlib.Nat.{le-refl}
 use lib.Dec.{eqb, ltb}
 use lib.ListN.{length, getD, List·getD-eq-default}
-use borrow.Author.Tests.{eqb-true, ltb-true, ltb-false, le-ltb}
+use borrow.Author.Tests.{eqb-true, ltb-true, ltb-false}
 use Rattle.buffer.specs.Choice.{pick}
 use Rattle.buffer.specs.ChoiceLaws.{by-test}
 use Rattle.model.specs.Units.{splitPointer, unitOf}
 use Rattle.model.specs.UnitLaws.{split-below}
 use Rattle.model.specs.Changes.{filterBy}
-use Rattle.model.specs.history.Ledger.{Rec, empty, Ledger, recordAt, placed, grownLedger}
+use Rattle.model.specs.history.Ledger.{Rec, empty, Ledger, recordAt, grownLedger}
 use Rattle.model.proofs.history.ledger.Valid.{Good, empty-good, Valid}
+use Rattle.model.proofs.history.ledger.States.{fewer-placed}
 use Rattle.model.proofs.history.ledger.Dealt.{filter-all, filter-length, filter-differ}
 use Rattle.model.proofs.history.ledger.Split.{other-key}
 use Rattle.model.proofs.history.ledger.Touched.{by-either}
@@ -32,16 +33,6 @@ pub by-dealt {ℓ} : (l : Ledger) (P : List Rec → Type ℓ) (u : ℕ) → ((u 
     → ((u ≡ l .units → ⊥) → (u ≡ splitPointer (l .units) → ⊥) → P (l .records u)) → P (grownLedger l .records u)
 unfolding grownLedger pick
 by-dealt l P u one none = by-either (λ (t : Bool). P (pick t (dealtTo l u) (l .records u))) u (l .units) (splitPointer (l .units)) one none
-
--- a group's check units are brought up to the level, where its first unit is the new unit or the split one, or are as they were
-pub by-raised {ℓ} : (l : Ledger) (P : ℕ → Type ℓ) (g : ℕ) → ((4 * g ≡ l .units) ⊎ (4 * g ≡ splitPointer (l .units)) → P (l .level))
-    → ((4 * g ≡ l .units → ⊥) → (4 * g ≡ splitPointer (l .units) → ⊥) → P (l .checks g)) → P (grownLedger l .checks g)
-unfolding grownLedger pick
-by-raised l P g one none = by-either (λ (t : Bool). P (pick t (l .level) (l .checks g))) (4 * g) (l .units) (splitPointer (l .units)) one none
-
--- what is not below a number is not below a smaller one
-pub fewer : (a m n : ℕ) → m ≤ n → ltb a n ≡ false → ltb a m ≡ false
-fewer a m n i e = le-ltb a m (omega (arith, ltb-false a n e))
 
 module _ (l : Ledger) (h : Valid l) (top : l .units ≤ 15) where
   before : splitPointer (l .units) < l .units
@@ -95,31 +86,6 @@ module _ (l : Ledger) (h : Valid l) (top : l .units ≤ 15) where
   none-grown u a =
       by-dealt l (λ (xs : List Rec). xs ≡ []) u (λ one. absurd (⊎-elim (λ e. omega arith) (λ e. omega (arith, before)) one)) (λ d e. h .none u (omega arith))
 
-  -- the level is at least 1
-  level-some : 1 ≤ l .level
-  level-some = omega (arith, h .manned 0 (omega (arith, h .some)), h .capped 0)
-
-  manned-grown : (g : ℕ) → 4 * g < suc (l .units) → 1 ≤ grownLedger l .checks g
-  manned-grown g a = by-raised l (λ (n : ℕ). 1 ≤ n) g (λ one. level-some) (λ d e. h .manned g (omega arith))
-
-  unmanned-grown : (g : ℕ) → suc (l .units) ≤ 4 * g → grownLedger l .checks g ≡ 0
-  unmanned-grown g a =
-      by-raised l (λ (n : ℕ). n ≡ 0) g (λ one. absurd (⊎-elim (λ e. omega arith) (λ e. omega (arith, before)) one)) (λ d e. h .unmanned g (omega arith))
-
-  -- no unit loses its place
-  pub more-checks : (g : ℕ) → l .checks g ≤ grownLedger l .checks g
-  more-checks g = by-raised l (λ (n : ℕ). l .checks g ≤ n) g (λ one. h .capped g) (λ d e. le-refl (l .checks g))
-
-  placed-grown : (w : ℕ) → placed (grownLedger l) w ≡ false → placed l w ≡ false
-  unfolding placed pick
-  placed-grown w =
-      by-test
-      (λ (t : Bool). pick t (ltb w (grownLedger l .units)) (ltb ((w - 16) % 3) (grownLedger l .checks ((w - 16) / 3))) ≡ false
-      → pick t (ltb w (l .units)) (ltb ((w - 16) % 3) (l .checks ((w - 16) / 3))) ≡ false)
-      (ltb w 16)
-      (λ _ e. fewer w (l .units) (grownLedger l .units) (unfold grownLedger in omega arith) e)
-      (λ _ e. fewer ((w - 16) % 3) (l .checks ((w - 16) / 3)) (grownLedger l .checks ((w - 16) / 3)) (more-checks ((w - 16) / 3)) e)
-
   pub valid-grown : Valid (grownLedger l)
   unfolding grownLedger recordAt
   valid-grown = record {
@@ -127,6 +93,7 @@ module _ (l : Ledger) (h : Valid l) (top : l .units ≤ 15) where
     few = omega arith;
     least = h .least;
     most = h .most;
+    levelled = h .levelled;
     topped = h .topped;
     fits = fits-grown;
     good = good-grown;
@@ -134,8 +101,5 @@ module _ (l : Ledger) (h : Valid l) (top : l .units ≤ 15) where
     own = own-grown;
     differ = differ-grown;
     none = none-grown;
-    capped = λ g. by-raised l (λ (n : ℕ). n ≤ l .level) g (λ one. le-refl (l .level)) (λ d e. h .capped g);
-    manned = manned-grown;
-    unmanned = unmanned-grown;
-    calm = λ w e. h .calm w (placed-grown w e);
+    calm = λ w e. h .calm w (fewer-placed l (grownLedger l) (omega arith) (le-refl (l .level)) w e);
   }

@@ -1,5 +1,5 @@
 -- The ledger after a shrink: it is valid where it was before. Assumes nothing.
-use Prim.Native.Nat.{ℕ, suc, _+_, _*_, _-_, _/_, _%_, _≤_, _<_}
+use Prim.Native.Nat.{ℕ, suc, _+_, _*_, _-_, _/_, _≤_, _<_}
 use mathlib.Core.Path.{_≡_, refl, sym, ap, _∙_, subst}
 use mathlib.Core.Logic.{_≢_, inl}
 use mathlib.Core.List.{List, [], _++_}
@@ -8,15 +8,15 @@ use native.Mathlib.Omega.{arith}
 use native.Mathlib.Nat.{not-suc-le-zero}
 use lib.Dec.{eqb, ltb}
 use lib.ListN.{length, getD, length-append, List·getD-append}
-use borrow.Author.Tests.{eqb-true, eqb-false, ltb-true, ltb-false, le-ltb}
+use borrow.Author.Tests.{eqb-true, eqb-false, ltb-true, ltb-false}
 use Rattle.buffer.specs.Choice.{pick}
-use Rattle.buffer.specs.ChoiceLaws.{by-test, by-pick, pick-false}
+use Rattle.buffer.specs.ChoiceLaws.{by-test, by-pick}
 use Rattle.buffer.specs.TestLaws.{ltb-suc}
 use Rattle.model.specs.Units.{splitPointer, unitOf}
 use Rattle.model.specs.UnitLaws.{split-below}
 use Rattle.model.specs.history.Ledger.{Rec, empty, Ledger, recordAt, placed, outsOf, shrunkLedger}
 use Rattle.model.proofs.history.ledger.Valid.{Good, empty-good, Valid}
-use Rattle.model.proofs.history.ledger.States.{placed-unit, placed-check}
+use Rattle.model.proofs.history.ledger.States.{placed-unit, place-kept}
 use Rattle.model.proofs.history.ledger.Dealt.{joint}
 use Rattle.model.proofs.history.ledger.Split.{new-key, old-key}
 use Rattle.model.proofs.history.ledger.Touched.{is-touched, quiet-data, quiet-check}
@@ -106,26 +106,6 @@ module _ (l : Ledger) (h : Valid l) (m : ℕ) (is : l .units ≡ suc m) (pos : 1
   none-shrunk : (u : ℕ) → m ≤ u → shrunkLedger l m .records u ≡ []
   none-shrunk u a = by-merged l m (λ (xs : List Rec). xs ≡ []) u (λ e. refl) (λ _ e. absurd (omega (arith, before))) (λ d _. h .none u (omega arith))
 
-  -- ---- check units
-
-  pub checks-gone : (g : ℕ) → m ≤ 4 * g → shrunkLedger l m .checks g ≡ 0
-  unfolding shrunkLedger
-  checks-gone g a = pick-false (le-ltb (4 * g) m a) (l .checks g) 0
-
-  pub checks-kept : (g : ℕ) → (4 * g ≡ m → ⊥) → shrunkLedger l m .checks g ≡ l .checks g
-  unfolding shrunkLedger
-  checks-kept g d =
-      by-pick (λ (n : ℕ). n ≡ l .checks g) (ltb (4 * g) m) (l .checks g) 0
-      (λ e. refl)
-      (λ e. let a : m ≤ 4 * g = ltb-false (4 * g) m e in sym (h .unmanned g (omega arith)))
-
-  capped-shrunk : (g : ℕ) → shrunkLedger l m .checks g ≤ l .level
-  unfolding shrunkLedger
-  capped-shrunk g = by-pick (λ (n : ℕ). n ≤ l .level) (ltb (4 * g) m) (l .checks g) 0 (λ e. h .capped g) (λ e. omega arith)
-
-  manned-shrunk : (g : ℕ) → 4 * g < m → 1 ≤ shrunkLedger l m .checks g
-  manned-shrunk g a = rw (checks-kept g (omega arith)) (h .manned g (omega arith))
-
   -- ---- no unit out of place is marked out
 
   module _ (new : ltb 0 (outsOf l (m / 4)) ≡ false) (old : ltb 0 (outsOf l (splitPointer m / 4)) ≡ false) where
@@ -135,20 +115,18 @@ module _ (l : Ledger) (h : Valid l) (m : ℕ) (is : l .units ≡ suc m) (pos : 1
         (λ d. quiet-data l (h .calm) m new old w (is-touched m (w / 4) (inl (ap (λ (k : ℕ). k / 4) (eqb-true w m d)))))
         (λ d. h .calm w (placed-unit l w a ∙ ap (ltb w) is ∙ sym (ltb-suc w m (eqb-false w m d)) ∙ e))
 
-    calm-check : (c : ℕ) → ltb (c % 3) (shrunkLedger l m .checks (c / 3)) ≡ false → l .out (16 + c) ≡ false
+    calm-check : (c : ℕ) → placed (shrunkLedger l m) (16 + c) ≡ false → l .out (16 + c) ≡ false
+    unfolding shrunkLedger
     calm-check c e =
         by-test (λ (t : Bool). l .out (16 + c) ≡ false) (eqb (4 * (c / 3)) m)
         (λ d. let f : 4 * (c / 3) ≡ m = eqb-true (4 * (c / 3)) m d in quiet-check l (h .calm) m new old c (is-touched m (c / 3) (inl (omega arith))))
-        (λ d. h .calm (16 + c) (placed-check l c ∙ ap (ltb (c % 3)) (sym (checks-kept (c / 3) (eqb-false (4 * (c / 3)) m d))) ∙ e))
+        (λ d. h .calm (16 + c) (sym (place-kept (shrunkLedger l m) l m refl is refl c (eqb-false (4 * (c / 3)) m d)) ∙ e))
 
     calm-shrunk : (w : ℕ) → placed (shrunkLedger l m) w ≡ false → l .out w ≡ false
-    unfolding placed pick
-    calm-shrunk w =
-        by-test
-        (λ (t : Bool). pick t (ltb w (shrunkLedger l m .units)) (ltb ((w - 16) % 3) (shrunkLedger l m .checks ((w - 16) / 3))) ≡ false → l .out w ≡ false)
-        (ltb w 16)
-        (λ a e. calm-data w (ltb-true w 16 a) (unfold shrunkLedger in e))
-        (λ a e. let q : 16 + (w - 16) ≡ w = omega (arith, ltb-false w 16 a) in ap (l .out) (sym q) ∙ calm-check (w - 16) e)
+    calm-shrunk w e =
+        by-test (λ (t : Bool). l .out w ≡ false) (ltb w 16)
+        (λ a. calm-data w (ltb-true w 16 a) (unfold shrunkLedger in sym (placed-unit (shrunkLedger l m) w (ltb-true w 16 a)) ∙ e))
+        (λ a. let q : 16 + (w - 16) ≡ w = omega (arith, ltb-false w 16 a) in ap (l .out) (sym q) ∙ calm-check (w - 16) (ap (placed (shrunkLedger l m)) q ∙ e))
 
     pub valid-shrunk : length (l .records (splitPointer m)) + length (l .records m) ≤ l .size → Valid (shrunkLedger l m)
     unfolding shrunkLedger recordAt
@@ -157,6 +135,7 @@ module _ (l : Ledger) (h : Valid l) (m : ℕ) (is : l .units ≡ suc m) (pos : 1
       few = omega (arith, top);
       least = h .least;
       most = h .most;
+      levelled = h .levelled;
       topped = h .topped;
       fits = λ u. by-merged l m (λ (xs : List Rec). length xs ≤ l .size) u
           (λ e. omega arith) (λ _ e. omega (arith, length-append (l .records (splitPointer m)) (l .records m))) (λ _ _. h .fits u);
@@ -165,8 +144,5 @@ module _ (l : Ledger) (h : Valid l) (m : ℕ) (is : l .units ≡ suc m) (pos : 1
       own = own-shrunk;
       differ = differ-shrunk;
       none = none-shrunk;
-      capped = capped-shrunk;
-      manned = manned-shrunk;
-      unmanned = checks-gone;
       calm = calm-shrunk;
     }

@@ -12,7 +12,7 @@ use Rattle.buffer.specs.Choice.{pick}
 use Rattle.buffer.specs.ChoiceLaws.{pick-true, pick-false}
 use Rattle.model.specs.Units.{powerBelow, splitPointer, unitOf, moves}
 use Rattle.model.specs.UnitLaws.{split-below, unit-below}
-use Rattle.model.proofs.history.ledger.Shared.{Power, power-of}
+use Rattle.model.proofs.history.ledger.Power.{Power, power-of}
 
 -- the bounds of 2^j
 pub record Bounds (m : ℕ) : Type 0 where

@@ -1,16 +1,38 @@
 -- The state of a unit in a ledger, and what it says: in place, in service, out. Assumes nothing.
-use Prim.Native.Nat.{ℕ, _+_, _*_, _-_, _/_, _%_, _≤_, _<_}
-use mathlib.Core.Path.{_≡_, refl, ap, _∙_}
+use Prim.Native.Nat.{ℕ, suc, _+_, _*_, _-_, _/_, _%_, _≤_, _<_}
+use mathlib.Core.Path.{_≡_, refl, sym, ap, _∙_}
 use mathlib.Core.Bool.{Bool, true, false, _&&_, not}
 use native.Mathlib.Omega.{arith}
 use lib.Dec.{eqb, ltb}
-use borrow.Author.Tests.{ltb-false, lt-ltb, le-ltb}
+use borrow.Author.Tests.{ltb-true, ltb-false, lt-ltb, le-ltb}
 use Rattle.buffer.specs.Choice.{pick}
+use Rattle.buffer.specs.ChoiceLaws.{by-test}
 use Rattle.buffer.specs.Range.{count}
 use Rattle.buffer.specs.RangeLaws.{count-zero}
-use Rattle.buffer.specs.TestLaws.{not-both}
+use Rattle.buffer.specs.TestLaws.{not-both, and-true, and-first, and-second, ltb-suc}
+use Rattle.model.specs.Sound.{stateFits}
 use Rattle.model.specs.SoundSays.{Stateful}
 use Rattle.model.specs.history.Ledger.{Ledger, placed, isOut, state, outsOf}
+
+-- with more units and a higher level no unit loses its place
+pub fewer-placed : (l next : Ledger) → l .units ≤ next .units → l .level ≤ next .level → (w : ℕ) → placed next w ≡ false → placed l w ≡ false
+unfolding placed
+fewer-placed l next m k w =
+    by-test
+    (λ (t : Bool). pick t (ltb w (next .units)) (ltb (4 * ((w - 16) / 3)) (next .units) && ltb ((w - 16) % 3) (next .level)) ≡ false
+    → pick t (ltb w (l .units)) (ltb (4 * ((w - 16) / 3)) (l .units) && ltb ((w - 16) % 3) (l .level)) ≡ false)
+    (ltb w 16)
+    (λ _. unfold pick in fewer (ltb w (l .units)) (ltb w (next .units)) (λ e. higher w (l .units) (next .units) m e))
+    (λ _. unfold pick in fewer _ _ (λ e.
+    and-true (higher _ (l .units) (next .units) m (and-first _ (ltb ((w - 16) % 3) (l .level)) e))
+    (higher _ (l .level) (next .level) k (and-second (ltb (4 * ((w - 16) / 3)) (l .units)) _ e))))
+  where
+    fewer : (s t : Bool) → (s ≡ true → t ≡ true) → t ≡ false → s ≡ false
+    fewer true t h e = not-both (h refl) e
+    fewer false t h e = refl
+
+    higher : (a b c : ℕ) → b ≤ c → ltb a b ≡ true → ltb a c ≡ true
+    higher a b c i e = lt-ltb a c (omega (arith, ltb-true a b e))
 
 module _ (l : Ledger) where
   -- a unit is out, in service, or not in place: whether it is in place, whether it is marked out, and its state
@@ -38,12 +60,16 @@ module _ (l : Ledger) where
   unfolding isOut
   state-in w = by-state (λ p o n. p ≡ true → (p && o) ≡ false → n ≡ 1) w (λ e f. not-both refl f) (λ e f. refl) (λ o e f. not-both e refl)
 
+  -- a unit in service is in place
+  pub in-place : (w : ℕ) → eqb (state l w) 1 ≡ true → placed l w ≡ true
+  in-place w = by-state (λ p o n. eqb n 1 ≡ true → p ≡ true) w (λ _. refl) (λ _. refl) (λ o e. not-both e refl)
+
   pub state-none : (w : ℕ) → eqb (state l w) 0 ≡ not (placed l w)
   state-none w = by-state (λ p o n. eqb n 0 ≡ not p) w refl refl (λ o. refl)
 
   -- it is one that a sound store may have
   pub state-fits : (w : ℕ) → Stateful (placed l w) (state l w)
-  unfolding pick
+  unfolding stateFits pick
   state-fits w = by-state (λ p o n. Stateful p n) w refl refl (λ o. refl)
 
   -- a data unit, and a check unit
@@ -51,23 +77,17 @@ module _ (l : Ledger) where
   unfolding placed pick
   placed-unit u a = rw (lt-ltb u 16 a)
 
-  pub placed-check : (c : ℕ) → placed l (16 + c) ≡ ltb (c % 3) (l .checks (c / 3))
+  pub placed-check : (c : ℕ) → placed l (16 + c) ≡ (ltb (4 * (c / 3)) (l .units) && ltb (c % 3) (l .level))
   unfolding placed pick
   placed-check c =
       let e : 16 + c - 16 ≡ c = omega arith in
       rw (le-ltb (16 + c) 16 (omega arith), e)
 
-  pub placed-place : (g j : ℕ) → j < 3 → placed l (16 + (3 * g + j)) ≡ ltb j (l .checks g)
-  placed-place g j a =
-      let d : (3 * g + j) / 3 ≡ g = omega arith in
-      let m : (3 * g + j) % 3 ≡ j = omega arith in
-      placed-check (3 * g + j) ∙ rw (d, m)
-
   pub data-state : (u : ℕ) → u < 16 → state l u ≡ pick (ltb u (l .units)) (pick (l .out u) 2 1) 0
   unfolding state
   data-state u a = rw (placed-unit u a)
 
-  pub check-state : (c : ℕ) → state l (16 + c) ≡ pick (ltb (c % 3) (l .checks (c / 3))) (pick (l .out (16 + c)) 2 1) 0
+  pub check-state : (c : ℕ) → state l (16 + c) ≡ pick (ltb (4 * (c / 3)) (l .units) && ltb (c % 3) (l .level)) (pick (l .out (16 + c)) 2 1) 0
   unfolding state
   check-state c = rw (placed-check c)
 
@@ -89,3 +109,8 @@ module _ (l : Ledger) where
   check-kept c e =
       let d : c ≡ 3 * (c / 3) + c % 3 = omega arith in
       ap (λ (k : ℕ). isOut l (16 + k)) d ∙ count-zero 3 (λ j. isOut l (16 + (3 * (c / 3) + j))) (none-check (c / 3) e) (c % 3) (omega arith)
+
+-- two ledgers of one level, the second with unit m more: a check unit has its place in both, but for the group that unit m begins
+pub place-kept : (l next : Ledger) (m : ℕ) → l .units ≡ m → next .units ≡ suc m → l .level ≡ next .level → (c : ℕ) → (4 * (c / 3) ≡ m → ⊥)
+    → placed l (16 + c) ≡ placed next (16 + c)
+place-kept l next m e f k c d = placed-check l c ∙ rw (e, k, ltb-suc (4 * (c / 3)) m d, ← f) (sym (placed-check next c))

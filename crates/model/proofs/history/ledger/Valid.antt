@@ -1,6 +1,6 @@
--- What every ledger of a history is: its records are such that bytes can hold them, and its lists, its check units and its marks are in order.
+-- What every ledger of a history is: its records are such that bytes can hold them, and its lists and its marks are in order.
 -- Assumes nothing.
-use Prim.Native.Nat.{ℕ, _*_, _≤_, _<_}
+use Prim.Native.Nat.{ℕ, _≤_, _<_}
 use mathlib.Core.Path.{_≡_}
 use mathlib.Core.Logic.{_≢_}
 use mathlib.Core.List.{[]}
@@ -32,6 +32,7 @@ pub record Valid (l : Ledger) : Type 0 where
   pub few : l .units ≤ 16
   pub least : 1 ≤ l .size
   pub most : l .size ≤ 64
+  pub levelled : 1 ≤ l .level
   pub topped : l .level ≤ 3
   pub fits : (u : ℕ) → length (l .records u) ≤ l .size
   pub good : Goods l
@@ -39,20 +40,18 @@ pub record Valid (l : Ledger) : Type 0 where
   pub own : (u r : ℕ) → r < length (l .records u) → unitOf (l .units) (recordAt l u r .key) ≡ u
   pub differ : (u r q : ℕ) → r < q → q < length (l .records u) → recordAt l u r .key ≢ recordAt l u q .key
   pub none : (u : ℕ) → l .units ≤ u → l .records u ≡ []
-  pub capped : (g : ℕ) → l .checks g ≤ l .level
-  pub manned : (g : ℕ) → 4 * g < l .units → 1 ≤ l .checks g
-  pub unmanned : (g : ℕ) → l .units ≤ 4 * g → l .checks g ≡ 0
   pub calm : (w : ℕ) → placed l w ≡ false → l .out w ≡ false
 
 -- other marks, none of them on a unit that is not in place
 pub marked-valid : (l : Ledger) (out : ℕ → Bool) → Valid l → ((w : ℕ) → placed l w ≡ false → out w ≡ false)
-    → Valid (ledger (l .size) (l .units) (l .level) (l .records) (l .checks) out)
+    → Valid (ledger (l .size) (l .units) (l .level) (l .records) out)
 unfolding recordAt placed
 marked-valid l out h calm = record {
   some = h .some;
   few = h .few;
   least = h .least;
   most = h .most;
+  levelled = h .levelled;
   topped = h .topped;
   fits = h .fits;
   good = h .good;
@@ -60,8 +59,5 @@ marked-valid l out h calm = record {
   own = h .own;
   differ = h .differ;
   none = h .none;
-  capped = h .capped;
-  manned = h .manned;
-  unmanned = h .unmanned;
   calm = calm;
 }

@@ -15,8 +15,7 @@ use Rattle.group.specs.Body.{addBody}
 use Rattle.group.specs.Parity.{parity}
 use Rattle.group.specs.ParityLaws.{parity-ext}
 use Rattle.group.specs.CheckRecord.{checkRecord, patched}
-use Rattle.group.specs.CheckRecordLaws.{length-checkRecord, patched-upd}
-use Rattle.group.specs.MakingLaws.{checkRecord-zeros}
+use Rattle.group.specs.CheckRecordLaws.{length-checkRecord, checkRecord-zeros, patched-upd}
 use Rattle.model.specs.Layout.{keyOf}
 use Rattle.model.specs.history.Ledger.{Rec, empty}
 use Rattle.model.specs.history.Picture.{recordBytes, checkOver}

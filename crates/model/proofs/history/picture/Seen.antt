@@ -17,8 +17,8 @@ use Rattle.model.specs.Units.{unitOf}
 use Rattle.model.specs.UnitLaws.{unit-below}
 use Rattle.model.specs.Layout.{Store, view, unitsIn, levelIn, keyOf, frontOf}
 use Rattle.model.specs.LayoutLaws.{Same}
-use Rattle.model.specs.Reads.{homeIn, fillIn, rankIn, stateIn, outsIn, beyondIn}
-use Rattle.model.specs.history.Ledger.{Rec, Ledger, empty, home, recordAt, rankOf, placed, isOut, state, outsOf, beyondOf}
+use Rattle.model.specs.Reads.{homeIn, fillIn, rankIn, stateIn, outsIn, beyondIn, unitsOutIn}
+use Rattle.model.specs.history.Ledger.{Rec, Ledger, empty, home, recordAt, rankOf, placed, isOut, state, outsOf, unitsOut, beyondOf}
 use Rattle.model.specs.history.Picture.{recordBytes, pictureSlot, image, picture}
 use Rattle.model.proofs.history.ledger.Valid.{Valid}
 use Rattle.model.proofs.history.ledger.States.{state-out, state-in, state-placed, placed-unit, data-kept, state-none}
@@ -128,6 +128,10 @@ module _ (l : Ledger) (rest : List ℕ) (h : Valid l) where
       (count-ext 4 (λ p. eqb (v .dstate (4 * g + p)) 2) (λ p. isOut l (4 * g + p)) (λ p b. dstate-out (4 * g + p) (omega arith)))
       (count-ext 3 (λ j. eqb (v .cstate (3 * g + j)) 2) (λ j. isOut l (16 + (3 * g + j)))
       (λ j b. ap (λ (n : ℕ). eqb n 2) (cstate-is (3 * g + j) (omega arith)) ∙ state-out l (16 + (3 * g + j))))
+
+  pub units-out-seen : unitsOutIn v ≡ unitsOut l
+  unfolding unitsOutIn unitsOut
+  units-out-seen = count-ext 28 _ _ (λ w a. ap (λ (n : ℕ). eqb n 2) (state-seen w a) ∙ state-out l w)
 
   pub beyond-seen : (g : ℕ) → g < 4 → beyondIn v g ≡ beyondOf l g
   unfolding beyondIn beyond checks beyondOf

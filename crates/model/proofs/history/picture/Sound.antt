@@ -7,7 +7,7 @@ use native.Mathlib.Omega.{arith}
 use native.Mathlib.Nat.{le-refl, zero-lt-suc}
 use lib.Dec.{eqb, ltb}
 use lib.ListN.{length}
-use borrow.Author.Tests.{eq-eqb, ne-eqb, eqb-true, ltb-true, ltb-false, lt-ltb, le-ltb, le-leb}
+use borrow.Author.Tests.{eq-eqb, ne-eqb, eqb-true, ltb-true, ltb-false, le-leb}
 use Rattle.buffer.specs.Choice.{pick}
 use Rattle.buffer.specs.ChoiceLaws.{by-pick, by-test}
 use Rattle.buffer.specs.TestLaws.{and-true, or-else, not-both}
@@ -17,18 +17,18 @@ use Rattle.buffer.specs.Bytes.{byte, be32, bytes32, zeros, part}
 use Rattle.buffer.specs.ByteLaws.{be32-part, be32-bytes32}
 use Rattle.group.specs.Widths.{keyBytes, slotBytes, checkBytes}
 use Rattle.model.specs.Units.{unitOf}
-use Rattle.model.specs.Layout.{Store, view, storeBytes, keyOf, frontOf}
+use Rattle.model.specs.Layout.{Store, view, version, storeBytes, keyOf, frontOf}
 use Rattle.model.specs.LayoutLaws.{Same, Shaped, byte-front, part-front}
 use Rattle.model.specs.Reads.{fillIn, listedKey, listedFill}
-use Rattle.model.specs.Sound.{ranges, unitsPlaced, checksIn, checksAllowed, groupsPlaced, zeroed, keysKnown, keysPlaced, listsAgree, sound}
+use Rattle.model.specs.Sound.{ranges, unitsPlaced, checkPlaced, checksPlaced, zeroed, keysKnown, keysPlaced, listsAgree, sound}
 use Rattle.model.specs.SoundLaws.{same-of}
 use Rattle.model.specs.history.Ledger.{Ledger, recordAt, isOut, state}
 use Rattle.model.specs.history.Picture.{recordBytes, pictureSlot, image, picture}
 use Rattle.model.proofs.history.ledger.Valid.{Valid}
-use Rattle.model.proofs.history.ledger.States.{placed-unit, placed-place, state-none, state-fits}
+use Rattle.model.proofs.history.ledger.States.{placed-unit, placed-check, state-fits}
 use Rattle.model.proofs.history.picture.Records.{empty-bytes, listed-over}
 use Rattle.model.proofs.history.picture.Picture.{seen, image-shaped, length-picture, slot-on, slot-off, check-off}
-use Rattle.model.proofs.history.picture.Seen.{past, fill-is, size-seen, units-seen, level-seen, dstate-is, cstate-is, dstate-out, fill-seen, no-key}
+use Rattle.model.proofs.history.picture.Seen.{past, size-seen, units-seen, level-seen, dstate-is, cstate-is, dstate-out, fill-seen, no-key}
 use Rattle.model.proofs.history.picture.Listed.{Kept, check-kept, key-kept, key-known, fill-known}
 
 -- ---- tests
@@ -59,7 +59,7 @@ module _ (l : Ledger) (rest : List ℕ) (h : Valid l) where
   shaped : Shaped (image l rest)
   shaped = image-shaped l rest (h .good)
 
-  front-0 : byte (picture l rest) 0 ≡ 1
+  front-0 : byte (picture l rest) 0 ≡ version
   unfolding image frontOf
   front-0 = byte-front (image l rest) shaped 0 (omega arith)
 
@@ -98,7 +98,7 @@ module _ (l : Ledger) (rest : List ℕ) (h : Valid l) where
     le-leb (l .size) 64 (h .most),
     le-leb 1 (l .units) (h .some),
     le-leb (l .units) 16 (h .few),
-    le-leb 1 (l .level) (omega (arith, h .manned 0 (omega (arith, h .some)), h .capped 0)),
+    le-leb 1 (l .level) (h .levelled),
     le-leb (l .level) 3 (h .topped),
     le-leb (storeBytes (l .size)) (length (picture l rest)) (omega (arith, long)),
   )
@@ -109,26 +109,10 @@ module _ (l : Ledger) (rest : List ℕ) (h : Valid l) where
   unfolding unitsPlaced
   units-true = rw (units-seen l rest h) (all-holds 16 _ (λ u a. rw (dstate-is l rest h u a, ← (placed-unit l u a)) (state-fits l u)))
 
-  -- a check unit is in place
-  check-there : (g j : ℕ) → g < 4 → j < 3 → eqb (v .cstate (3 * g + j)) 0 ≡ not (ltb j (l .checks g))
-  check-there g j a b =
-      ap (λ (n : ℕ). eqb n 0) (cstate-is l rest h (3 * g + j) (omega arith)) ∙ state-none l (16 + (3 * g + j)) ∙ ap not (placed-place l g j b)
-
-  checks-seen : (g : ℕ) → g < 4 → checksIn v g ≡ l .checks g
-  unfolding checksIn
-  checks-seen g a = fill-is 3 (l .checks g) (λ j. eqb (v .cstate (3 * g + j)) 0) (omega (arith, h .capped g, h .topped))
-      (λ j b. check-there g j a (omega (arith, h .capped g, h .topped)) ∙ ap not (lt-ltb j (l .checks g) b))
-      (λ b. check-there g (l .checks g) a b ∙ ap not (le-ltb (l .checks g) (l .checks g) (le-refl (l .checks g))))
-
-  groups-true : groupsPlaced v ≡ true
-  unfolding groupsPlaced checksAllowed
-  groups-true = rw (units-seen l rest h, level-seen l rest h)
-      (all-holds 4 _ (λ g a. rw (checks-seen g a)
-      (and-true
-      (by-pick (λ (t : Bool). t ≡ true) (ltb (4 * g) (l .units)) _ _
-      (λ e. and-true (le-leb 1 (l .checks g) (h .manned g (ltb-true (4 * g) (l .units) e))) (le-leb (l .checks g) (l .level) (h .capped g)))
-      (λ e. eq-eqb (l .checks g) 0 (h .unmanned g (ltb-false (4 * g) (l .units) e))))
-      (all-holds 3 _ (λ j b. rw (cstate-is l rest h (3 * g + j) (omega arith), ← (placed-place l g j b)) (state-fits l (16 + (3 * g + j))))))))
+  checks-true : checksPlaced v ≡ true
+  unfolding checksPlaced checkPlaced
+  checks-true = rw (units-seen l rest h, level-seen l rest h)
+      (all-holds 12 _ (λ c a. rw (cstate-is l rest h c a, ← (placed-check l c)) (state-fits l (16 + c))))
 
   -- ---- zeros
 
@@ -204,4 +188,4 @@ module _ (l : Ledger) (rest : List ℕ) (h : Valid l) where
 
   pub picture-sound : sound (picture l rest) ≡ true
   unfolding sound
-  picture-sound = rw (ranges-true, units-true, groups-true, zeroed-true, keys-true, lists-true)
+  picture-sound = rw (ranges-true, units-true, checks-true, zeroed-true, keys-true, lists-true)

@@ -1,6 +1,5 @@
 -- `soundness::states::ranges_hold` meets its contract: each test that fails is one of the ranges, and where none fails the last test decides.
 -- Assumes nothing.
-use Prim.Native.Nat.{_+_, _*_}
 use mathlib.Core.Bool.{and-false}
 use mathlib.Core.Path.{refl, ap, _∙_}
 use lib.Dec.{leb}

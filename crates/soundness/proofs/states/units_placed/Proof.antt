@@ -6,12 +6,13 @@ use borrow.Author.Needs.{needs}
 use Rattle.buffer.specs.TestLaws.{is-no, is-yes}
 use Rattle.buffer.specs.LoopTests.{Passing, passing-start, passing-turn, passing-fail, passing-end}
 use Rattle.buffer.specs.Bytes.{byte}
-use Rattle.soundness.specs.Pieces.{placed}
+use Rattle.model.specs.Sound.{stateFits}
+use Rattle.soundness.specs.Pieces.{dataFits}
 use Rattle.soundness.proofs.states.units_placed.Statement.{statement}
 use Rattle.soundness.proofs.states.units_placed.Tie as tie
 
 abbrev Inv-loop : tie.InvT-loop
-Inv-loop s u₀ u = Passing (λ i. placed (ltb i (byte s 6)) (byte s (8 + i))) 16 u
+Inv-loop s u₀ u = Passing (dataFits s) 16 u
 
 abbrev μ-loop : tie.MeasureT-loop
 μ-loop s u₀ u = 16 - u
@@ -23,15 +24,15 @@ returns : tie.Need-returns Inv-loop μ-loop
 returns c =
     let turn = c .before .before .before .before .before in
     let s = turn .before .before .before .args .s .now in
-    let state = ap (λ i. placed (ltb (turn .before .loop .u) (byte s 6)) (byte s (8 + i))) (c .before .before .before .wide .ensures .0) in
-    passing-fail (turn .before .loop .inv) (turn .loop-test .taken) (is-no (c .before .is-placed .ensures ∙ state) (c .if1 .taken))
+    let state = ap (λ i. stateFits (ltb (turn .before .loop .u) (byte s 6)) (byte s (8 + i))) (c .before .before .before .wide .ensures .0) in
+    passing-fail (turn .before .loop .inv) (turn .loop-test .taken) (is-no (c .before .state-fits .ensures ∙ state) (c .if1 .taken))
 
 loop-again : tie.Need-loop-again Inv-loop μ-loop
 loop-again c =
     let turn = c .before .before .before .before .before in
     let s = turn .before .before .before .args .s .now in
-    let state = ap (λ i. placed (ltb (turn .before .loop .u) (byte s 6)) (byte s (8 + i))) (c .before .before .before .wide .ensures .0) in
-    passing-turn (turn .before .loop .inv) (turn .loop-test .taken) (is-yes (c .before .is-placed .ensures ∙ state) (c .if1 .left))
+    let state = ap (λ i. stateFits (ltb (turn .before .loop .u) (byte s 6)) (byte s (8 + i))) (c .before .before .before .wide .ensures .0) in
+    passing-turn (turn .before .loop .inv) (turn .loop-test .taken) (is-yes (c .before .state-fits .ensures ∙ state) (c .if1 .left))
 
 returns-2 : tie.Need-returns-2 Inv-loop μ-loop
 returns-2 c = passing-end (c .before .loop .inv) (c .loop-test .left)

@@ -3,7 +3,7 @@ use borrow.Author.Needs.{needs}
 use mathlib.Core.Logic.{⊎-elim}
 use Prim.Native.Nat.{_-_}
 use native.Mathlib.Omega.{arith}
-use Rattle.splitting.proofs.Holding.{holds-step, holds-five, holds-long}
+use Rattle.encoding.specs.Holding.{holds-step, holds-five, holds-long}
 use Rattle.splitting.proofs.StepLaws.{cleared-change}
 use Rattle.splitting.proofs.DealLoop.{Dealing, dealing-start, deal-goes, deal-stays, deal-from, deal-to, dealing-end}
 use Rattle.splitting.proofs.dealing.deal_out.Statement.{statement}

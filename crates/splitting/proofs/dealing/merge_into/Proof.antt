@@ -2,7 +2,7 @@
 use borrow.Author.Needs.{needs}
 use Prim.Native.Nat.{_-_, _+_}
 use native.Mathlib.Omega.{arith}
-use Rattle.splitting.proofs.Holding.{holds-step, holds-long}
+use Rattle.encoding.specs.Holding.{holds-step, holds-long}
 use Rattle.splitting.proofs.StepLaws.{cleared-change}
 use Rattle.splitting.proofs.MergeLoop.{Merging, merging-start, merging-turn, merging-from, merging-to, merging-end}
 use Rattle.splitting.proofs.dealing.merge_into.Statement.{statement}

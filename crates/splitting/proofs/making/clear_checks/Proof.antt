@@ -2,10 +2,10 @@
 use borrow.Author.Needs.{needs}
 use native.Mathlib.Omega.{arith}
 use Prim.Native.Nat.{_+_, _*_}
-use Rattle.splitting.specs.Steps.{wiped, isUnit}
-use Rattle.splitting.proofs.Holding.{holds-start, holds-step, holds-long}
+use Rattle.encoding.specs.Made.{isUnit}
+use Rattle.encoding.specs.Holding.{holds-start, holds-step, holds-long}
 use Rattle.splitting.proofs.StepLaws.{wiped-change}
-use Rattle.splitting.proofs.Places.{wiped-twice, three-steps}
+use Rattle.splitting.proofs.Places.{three-wiped}
 use Rattle.splitting.proofs.making.clear_checks.Statement.{statement}
 use Rattle.splitting.proofs.making.clear_checks.Tie as tie
 
@@ -31,8 +31,7 @@ returns c =
     let k2 = k3 .before .before .before .before in
     let k = k2 .before .before .before .before in
     let e = k .before .before .before in
-    three-steps wiped wiped-change wiped-twice (e .args .s .now) (e .args .g) (e .pre .0) (k .clear-unit .ensures) (k2 .clear-unit2 .ensures)
-    (k3 .clear-unit3 .ensures)
+    three-wiped (e .args .s .now) (e .args .g) (e .pre .0) (k .clear-unit .ensures) (k2 .clear-unit2 .ensures) (k3 .clear-unit3 .ensures)
 
 pub clear-checks-spec : {M : Type 1} → statement M
 clear-checks-spec =

@@ -1,13 +1,15 @@
 -- `splitting::making::make_groups` meets its contract. Assumes nothing.
 use borrow.Author.Needs.{needs}
 use mathlib.Core.Path.{ap, _∙_}
+use mathlib.Core.Bool.{true}
 use native.Mathlib.Omega.{arith}
 use Prim.Native.Nat.{_/_}
 use Rattle.model.specs.Layout.{bytes, view}
-use Rattle.splitting.specs.Steps.{remade, inGroup, ofBoth}
-use Rattle.splitting.proofs.Holding.{holds-start, holds-step, holds-long}
-use Rattle.splitting.proofs.StepLaws.{remade-change}
-use Rattle.splitting.proofs.Places.{remade-twice, two-steps, both-groups, one-group}
+use Rattle.encoding.specs.Made.{madeIn, inGroup, inState}
+use Rattle.encoding.specs.Holding.{holds-long}
+use Rattle.encoding.specs.MadeLaws.{made-once, also-made}
+use Rattle.splitting.specs.Steps.{ofBoth}
+use Rattle.splitting.proofs.Places.{both-groups, one-group}
 use Rattle.splitting.proofs.making.make_groups.Statement.{statement}
 use Rattle.splitting.proofs.making.make_groups.Tie as tie
 
@@ -16,7 +18,7 @@ make-group-requires-2 c κs =
     let k = c .before .before .before .before .before .before in
     let rows = k .before .before .before .before in
     let e = rows .before .before .before in (
-      holds-long (holds-step (remade-change (inGroup (e .args .m / 4))) (holds-start (e .pre .0)) (k .make-group .ensures)),
+      holds-long (made-once (e .pre .0) (λ d r. inState 1 (view (e .args .s .now)) (inGroup (e .args .m / 4)) d) (k .make-group .ensures) .holds),
       omega (arith, e .pre .2, e .pre .3),
       rows .before .first-row .ensures,
       rows .second-row .ensures,
@@ -27,14 +29,15 @@ returns c =
     let k2 = c .before .before in
     let k = k2 .before .before .before .before .before .before .before in
     let e = k .before .before .before .before .before .before .before in
-    two-steps remade remade-change remade-twice (e .args .s .now) (inGroup (e .args .m / 4)) (inGroup (e .args .n / 4)) (ofBoth (e .args .m))
-    (both-groups (e .args .n) (e .args .m) (e .pre .1)) (e .pre .0) (k .make-group .ensures) (k2 .make-group2 .ensures)
+    also-made 1 (λ r. true) (inGroup (e .args .m / 4)) (inGroup (e .args .n / 4)) (ofBoth (e .args .m)) (both-groups (e .args .n) (e .args .m) (e .pre .1))
+    (made-once (e .pre .0) (λ d r. inState 1 (view (e .args .s .now)) (inGroup (e .args .m / 4)) d) (k .make-group .ensures)) (k2 .make-group2 .ensures)
+    .holds .state
 
 returns-2 : tie.Need-returns-2
 returns-2 c =
     let k = c .before .before .before in
     let e = k .before .before .before .before .before .before .before in
-    k .make-group .ensures ∙ ap (λ p. bytes (remade p (view (e .args .s .now)))) (one-group (e .args .n) (e .args .m) (e .pre .1) (c .if1 .left))
+    k .make-group .ensures ∙ ap (λ p. bytes (madeIn 1 p (view (e .args .s .now)))) (one-group (e .args .n) (e .args .m) (e .pre .1) (c .if1 .left))
 
 pub make-groups-spec : {M : Type 1} → statement M
 make-groups-spec =

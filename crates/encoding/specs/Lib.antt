@@ -1,0 +1,5 @@
+pub mod Ranks
+pub mod Made
+pub mod Holding
+pub mod MadeLaws
+pub mod PlaceLaws
