@@ -1,7 +1,8 @@
 /*
  * Times the store's calls over the static library, a copy of the store's bytes, and two soundness
- * tests in C beside the library's, all in one run; prints a table with a row for each size of store.
- * Read in place is a read without the copy. Build and run it with bench/run.
+ * tests in C beside the library's, all in one run; prints a table with a row for each size of store,
+ * and a second one with raise beside grow. Read in place is a read without the copy. Build and run
+ * it with bench/run.
  */
 #define _POSIX_C_SOURCE 199309L
 #include "lhrs.h"
@@ -16,6 +17,9 @@
 #define MAX_SLOTS 64u
 #define MAX_LENGTH LHRS_LENGTH(MAX_SLOTS)
 #define MAX_UNITS 16u
+#define MAX_LEVEL 3u
+#define HEADER 36u
+#define CHECK_RECORD 32u
 #define ROUNDS 60
 #define BATCH_NANOSECONDS 1000000.0
 
@@ -35,6 +39,7 @@ struct hall {
 static struct hall whole;   /* every unit in service */
 static struct hall lost;    /* unit 0 is out */
 static struct hall growing; /* at most 15 units, so that it can grow */
+static struct hall raising; /* at most level 2, so that it can be raised */
 
 static void require(uint8_t number, uint8_t expected, const char *what)
 {
@@ -45,7 +50,7 @@ static void require(uint8_t number, uint8_t expected, const char *what)
     }
 }
 
-/* Lays out, raises to the level, and grows; the first group gets all its check units. */
+/* Lays out, raises to the level, and grows. */
 static void build(struct hall *hall, uint32_t slots, uint32_t units, uint32_t level)
 {
     hall->slots = slots;
@@ -55,8 +60,6 @@ static void build(struct hall *hall, uint32_t slots, uint32_t units, uint32_t le
     require(lhrs_lay_out(hall->bytes, hall->length, slots), 0, "lay out");
     for (uint32_t k = 1; k < level; k++)
         require(lhrs_raise(hall->bytes, hall->length), 0, "raise");
-    require(lhrs_grow(hall->bytes, hall->length), 0, "grow");
-    require(lhrs_shrink(hall->bytes, hall->length), 0, "shrink");
     for (uint32_t m = 1; m < units; m++)
         require(lhrs_grow(hall->bytes, hall->length), 0, "grow");
 }
@@ -111,13 +114,13 @@ static int same_verdict(const struct hall *hall)
     return sound;
 }
 
-/* Bytes changed one by one. */
+/* Bytes changed one by one, all of the header and some of the units. */
 static void damage_bytes(const struct hall *hall)
 {
     static struct hall damaged;
     size_t step = hall->length / 1024 + 1;
     damaged = *hall;
-    for (size_t i = 0; i < hall->length; i += step) {
+    for (size_t i = 0; i < hall->length; i += i < HEADER ? 1 : step) {
         for (unsigned flip = 0; flip < 4; flip++) {
             damaged.bytes[i] = (uint8_t)(hall->bytes[i] ^ flip);
             same_verdict(&damaged);
@@ -129,13 +132,13 @@ static void damage_bytes(const struct hall *hall)
 /* Where the key of a rank stands: in the unit, and in check unit j of its group. */
 static uint8_t *own_key(struct hall *hall, uint32_t unit, uint32_t rank)
 {
-    return hall->bytes + 36 + (unit * hall->slots + rank) * LHRS_RECORD;
+    return hall->bytes + HEADER + (unit * hall->slots + rank) * LHRS_RECORD;
 }
 
 static uint8_t *listed_key(struct hall *hall, uint32_t unit, uint32_t rank, uint32_t j)
 {
-    uint32_t check = unit / 4 * 3 + j;
-    return own_key(hall, MAX_UNITS, 0) + (check * hall->slots + rank) * 32 + unit % 4 * 4;
+    uint32_t check = unit / 4 * MAX_LEVEL + j;
+    return own_key(hall, MAX_UNITS, 0) + (check * hall->slots + rank) * CHECK_RECORD + unit % 4 * 4;
 }
 
 /* Gives a rank another key, in its unit and in all lists that are in service. */
@@ -143,7 +146,7 @@ static void set_key(struct hall *hall, uint32_t unit, uint32_t rank, const uint8
 {
     if (LHRS_STATE(hall->bytes, unit) == LHRS_STATE_IN_SERVICE)
         memcpy(own_key(hall, unit, rank), key, 4);
-    for (uint32_t j = 0; j < 3; j++)
+    for (uint32_t j = 0; j < MAX_LEVEL; j++)
         if (LHRS_STATE(hall->bytes, LHRS_CHECK_UNIT(unit / 4, j)) == LHRS_STATE_IN_SERVICE)
             memcpy(listed_key(hall, unit, rank, j), key, 4);
 }
@@ -172,12 +175,34 @@ static void damage_keys(const struct hall *hall)
     }
 }
 
+/* A group with a check unit less than the level, and with one more, which is as its first one. */
+static void damage_check_units(const struct hall *hall)
+{
+    static struct hall damaged;
+    uint32_t level = LHRS_LEVEL(hall->bytes);
+    size_t size = hall->slots * CHECK_RECORD;
+    for (uint32_t unit = 0; unit < hall->units; unit += 4) {
+        uint8_t *states = damaged.bytes + 8 + LHRS_CHECK_UNIT(unit / 4, 0);
+        damaged = *hall;
+        states[level - 1] = LHRS_STATE_NOT_IN_PLACE;
+        memset(listed_key(&damaged, unit, 0, level - 1), 0, size);
+        require((uint8_t)same_verdict(&damaged), 0, "soundness with a check unit less");
+        if (level == MAX_LEVEL)
+            continue;
+        damaged = *hall;
+        states[level] = states[0];
+        memcpy(listed_key(&damaged, unit, 0, level), listed_key(&damaged, unit, 0, 0), size);
+        require((uint8_t)same_verdict(&damaged), 0, "soundness with a check unit more");
+    }
+}
+
 /* The tests in C agree with the library's on a store, with units out, and damaged. */
 static void compare_tests(const struct hall *hall)
 {
     static const uint32_t out[][4] = {{0, 0, 0, 0}, {16, 0, 0, 0}, {1, 17, 2, 0}, {16, 17, 18, 3}};
     static struct hall losing;
     damage_bytes(hall);
+    damage_check_units(hall);
     damage_keys(hall);
     for (size_t i = 0; i < sizeof out / sizeof out[0]; i++) {
         losing = *hall;
@@ -201,8 +226,10 @@ static void prepare(uint32_t slots, uint32_t units, uint32_t level)
     lost = whole;
     require(lhrs_out(lost.bytes, lost.length, 0), 0, "out");
     damage_bytes(&lost);
-    build(&growing, slots, units < 16 ? units : 15, level);
+    build(&growing, slots, units < MAX_UNITS ? units : MAX_UNITS - 1, level);
     fill(&growing, records, 1);
+    build(&raising, slots, units, level < MAX_LEVEL ? level : MAX_LEVEL - 1);
+    fill(&raising, records, 1);
 }
 
 /* The keys of unit 0 in turn: the place of the next one. */
@@ -216,10 +243,11 @@ static uint32_t next_turn(struct hall *hall)
 /* By a pointer that may change, so that the copy is made. */
 static void *(*volatile copy)(void *, const void *, size_t) = memcpy;
 
+static uint8_t copied[MAX_LENGTH];
+
 static void copy_store(void)
 {
-    static uint8_t bytes[MAX_LENGTH];
-    copy(bytes, whole.bytes, whole.length);
+    copy(copied, whole.bytes, whole.length);
 }
 
 static void read_absent(void)
@@ -304,6 +332,24 @@ static void grow_and_shrink(void)
     require(lhrs_shrink(growing.bytes, growing.length), 0, "shrink");
 }
 
+/* Nothing takes a raise back: it is made on a copy, and so is the grow that it is compared with. */
+static void copy_to_raise(void)
+{
+    copy(copied, raising.bytes, raising.length);
+}
+
+static void copy_and_raise(void)
+{
+    copy_to_raise();
+    require(lhrs_raise(copied, raising.length), 0, "raise");
+}
+
+static void copy_and_grow(void)
+{
+    copy_to_raise();
+    require(lhrs_grow(copied, raising.length), 0, "grow");
+}
+
 struct operation {
     const char *name;
     void (*run)(void);
@@ -325,9 +371,19 @@ static const struct operation operations[] = {
     {"list, unit out", list_lost},
     {"unit out + repair", out_and_repair},
     {"grow + shrink", grow_and_shrink},
+    {"memcpy + raise", copy_and_raise},
 };
 
 #define OPERATIONS (sizeof operations / sizeof operations[0])
+
+/* What the second table compares. */
+enum { RAISE_COPY, GROW, RAISE, RAISE_OPERATIONS };
+
+static const struct operation raise_operations[RAISE_OPERATIONS] = {
+    [RAISE_COPY] = {"memcpy", copy_to_raise},
+    [GROW] = {"memcpy + grow", copy_and_grow},
+    [RAISE] = {"memcpy + raise", copy_and_raise},
+};
 
 /* Nanoseconds of one run, over so many. */
 static double batch(const struct operation *operation, unsigned long runs)
@@ -351,17 +407,17 @@ static unsigned long runs_of_batch(const struct operation *operation)
     return runs;
 }
 
-/* The least time of each operation over rounds that take all of them in turn. */
-static void measure(double least[OPERATIONS])
+/* The least time of each of so many operations over rounds that take all of them in turn. */
+static void measure(const struct operation *measured, size_t count, double *least)
 {
     unsigned long runs[OPERATIONS];
-    for (size_t i = 0; i < OPERATIONS; i++) {
-        runs[i] = runs_of_batch(&operations[i]);
-        least[i] = batch(&operations[i], runs[i]);
+    for (size_t i = 0; i < count; i++) {
+        runs[i] = runs_of_batch(&measured[i]);
+        least[i] = batch(&measured[i], runs[i]);
     }
     for (int round = 1; round < ROUNDS; round++) {
-        for (size_t i = 0; i < OPERATIONS; i++) {
-            double time = batch(&operations[i], runs[i]);
+        for (size_t i = 0; i < count; i++) {
+            double time = batch(&measured[i], runs[i]);
             if (time < least[i])
                 least[i] = time;
         }
@@ -383,7 +439,7 @@ static void print_row(uint32_t slots, uint32_t units, uint32_t level)
 {
     double least[OPERATIONS];
     prepare(slots, units, level);
-    measure(least);
+    measure(operations, OPERATIONS, least);
     printf("| %2u | %2u | %u |", (unsigned)slots, (unsigned)units, (unsigned)level);
     printf(" %10.0f | %11.0f | %8.0f |", least[COPY], least[TUNED], least[TEST]);
     printf(" %13.2f | %14.2f |", least[TEST] / least[COPY], least[TEST] / least[TUNED]);
@@ -393,16 +449,52 @@ static void print_row(uint32_t slots, uint32_t units, uint32_t level)
     fflush(stdout);
 }
 
-int main(void)
+static void print_table(void)
 {
     static const uint32_t slots[] = {4, 64}, units[] = {1, 4, 16}, levels[] = {1, 3};
     puts("Least of 60 interleaved batches. The test is the library's soundness test; the columns "
          "from plain C on\nare ratios to it. A column with + is two calls together. At M = 16, "
-         "grow + shrink goes from 15 units\nto 16 and back.\n");
+         "grow + shrink goes from 15 units\nto 16 and back. memcpy + raise copies the store and "
+         "raises the copy, at K = 3 from 2 to 3.\n");
     print_head();
     for (int s = 0; s < 2; s++)
         for (int u = 0; u < 3; u++)
             for (int l = 0; l < 2; l++)
                 print_row(slots[s], units[u], levels[l]);
+}
+
+static const char raise_ratio[] = "(memcpy + raise) / (memcpy + grow)";
+
+static void print_raise_row(uint32_t units, uint32_t level)
+{
+    double least[RAISE_OPERATIONS];
+    build(&raising, MAX_SLOTS, units, level);
+    fill(&raising, MAX_SLOTS * 3 / 4, 1);
+    measure(raise_operations, RAISE_OPERATIONS, least);
+    printf("| %2u | %2u | %u |", MAX_SLOTS, (unsigned)units, (unsigned)level);
+    for (size_t i = 0; i < RAISE_OPERATIONS; i++)
+        printf(" %*.0f |", (int)strlen(raise_operations[i].name) + 4, least[i]);
+    printf(" %*.2f |\n", (int)strlen(raise_ratio), least[RAISE] / least[GROW]);
+    fflush(stdout);
+}
+
+/* Raise with three groups and with four beside grow, at the levels that can be raised. */
+static void print_raise_table(void)
+{
+    static const uint32_t units[] = {12, 15};
+    puts("\nRaise and grow of the same store, each of a copy of its bytes. K is the level before.\n");
+    printf("|  b |  M | K |");
+    for (size_t i = 0; i < RAISE_OPERATIONS; i++)
+        printf(" %s, ns |", raise_operations[i].name);
+    printf(" %s |\n|---|---|---|---|---|---|---|\n", raise_ratio);
+    for (int u = 0; u < 2; u++)
+        for (uint32_t level = 1; level < MAX_LEVEL; level++)
+            print_raise_row(units[u], level);
+}
+
+int main(void)
+{
+    print_table();
+    print_raise_table();
     return EXIT_SUCCESS;
 }

@@ -4,6 +4,7 @@
  */
 #include "plain.h"
 
+#define VERSION 2u
 #define UNITS 16u
 #define GROUPS 4u
 #define CHECKS 3u /* check units of a group */
@@ -52,28 +53,26 @@ static int ranges_hold(const uint8_t *store, size_t len)
     if (len < HEADER)
         return 0;
     uint32_t slots = store[5], units = store[6], level = store[7];
-    return store[0] == 1 && word(store + 1) == LHRS_LENGTH(slots) && 1 <= slots && slots <= 64
+    return store[0] == VERSION && word(store + 1) == LHRS_LENGTH(slots) && 1 <= slots && slots <= 64
            && 1 <= units && units <= UNITS && 1 <= level && level <= CHECKS
            && LHRS_LENGTH(slots) <= len;
 }
 
+/* A unit that is due is in service or out, any other is not in place. */
+static int state_holds(uint8_t state, int due)
+{
+    return due ? state == IN_SERVICE || state == OUT : state == NOT_IN_PLACE;
+}
+
+/* The data units below M are due, and in each group of theirs the check units below K. */
 static int states_hold(const uint8_t *store)
 {
-    for (uint32_t unit = 0; unit < UNITS; unit++) {
-        uint8_t state = data_state(store, unit);
-        int in_place = state == IN_SERVICE || state == OUT;
-        if (unit < store[6] ? !in_place : state != NOT_IN_PLACE)
+    for (uint32_t unit = 0; unit < UNITS; unit++)
+        if (!state_holds(data_state(store, unit), unit < store[6]))
             return 0;
-    }
-    for (uint32_t group = 0; group < GROUPS; group++) {
-        uint32_t count = 0;
-        for (uint32_t j = 0; j < CHECKS; j++) {
-            uint8_t state = check_state(store, CHECKS * group + j);
-            if (state > OUT || (state != NOT_IN_PLACE && count != j))
-                return 0;
-            count += state != NOT_IN_PLACE;
-        }
-        if (4 * group < store[6] ? count < 1 || store[7] < count : count != 0)
+    for (uint32_t check = 0; check < GROUPS * CHECKS; check++) {
+        int due = 4 * (check / CHECKS) < store[6] && check % CHECKS < store[7];
+        if (!state_holds(check_state(store, check), due))
             return 0;
     }
     return 1;

@@ -8,6 +8,7 @@
 
 #include <string.h>
 
+#define VERSION 2u
 #define UNITS 16u
 #define GROUPS 4u
 #define PLACES 4u /* data units of a group */
@@ -80,7 +81,7 @@ static int is_zero(const uint8_t *at, size_t n)
 /* Ranges hold; the block is long enough. */
 static int ranges_hold(const uint8_t *store, size_t len)
 {
-    if (len < HEADER || store[0] != 1)
+    if (len < HEADER || store[0] != VERSION)
         return 0;
     uint32_t slots = store[5], units = store[6], level = store[7];
     uint32_t length = (uint32_t)store[1] << 24 | (uint32_t)store[2] << 16
@@ -89,6 +90,8 @@ static int ranges_hold(const uint8_t *store, size_t len)
            && level <= CHECKS && length == LHRS_LENGTH(slots) && length <= len;
 }
 
+/* The data units below M are in place, in each group of theirs the check units below K, and no
+   others. */
 static int states_hold(const uint8_t *store)
 {
     uint32_t units = store[6], level = store[7];
@@ -99,10 +102,9 @@ static int states_hold(const uint8_t *store)
     }
     for (uint32_t group = 0; group < GROUPS; group++) {
         const uint8_t *states = store + 24 + CHECKS * group;
-        uint32_t count = (states[0] != 0u) + (states[1] != 0u) + (states[2] != 0u);
-        wrong |= states[0] > OUT || states[1] > OUT || states[2] > OUT;
-        wrong |= (states[0] == 0 && states[1] != 0) || (states[1] == 0 && states[2] != 0);
-        wrong |= PLACES * group < units ? count < 1 || level < count : count != 0;
+        uint32_t due = PLACES * group < units ? level : 0;
+        for (uint32_t j = 0; j < CHECKS; j++)
+            wrong |= j < due ? states[j] - 1u > 1 : states[j] != NOT_IN_PLACE;
     }
     return !wrong;
 }
