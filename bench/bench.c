@@ -465,13 +465,13 @@ static void print_table(void)
 
 static const char raise_ratio[] = "(memcpy + raise) / (memcpy + grow)";
 
-static void print_raise_row(uint32_t units, uint32_t level)
+static void print_raise_row(uint32_t slots, uint32_t units, uint32_t level)
 {
     double least[RAISE_OPERATIONS];
-    build(&raising, MAX_SLOTS, units, level);
-    fill(&raising, MAX_SLOTS * 3 / 4, 1);
+    build(&raising, slots, units, level);
+    fill(&raising, slots * 3 / 4, 1);
     measure(raise_operations, RAISE_OPERATIONS, least);
-    printf("| %2u | %2u | %u |", MAX_SLOTS, (unsigned)units, (unsigned)level);
+    printf("| %2u | %2u | %u |", (unsigned)slots, (unsigned)units, (unsigned)level);
     for (size_t i = 0; i < RAISE_OPERATIONS; i++)
         printf(" %*.0f |", (int)strlen(raise_operations[i].name) + 4, least[i]);
     printf(" %*.2f |\n", (int)strlen(raise_ratio), least[RAISE] / least[GROW]);
@@ -481,15 +481,16 @@ static void print_raise_row(uint32_t units, uint32_t level)
 /* Raise with three groups and with four beside grow, at the levels that can be raised. */
 static void print_raise_table(void)
 {
-    static const uint32_t units[] = {12, 15};
+    static const uint32_t slots[] = {4, 64}, units[] = {12, 15};
     puts("\nRaise and grow of the same store, each of a copy of its bytes. K is the level before.\n");
     printf("|  b |  M | K |");
     for (size_t i = 0; i < RAISE_OPERATIONS; i++)
         printf(" %s, ns |", raise_operations[i].name);
     printf(" %s |\n|---|---|---|---|---|---|---|\n", raise_ratio);
-    for (int u = 0; u < 2; u++)
-        for (uint32_t level = 1; level < MAX_LEVEL; level++)
-            print_raise_row(units[u], level);
+    for (int s = 0; s < 2; s++)
+        for (int u = 0; u < 2; u++)
+            for (uint32_t level = 1; level < MAX_LEVEL; level++)
+                print_raise_row(slots[s], units[u], level);
 }
 
 int main(void)
