@@ -7,7 +7,7 @@ use Rattle.buffer.specs.Range.{all, first, count, sum}
 use Rattle.buffer.specs.Loops.{entries}
 use Rattle.buffer.specs.Bytes.{bytes32, zeros}
 use Rattle.buffer.specs.Table.{tab, upd}
-use Rattle.model.specs.Units.{powerBelow, splitPointer, unitOf}
+use Rattle.model.specs.Units.{powerBelow, splitPointer, address, digitSum, unitOf}
 use Rattle.model.specs.Numbers.{firstOf}
 use Rattle.model.specs.Perform.{output, reply}
 use Rattle.model.specs.history.Ledger.{empty, opened, home, recordAt, rankOf, placed, isOut, state, outsOf, beyondOf, lost, total, withRecords, granted}
@@ -29,7 +29,7 @@ computed : joined (saidBy none (linesOf (take textBytes exampleInput))) ≡ exam
 unfolding exampleInput exampleOutput lineOf textOf linesOf before joined saidBy answerBy historyAfter layoutNumber linesBy ledgerLines followed ledgerAfter
     commandOf parsed readable digitsOf hasBody lengthOf hexAt numberAt bytesAt entries digit printed numberLine decimal bodyLine recordLine hex hexBytes digitOf
     final after answer reply output given bodyOf listing granted number refusals firstOf lost total beyondOf outsOf state isOut placed recordAt rankOf home
-    withRecords opened empty recordBytes bytes32 zeros unitOf powerBelow splitPointer tab upd all first count sum pick
+    withRecords opened empty recordBytes bytes32 zeros unitOf address digitSum powerBelow splitPointer tab upd all first count sum pick
 computed = refl
 
 pub example : hallrun exampleInput ≡ exampleOutput

@@ -18,11 +18,17 @@ pub fn wide32(x: u8) -> u32
     x as u32
 }
 
-// A number of 32 bits as an index, and as a byte.
+// A number of 32 bits as an index, as one of 64 bits, and as a byte.
 pub fn index(x: u32) -> usize
     ensures { λ r. ⌜ r ≡ x ⌝ }
 {
     x as usize
+}
+
+pub fn wide64(x: u32) -> u64
+    ensures { λ r. ⌜ (r ≡ x) × (r < 4294967296) ⌝ }
+{
+    x as u64
 }
 
 pub fn narrow(x: u32) -> u8

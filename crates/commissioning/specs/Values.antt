@@ -11,6 +11,7 @@ use Rattle.field.specs.Inverse.{inverse}
 use Rattle.field.specs.Byte.{scale}
 use Rattle.buffer.specs.Choice.{pick}
 use Rattle.buffer.specs.Loops.{entries}
+use Rattle.buffer.specs.Range.{sum}
 use Rattle.buffer.specs.Table.{upd}
 use Rattle.code.specs.Matrix.{matrix, entry, encode}
 use Rattle.code.specs.Point.{point}
@@ -18,7 +19,7 @@ use Rattle.code.specs.Weights.{weightOf, weightsOf, data-of}
 use Rattle.group.specs.Body.{addBody, scaleBody}
 use Rattle.group.specs.Four.{fourBodies}
 use Rattle.group.specs.Parity.{coefficient, sum4, bodyAt, parity, adjusted}
-use Rattle.model.specs.Units.{powerBelow, splitPointer, unitOf}
+use Rattle.model.specs.Units.{powerBelow, splitPointer, address, digitSum, unitOf}
 
 -- the bodies in units 0 to 3, and what the first becomes
 unfoldable pub units : ℕ → List ℕ
@@ -52,13 +53,14 @@ starred =
     ∷ (adjusted 1 0 (addBody (units 0) newBody) (parity 1 units), 0x40 ∷ 0x6E ∷ 0xDC ∷ 0x3F ∷ [])
     ∷ (parity 0 (upd units 0 newBody), 0x45 ∷ 0x63 ∷ 0x6E ∷ 0xD8 ∷ [])
     ∷ (parity 1 (upd units 0 newBody), 0x40 ∷ 0x6E ∷ 0xDC ∷ 0x3F ∷ [])
-    -- 7. "M = 5: key 8 is in unit 0, key 4 in 4, key 5 in 1."
+    -- 7. "M = 5: key 8 is in unit 0, key 4 in 4, key 5 in 1": each is its own digit sum.
     ∷ (map (unitOf 5) (8 ∷ 4 ∷ 5 ∷ []), 0 ∷ 4 ∷ 1 ∷ [])
-    -- 8. "M = 16: key 16 is in unit 0, the largest key in 15."
-    ∷ (map (unitOf 16) (16 ∷ 4294967295 ∷ []), 0 ∷ 15 ∷ [])
+    -- 8. "M = 16: key 16 is in unit 1, the largest key in 8." Their digit sums are 1 and 120.
+    ∷ (map digitSum (16 ∷ 4294967295 ∷ []), 1 ∷ 120 ∷ [])
+    ∷ (map (unitOf 16) (16 ∷ 4294967295 ∷ []), 1 ∷ 8 ∷ [])
     ∷ []
 
 pub commissioned : All (λ row. row .0 ≡ row .1) starred
 unfolding starred units newBody fourBodies parity bodyAt adjusted sum4 coefficient addBody scaleBody zipWith upd scale weightsOf weightOf point
-    entries entry matrix productIn remainder times inverseIn squares unitOf powerBelow splitPointer pick
-commissioned = (refl, (refl, (refl, (refl, (refl, (refl, (refl, (refl, (refl, (refl, (refl, (refl, (refl, tt)))))))))))))
+    entries entry matrix productIn remainder times inverseIn squares unitOf address digitSum sum powerBelow splitPointer pick
+commissioned = (refl, (refl, (refl, (refl, (refl, (refl, (refl, (refl, (refl, (refl, (refl, (refl, (refl, (refl, tt))))))))))))))

@@ -1,4 +1,6 @@
 pub mod UnitCases
+pub mod Spread
+pub mod SpreadLaws
 pub mod Sized
 pub mod SizedLaws
 pub mod States

@@ -1,4 +1,6 @@
 // Reading a lent store: where its parts stand, and what the calls look up in it.
+pub mod digits;
+
 ghost use mathlib.Core.Path.{_≡_};
 ghost use mathlib.Core.Bool.{true};
 ghost use Prim.Native.Nat.{_+_, _*_, _≤_, _<_, ℕ, _/_};
@@ -22,7 +24,7 @@ ghost use Rattle.lookup.specs.Groups.{Recoverable, goneIn};
 ghost use Rattle.lookup.specs.Slots.{heldAt, Recipe};
 
 // The header of a store: what byte 0 holds, where the length, b, M, K and the states of data units and check units stand, and where the slots begin.
-pub const VERSION: u8 = 2;
+pub const VERSION: u8 = 3;
 
 pub const LENGTH_AT: usize = 1;
 
@@ -97,10 +99,11 @@ pub fn unit_of(m: u8, key: u32) -> u8
     ensures { λ u. ⌜ (u ≡ unitOf m key) × (u < m) ⌝ }
 {
     let p = buffer::wide32(power_below(m));
-    if key % p + p < buffer::wide32(m) {
-        return buffer::narrow(key % (2 * p));
+    let sum = digits::digit_sum(key);
+    if sum % p + p < buffer::wide32(m) {
+        return buffer::narrow(sum % (2 * p));
     }
-    buffer::narrow(key % p)
+    buffer::narrow(sum % p)
 }
 
 // The state of a unit: 0 to 15 data, 16 + 3g + j check.

@@ -26,7 +26,7 @@ use Rattle.model.proofs.history.picture.Listed.{check-kept}
 use Rattle.model.proofs.history.calls.Opened.{opened-valid}
 use Rattle.model.proofs.history.claims.History.{run}
 use Rattle.model.proofs.history.claims.Demand3.{outlives}
-use Rattle.model.proofs.Hashing.{linear-hashing}
+use Rattle.model.proofs.Hashing.{linear-hashing, units-reached}
 use Rattle.model.proofs.MadeAnew.{made-anew}
 use Rattle.model.proofs.Recovered.{recovered}
 use Rattle.model.proofs.RepairKeeps.{repair-keeps}
@@ -60,6 +60,7 @@ bodies-are-fixed n cs four = record {
 pub demand-2 : Demand2
 demand-2 = record {
   hashed = linear-hashing;
+  reached = units-reached;
   in-histories = in-histories;
   made-anew = made-anew;
   symbols = symbols-fixed;

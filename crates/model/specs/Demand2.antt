@@ -14,7 +14,7 @@ use Rattle.code.specs.Columns.{FourColumns}
 use Rattle.group.specs.Body.{Bodies}
 use Rattle.group.specs.Parity.{bodyAt}
 use Rattle.group.specs.Rebuilding.{rebuiltFrom}
-use Rattle.model.specs.Units.{unitOf}
+use Rattle.model.specs.Units.{digitSum, unitOf}
 use Rattle.model.specs.Layout.{Store, view}
 use Rattle.model.specs.Numbers.{Call}
 use Rattle.model.specs.Perform.{layOutNumber}
@@ -26,11 +26,16 @@ use Rattle.model.specs.history.Answers.{final}
 use Rattle.model.specs.history.Typed.{Bytes, AllTyped}
 use Rattle.model.specs.history.Claims.{left}
 
--- linear hashing over m units: there is a largest j for which 2^j ≤ m, and a key's unit is key mod 2^j, or key mod 2^(j+1) where the former is below
--- n = m - 2^j
+-- linear hashing over m units: there is a largest j for which 2^j ≤ m, and the unit of a key with digit sum x is x mod 2^j, or x mod 2^(j+1) where
+-- the former is below n = m - 2^j
 pub record LinearHashing (m : ℕ) : Type 0 where
   pub level : (j : ℕ) × (2 ^ j ≤ m) × (m < 2 ^ (j + 1))
-  pub unit : (j : ℕ) → 2 ^ j ≤ m → m < 2 ^ (j + 1) → (k : ℕ) → unitOf m k ≡ pick (ltb (k % 2 ^ j) (m - 2 ^ j)) (k % 2 ^ (j + 1)) (k % 2 ^ j)
+  pub unit : (j : ℕ) → 2 ^ j ≤ m → m < 2 ^ (j + 1) → (k x : ℕ) → digitSum k ≡ x → unitOf m k ≡ pick (ltb (x % 2 ^ j) (m - 2 ^ j)) (x % 2 ^ (j + 1)) (x % 2 ^ j)
+
+-- each of m units has keys, and posts numbered in sixteens reach all of them
+pub record UnitsReached (m : ℕ) : Type 0 where
+  pub sixteens : (u : ℕ) → u < m → unitOf m (16 * u) ≡ u
+  pub has-key : (u : ℕ) → u < m → (k : ℕ) × (1 ≤ k) × (k < 4294967296) × (unitOf m k ≡ u)
 
 -- each check unit in service holds, at each rank, the four keys of the ledger's records of its group, and their bodies at column 4 + j
 abbrev pub HoldsLedger : Store → Ledger → Type 0
@@ -60,6 +65,7 @@ pub record BodiesFixed (n : ℕ) (cs : List ℕ) : Type 0 where
 pub record Demand2 : Type 0 where
   -- "A key's unit is the one that linear hashing gives."
   pub hashed : (m : ℕ) → 1 ≤ m → m ≤ 16 → LinearHashing m
+  pub reached : (m : ℕ) → 1 ≤ m → m ≤ 16 → UnitsReached m
   -- "Check records are the group's records times the paper's matrix": in every history, and of every check unit that a call makes anew
   pub in-histories : (s : List ℕ) (b : ℕ) → layOutNumber s b ≡ 0 → (cs : List Call) → AllTyped cs → HoldsLedger (view (left s b cs)) (final (opened b) cs)
   pub made-anew : (s : List ℕ) → MadeAnew s

@@ -9,7 +9,7 @@ use Rattle.group.specs.Widths.{slotBytes, checkBytes}
 
 -- byte 0: the version
 abbrev pub version : ℕ
-version = 2
+version = 3
 
 -- version, length, b, M, K and the states of 16 data units and 12 check units
 abbrev pub headerBytes : ℕ

@@ -1,5 +1,6 @@
 pub mod Units
 pub mod UnitLaws
+pub mod DigitLaws
 pub mod Layout
 pub mod Places
 pub mod Parts

@@ -1,4 +1,4 @@
--- Laws of where a key lies: a key's unit is one of the units in place, and so is the unit that is split. Assumes nothing.
+-- Laws of linear hashing: a number's unit is one of the units in place, so a key's is, and so is the unit that is split. Assumes nothing.
 use Prim.Native.Nat.{ℕ, _*_, _-_, _/_, _%_, _≤_, _<_}
 use native.Mathlib.Omega.{arith}
 use native.Mathlib.Nat.{mod-lt, mul-le-mul-right}
@@ -6,7 +6,7 @@ use lib.Arith.{mod-mul}
 use lib.Dec.{ltb}
 use borrow.Author.Tests.{ltb-true, ltb-false}
 use Rattle.buffer.specs.ChoiceLaws.{by-pick}
-use Rattle.model.specs.Units.{powerBelow, splitPointer, unitOf}
+use Rattle.model.specs.Units.{powerBelow, splitPointer, address, unitOf}
 
 -- the power of two is at least 1 and at most the number of units
 pub power-least : (m : ℕ) → 1 ≤ powerBelow m
@@ -30,19 +30,24 @@ pub split-below : (m : ℕ) → 1 ≤ m → splitPointer m < m
 unfolding splitPointer
 split-below m h = omega (arith, power-least m, power-most m h)
 
--- a key's unit is in place
-pub unit-below : (m k : ℕ) → 1 ≤ m → unitOf m k < m
-unfolding unitOf splitPointer
-unit-below m k h =
+-- the unit of a number is in place
+address-below : (m x : ℕ) → 1 ≤ m → address m x < m
+unfolding address splitPointer
+address-below m x h =
     let p : ℕ = powerBelow m in
     let pos : 0 < p = power-least m in
     by-pick
     (λ u. u < m)
-    (ltb (k % p) (m - p))
-    (k % (2 * p))
-    (k % p)
+    (ltb (x % p) (m - p))
+    (x % (2 * p))
+    (x % p)
     (λ e.
-    let a : k / p % 2 ≤ 1 = omega arith in
-    let c : k / p % 2 * p ≤ 1 * p = mul-le-mul-right p a in
-    omega (arith, mod-mul k {m = 2} {c = p} (omega arith) pos, ltb-true (k % p) (m - p) e))
-    (λ e. omega (arith, mod-lt k pos, power-most m h))
+    let a : x / p % 2 ≤ 1 = omega arith in
+    let c : x / p % 2 * p ≤ 1 * p = mul-le-mul-right p a in
+    omega (arith, mod-mul x {m = 2} {c = p} (omega arith) pos, ltb-true (x % p) (m - p) e))
+    (λ e. omega (arith, mod-lt x pos, power-most m h))
+
+-- and so is a key's
+pub unit-below : (m k : ℕ) → 1 ≤ m → unitOf m k < m
+unfolding unitOf
+unit-below m k h = address-below m _ h

@@ -1,6 +1,7 @@
 pub mod Runs
 pub mod Joined
 pub mod Places
+pub mod Turned
 pub mod Words
 pub mod Masks
 pub mod Reaching

@@ -1,4 +1,5 @@
--- Linear hashing's rule by a mask: whether a key belongs to unit u of m is told by its low bits alone. Assumes nothing.
+-- Linear hashing's rule by a mask: whether a number belongs to unit u of m is told by its low bits alone, and so by these bits where a spread key has
+-- its digit sum. Assumes nothing.
 use mathlib.Core.Path.{_≡_, refl, sym, ap, _∙_}
 use mathlib.Core.Bool.{_&&_}
 use Prim.Native.Nat.{ℕ, suc, _+_, _*_, _-_, _/_, _%_, _^_, _≤_, _<_}
@@ -11,7 +12,10 @@ use borrow.Author.Tests.{lt-ltb, le-leb, eqb-true, eqb-false, leb-true, ltb-true
 use Rattle.buffer.specs.Choice.{pick}
 use Rattle.buffer.specs.ChoiceLaws.{by-test, by-pick, pick-true, pick-false, pick-map}
 use Rattle.buffer.specs.TestLaws.{not-both, and-true, and-first, and-second}
-use Rattle.model.specs.Units.{powerBelow, splitPointer, unitOf}
+use Rattle.model.specs.Units.{powerBelow, splitPointer, address, digitSum, unitOf}
+use Rattle.model.specs.UnitLaws.{power-most}
+use Rattle.lookup.specs.Spread.{sumIn, sumAt}
+use Rattle.lookup.specs.SpreadLaws.{sum-test}
 use Rattle.soundness.specs.Keys.{maskOf}
 
 -- a proof for each power of two that may be the largest that is at most m
@@ -32,7 +36,7 @@ remainder-twice k p pos d =
     (λ t. absurd (d (e ∙ rw (eqb-true (k / p % 2) 0 t) (omega arith))))
     (λ t. let one : k / p % 2 ≡ 1 = let h = eqb-false (k / p % 2) 0 t in omega arith in e ∙ rw one (omega arith))
 
--- x and y are a key's remainders by p = 2^j and by 2p, and neither is u
+-- x and y are a number's remainders by p = 2^j and by 2p, and neither is u
 neither : (x y p u : ℕ) → ((y ≡ x → ⊥) → y ≡ x + p) → (x ≡ u → ⊥) → (x + p ≡ u → ⊥) → eqb x u ≡ eqb y u
 neither x y p u hy a b = ne-eqb x u a ∙ sym (ne-eqb y u (λ h. b (sym (hy (λ e. a (sym e ∙ h))) ∙ h)))
 
@@ -66,6 +70,18 @@ module _ (m u k : ℕ) (some : 1 ≤ m) (most : m ≤ 16) (unit : u < m) where
       ap (λ z. eqb z u) (pick-map (bitAnd k) (ltb u p && leb (m - p) u) (p - 1) (2 * p - 1) ∙ rw (and-mask k j, twice) refl)
       ∙ remainder-tells (k % p) (k % (2 * p)) p m u (mod-lt k pos) (remainder-twice k p pos) l unit
 
-  pub mask-tells : eqb (bitAnd k (maskOf m u)) u ≡ eqb (unitOf m k) u
-  unfolding maskOf unitOf splitPointer Tells
+  mask-tells : eqb (bitAnd k (maskOf m u)) u ≡ eqb (address m k) u
+  unfolding maskOf address splitPointer Tells
   mask-tells = by-power Tells m some most (λ _. tells 0 some) (λ a _. tells 1 a) (λ a _. tells 2 a) (λ a _. tells 3 a) (λ a. tells 4 (omega arith))
+
+-- a key's unit, by its spread
+mask-small : (m u : ℕ) → 1 ≤ m → m ≤ 16 → maskOf m u < 256
+unfolding maskOf
+mask-small m u some most =
+    let few : powerBelow m ≤ m = power-most m some in
+    by-pick (λ w. w < 256) (ltb u (powerBelow m) && leb (splitPointer m) u) (powerBelow m - 1) (2 * powerBelow m - 1) (λ _. omega arith) (λ _. omega arith)
+
+pub spread-tells : (m u k p : ℕ) → 1 ≤ m → m ≤ 16 → u < m → sumIn p ≡ digitSum k → eqb (bitAnd p (maskOf m u * sumAt)) (u * sumAt) ≡ eqb (unitOf m k) u
+unfolding unitOf
+spread-tells m u k p some most unit e =
+    sum-test p (digitSum k) (maskOf m u) u e (mask-small m u some most) ∙ mask-tells m u (digitSum k) some most unit

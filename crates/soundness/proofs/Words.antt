@@ -1,54 +1,30 @@
 -- Keys compared two at a time, as numbers read low byte first: they are the same where the numbers are. Assumes nothing.
-use mathlib.Core.Path.{_≡_, refl, sym, _∙_}
+use mathlib.Core.Path.{_≡_, sym, ap₂, _∙_}
 use mathlib.Core.Bool.{_&&_}
 use mathlib.Core.List.{List}
 use Prim.Native.Nat.{ℕ, _+_, _*_, _<_}
 use native.Mathlib.Omega.{arith}
 use lib.Dec.{eqb}
 use borrow.Author.Tests.{eqb-true, eq-eqb}
-use Rattle.buffer.specs.Bytes.{byte, be32}
-use Rattle.buffer.specs.ByteLaws.{low-byte, above-byte}
+use Rattle.buffer.specs.Bytes.{byte}
 use Rattle.buffer.specs.TestLaws.{same-test, and-true, and-first, and-second}
 use Rattle.soundness.specs.Keys.{le32, samePair}
+use Rattle.soundness.proofs.Turned.{turned-same}
 
--- a byte and a rest are told by the number that they make
-last : (a p b q : ℕ) → a < 256 → b < 256 → a + p * 256 ≡ b + q * 256 → a ≡ b
-last a p b q ha hb e = sym (low-byte (a + p * 256) a p ha refl) ∙ low-byte (a + p * 256) b q hb e
-
-others : (a p b q : ℕ) → a < 256 → b < 256 → a + p * 256 ≡ b + q * 256 → p ≡ q
-others a p b q ha hb e = sym (above-byte (a + p * 256) a p ha refl) ∙ above-byte (a + p * 256) b q hb e
-
--- four bytes, as they are weighed from the low end and from the high end
-from-low : (a b c d e f g h : ℕ) → a < 256 → b < 256 → c < 256 → d < 256 → e < 256 → f < 256 → g < 256 → h < 256
-    → a + b * 256 + c * 65536 + d * 16777216 ≡ e + f * 256 + g * 65536 + h * 16777216
-    → a * 16777216 + b * 65536 + c * 256 + d ≡ e * 16777216 + f * 65536 + g * 256 + h
-from-low a b c d e f g h ha hb hc hd he hf hg hh q =
-    let one : a + (b + (c + d * 256) * 256) * 256 ≡ e + (f + (g + h * 256) * 256) * 256 = omega arith in
-    let two : b + (c + d * 256) * 256 ≡ f + (g + h * 256) * 256 = others a (b + (c + d * 256) * 256) e (f + (g + h * 256) * 256) ha he one in
-    let three : c + d * 256 ≡ g + h * 256 = others b (c + d * 256) f (g + h * 256) hb hf two in
-    let a≡e : a ≡ e = last a (b + (c + d * 256) * 256) e (f + (g + h * 256) * 256) ha he one in
-    let b≡f : b ≡ f = last b (c + d * 256) f (g + h * 256) hb hf two in
-    let c≡g : c ≡ g = last c d g h hc hg three in
-    let d≡h : d ≡ h = others c d g h hc hg three in
-    omega arith
-
-from-high : (a b c d e f g h : ℕ) → a < 256 → b < 256 → c < 256 → d < 256 → e < 256 → f < 256 → g < 256 → h < 256
-    → a * 16777216 + b * 65536 + c * 256 + d ≡ e * 16777216 + f * 65536 + g * 256 + h
-    → a + b * 256 + c * 65536 + d * 16777216 ≡ e + f * 256 + g * 65536 + h * 16777216
-from-high a b c d e f g h ha hb hc hd he hf hg hh q =
-    let r : d + c * 256 + b * 65536 + a * 16777216 ≡ h + g * 256 + f * 65536 + e * 16777216 = omega arith in
-    let t : d * 16777216 + c * 65536 + b * 256 + a ≡ h * 16777216 + g * 65536 + f * 256 + e = from-low d c b a h g f e hd hc hb ha hh hg hf he r in
-    omega arith
+-- two numbers of 32 bits are told by the number of 64 bits that they make
+halves : (a b c d : ℕ) → a < 4294967296 → c < 4294967296 → eqb (a + b * 4294967296) (c + d * 4294967296) ≡ (eqb a c && eqb b d)
+halves a b c d ha hc =
+    same-test (eqb (a + b * 4294967296) (c + d * 4294967296)) (eqb a c && eqb b d)
+    (λ h.
+    let e : a + b * 4294967296 ≡ c + d * 4294967296 = eqb-true _ _ h in
+    and-true (eq-eqb a c (omega arith)) (eq-eqb b d (omega arith)))
+    (λ h.
+    let first : a ≡ c = eqb-true a c (and-first _ _ h) in
+    let second : b ≡ d = eqb-true b d (and-second (eqb a c) _ h) in
+    let both : a + b * 4294967296 ≡ c + d * 4294967296 = omega arith in
+    eq-eqb _ _ both)
 
 module _ (s : List ℕ) (bound : (i : ℕ) → byte s i < 256) where
-  le-be : (x y : ℕ) → le32 s x ≡ le32 s y → be32 s x ≡ be32 s y
-  unfolding le32 be32
-  le-be x y = from-low _ _ _ _ _ _ _ _ (bound x) (bound (x + 1)) (bound (x + 2)) (bound (x + 3)) (bound y) (bound (y + 1)) (bound (y + 2)) (bound (y + 3))
-
-  be-le : (x y : ℕ) → be32 s x ≡ be32 s y → le32 s x ≡ le32 s y
-  unfolding le32 be32
-  be-le x y = from-high _ _ _ _ _ _ _ _ (bound x) (bound (x + 1)) (bound (x + 2)) (bound (x + 3)) (bound y) (bound (y + 1)) (bound (y + 2)) (bound (y + 3))
-
   le-lt : (x : ℕ) → le32 s x < 4294967296
   unfolding le32
   le-lt x = omega (arith, bound x, bound (x + 1), bound (x + 2), bound (x + 3))
@@ -56,16 +32,5 @@ module _ (s : List ℕ) (bound : (i : ℕ) → byte s i < 256) where
   pub same-words : (x y : ℕ) → eqb (le32 s x + le32 s (x + 4) * 4294967296) (le32 s y + le32 s (y + 4) * 4294967296) ≡ samePair s x y
   unfolding samePair
   same-words x y =
-      same-test
-      (eqb (le32 s x + le32 s (x + 4) * 4294967296) (le32 s y + le32 s (y + 4) * 4294967296))
-      (eqb (be32 s x) (be32 s y) && eqb (be32 s (x + 4)) (be32 s (y + 4)))
-      (λ h.
-      let e : le32 s x + le32 s (x + 4) * 4294967296 ≡ le32 s y + le32 s (y + 4) * 4294967296 = eqb-true _ _ h in
-      let first : le32 s x ≡ le32 s y = omega (arith, le-lt x, le-lt y) in
-      let second : le32 s (x + 4) ≡ le32 s (y + 4) = omega (arith, le-lt x, le-lt y) in
-      and-true (eq-eqb _ _ (le-be x y first)) (eq-eqb _ _ (le-be (x + 4) (y + 4) second)))
-      (λ h.
-      let first : le32 s x ≡ le32 s y = be-le x y (eqb-true _ _ (and-first _ _ h)) in
-      let second : le32 s (x + 4) ≡ le32 s (y + 4) = be-le (x + 4) (y + 4) (eqb-true _ _ (and-second (eqb (be32 s x) (be32 s y)) _ h)) in
-      let both : le32 s x + le32 s (x + 4) * 4294967296 ≡ le32 s y + le32 s (y + 4) * 4294967296 = omega arith in
-      eq-eqb _ _ both)
+      halves (le32 s x) (le32 s (x + 4)) (le32 s y) (le32 s (y + 4)) (le-lt x) (le-lt y)
+      ∙ ap₂ (λ a b. a && b) (turned-same s bound x y) (turned-same s bound (x + 4) (y + 4))

@@ -10,11 +10,19 @@ use Rattle.buffer.specs.Bytes.{byte, be32}
 use Rattle.model.specs.Units.{powerBelow, splitPointer, unitOf}
 use Rattle.group.specs.Widths.{checkBytes}
 
+-- four bytes as a number, low byte first
+unfoldable pub le32 : List ℕ → ℕ → ℕ
+le32 s at = byte s at + byte s (at + 1) * 256 + byte s (at + 2) * 65536 + byte s (at + 3) * 16777216
+
+-- a list of keys with the bytes of each in the other order
+unfoldable pub turnedKeys : List ℕ → ℕ → ℕ → ℕ → ℕ
+turnedKeys s base step r = le32 s (base + step * r)
+
 -- the place of a key in the table of stamps
 unfoldable pub placeOf : ℕ → ℕ
 placeOf k = k * 2654435761 / 2097152 % 2048
 
--- a mask of the low bits of a key that tell whether it belongs to unit u of m (`mask-tells`): one bit more where u was split, or made by a split
+-- a mask of the low bits of a digit sum that tell whether its key belongs to unit u of m (`spread-tells`): one bit more where u was split, or made by a split
 unfoldable pub maskOf : ℕ → ℕ → ℕ
 maskOf m u = pick (ltb u (powerBelow m) && leb (splitPointer m) u) (powerBelow m - 1) (2 * powerBelow m - 1)
 
@@ -41,10 +49,6 @@ sameKeys b key other = all b (λ r. eqb (key r) (other r))
 -- from rank n on there is no key
 unfoldable pub noKeys : ℕ → ℕ → (ℕ → ℕ) → Bool
 noKeys n b key = all b (λ r. ltb r n || eqb (key r) 0)
-
--- four bytes as a number, low byte first
-unfoldable pub le32 : List ℕ → ℕ → ℕ
-le32 s at = byte s at + byte s (at + 1) * 256 + byte s (at + 2) * 65536 + byte s (at + 3) * 16777216
 
 -- the two keys at each of two places are the same
 unfoldable pub samePair : List ℕ → ℕ → ℕ → Bool

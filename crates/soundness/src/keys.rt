@@ -4,13 +4,8 @@ ghost use Prim.Native.Nat.{_+_, _*_, _≤_, _<_};
 ghost use lib.ListN.{length};
 ghost use Rattle.group.specs.Widths.{slotBytes, checkBytes};
 ghost use Rattle.buffer.specs.Strided.{strided32, Within};
-ghost use Rattle.soundness.specs.Keys.{placeOf, maskOf, isNew, reached, sameKeys, noKeys, le32, samePair, sameLists};
-
-fn wide64(x: u32) -> u64
-    ensures { λ r. ⌜ (r ≡ x) × (r < 4294967296) ⌝ }
-{
-    x as u64
-}
+ghost use Rattle.soundness.specs.Keys.{placeOf, maskOf, isNew, reached, sameKeys, noKeys, le32, turnedKeys, samePair, sameLists};
+use lookup::digits;
 
 fn key(s: &[u8], base: usize, step: usize, r: usize) -> u32
     requires { ⌜ base + step * r + 4 ≤ length (now s) ⌝ }
@@ -19,14 +14,34 @@ fn key(s: &[u8], base: usize, step: usize, r: usize) -> u32
     buffer::load32(s, base + step * r)
 }
 
-// Whether a key is none of the first n of a list.
+// Four bytes as a number, low byte first: the compiler makes one load of it.
+fn half(s: &[u8], at: usize) -> u32
+    requires { ⌜ at + 4 ≤ length (now s) ⌝ }
+    ensures { λ r. ⌜ r ≡ le32 (now (s .entry)) at ⌝ }
+{
+    buffer::wide32(s[at])
+        + buffer::wide32(s[at + 1]) * 256
+        + buffer::wide32(s[at + 2]) * 65536
+        + buffer::wide32(s[at + 3]) * 16777216
+}
+
+// A key with its bytes in the other order. Whether it is 0, whether two of them are the same and what the sum of its digits is do not depend on the
+// order, and no byte has to be moved.
+fn turned_key(s: &[u8], base: usize, step: usize, r: usize) -> u32
+    requires { ⌜ base + step * r + 4 ≤ length (now s) ⌝ }
+    ensures { λ k. ⌜ k ≡ turnedKeys (now (s .entry)) base step r ⌝ }
+{
+    half(s, base + step * r)
+}
+
+// Whether a turned key is none of the first n of a list.
 fn is_new(s: &[u8], base: usize, step: usize, n: usize, k: u32) -> bool
     requires { ⌜ Within (now s) base step n ⌝ }
-    ensures { λ r. ⌜ r ≡ isNew n (strided32 (now (s .entry)) base step) k ⌝ }
+    ensures { λ r. ⌜ r ≡ isNew n (turnedKeys (now (s .entry)) base step) k ⌝ }
 {
     let mut q = 0;
     while q < n {
-        if key(s, base, step, q) == k {
+        if turned_key(s, base, step, q) == k {
             return false;
         }
         q += 1;
@@ -38,10 +53,10 @@ fn is_new(s: &[u8], base: usize, step: usize, n: usize, k: u32) -> bool
 fn place(k: u32) -> usize
     ensures { λ r. ⌜ (r ≡ placeOf k) × (r < 2048) ⌝ }
 {
-    (wide64(k) * 2654435761 / 2097152 % 2048) as usize
+    (buffer::wide64(k) * 2654435761 / 2097152 % 2048) as usize
 }
 
-// The low bits of a key that tell whether it belongs to unit u of m: one bit more where u was split, or made by a split.
+// The low bits of a digit sum that tell whether its key belongs to unit u of m: one bit more where u was split, or made by a split.
 fn mask_of(m: u8, u: u8) -> u32
     requires { ⌜ (1 ≤ m) × (m ≤ 16) × (u < m) ⌝ }
     ensures { λ r. ⌜ r ≡ maskOf m u ⌝ }
@@ -69,16 +84,16 @@ pub fn reach(
     requires { ⌜ Within (now s) base step b × (1 ≤ m) × (m ≤ 16) × (u < m) × (length (now t) ≡ 2048) ⌝ }
     ensures { λ r. ⌜ (r ≡ reached b m u (strided32 (now (s .entry)) base step)) × (length (now (t .exit)) ≡ 2048) ⌝ }
 {
-    let mask = mask_of(m, u);
-    let own = buffer::wide32(u);
+    let mask = digits::at_sum(mask_of(m, u));
+    let own = digits::at_sum(buffer::wide32(u));
     let stamp = u + 1;
     let mut r = 0;
     while r < b {
-        let k = key(s, base, step, r);
+        let k = turned_key(s, base, step, r);
         if k == 0 {
             return r;
         }
-        if k & mask != own {
+        if digits::spread(k) & mask != own {
             return 65;
         }
         let h = place(k);
@@ -123,22 +138,12 @@ pub fn no_keys(s: &[u8], column: usize, n: usize, b: usize) -> bool
     true
 }
 
-// Four bytes as a number, low byte first; and eight, by which two keys are compared at once.
-fn half(s: &[u8], at: usize) -> u32
-    requires { ⌜ at + 4 ≤ length (now s) ⌝ }
-    ensures { λ r. ⌜ r ≡ le32 (now (s .entry)) at ⌝ }
-{
-    buffer::wide32(s[at])
-        + buffer::wide32(s[at + 1]) * 256
-        + buffer::wide32(s[at + 2]) * 65536
-        + buffer::wide32(s[at + 3]) * 16777216
-}
-
+// Eight bytes as a number, low byte first, by which two keys are compared at once.
 fn pair(s: &[u8], at: usize) -> u64
     requires { ⌜ at + 8 ≤ length (now s) ⌝ }
     ensures { λ r. ⌜ r ≡ le32 (now (s .entry)) at + le32 (now (s .entry)) (at + 4) * 4294967296 ⌝ }
 {
-    wide64(half(s, at)) + wide64(half(s, at + 4)) * 4294967296
+    buffer::wide64(half(s, at)) + buffer::wide64(half(s, at + 4)) * 4294967296
 }
 
 fn same_pair(s: &[u8], x: usize, y: usize) -> bool

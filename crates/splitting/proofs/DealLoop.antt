@@ -161,6 +161,10 @@ module _ (s₀ : List ℕ) (n m count : ℕ) (sp : Split s₀ n m) (ec : count �
       (sym (ap length (kept-none (λ x. moves m (keyOf x)) (view s₀ .slot n))))
       (chunks-same data-units s₀ _ (sp .sized .long) (λ u r a b. dealing-none (view s₀) n m apart u r))
 
+  -- the places of a move
+  pub deal-place : {s : List ℕ} {stay left t : ℕ} → Dealing s₀ n m count s stay left t → t < count → (u q : ℕ) → u < 16 → q ≤ t → SlotIn s u q
+  deal-place d ht u q hu hq = record { long = d .sized .long; unit = hu; rank = omega (arith, most, d .five) }
+
   module _ {s : List ℕ} {stay left t key w : ℕ} (d : Dealing s₀ n m count s stay left t) (ht : t < count)
       (ek : key ≡ keyOf (view s .slot n t)) (ew : w ≡ unitOf (m + 1) key) where
     next : view s .slot n t ≡ view s₀ .slot n t
@@ -208,13 +212,6 @@ module _ (s₀ : List ℕ) (n m count : ℕ) (sp : Split s₀ n m) (ec : count �
         (d .went ∙ sym (ap length (kept-no (λ x. moves m (keyOf x)) t (view s₀ .slot n) stand)))
         (put n stay (omega (arith, sp .apart, sp .unit)) (omega (arith, d .few)) e
         ∙ rw (d .stayed) (chunks-ext data-units (view s₀) _ _ (λ u r a b. dealing-stays (view s₀) n m apart t u r stand))))
-
-    -- the two places of a move
-    pub deal-from : SlotIn s n t
-    deal-from = record { long = d .sized .long; unit = omega (arith, sp .apart, sp .unit); rank = omega (arith, most, d .five) }
-
-    pub deal-to : (u q : ℕ) → u < 16 → q ≤ t → SlotIn s u q
-    deal-to u q hu hq = record { long = d .sized .long; unit = hu; rank = omega (arith, most, d .five) }
 
   pub dealing-end : {s s₁ s₂ : List ℕ} {stay left t : ℕ} → Dealing s₀ n m count s stay left t → count ≤ t
       → s₁ ≡ bytes (cleared (view s) n stay) → s₂ ≡ bytes (cleared (view s₁) m left) → s₂ ≡ bytes (withSlots (view s₀) (dealt (view s₀) m))

@@ -10,37 +10,39 @@ use Rattle.lookup.proofs.unit_of.Statement.{statement}
 use Rattle.lookup.proofs.unit_of.Tie as tie
 
 add-if1 : tie.Need-add-if1
-add-if1 c = omega (arith, mod-lt (c .before .before .args .key) {m = c .wide32 .result} (omega arith))
+add-if1 c = omega (arith, mod-lt (c .digit-sum .result) {m = c .before .wide32 .result} (omega arith))
 
 narrow-requires : tie.Need-narrow-requires
 narrow-requires c κs =
-    let a = c .before .before in
-    omega (arith, mod-lt (a .before .before .args .key) {m = 2 * a .wide32 .result} (omega arith))
+    let sum = c .before .before in
+    omega (arith, mod-lt (sum .digit-sum .result) {m = 2 * sum .before .wide32 .result} (omega arith))
 
 returns : tie.Need-returns
 returns c =
-    let b = c .before .before in
-    let a = b .before in
-    let start = a .before .before in
-    let unit = unit-split _ _ _ _ (a .wide32 .ensures .0 ∙ a .before .power-below .ensures .0)
-    (rw (b .wide322 .ensures .0) at (c .before .if1 .taken)) (c .narrow .ensures) in
+    let compared = c .before .before in
+    let sum = compared .before in
+    let power = sum .before in
+    let start = power .before .before in
+    let unit = unit-split _ _ _ _ _ (power .wide32 .ensures .0 ∙ power .before .power-below .ensures .0) (sum .digit-sum .ensures .0)
+    (rw (compared .wide322 .ensures .0) at (c .before .if1 .taken)) (c .narrow .ensures) in
     (unit, rw unit (unit-below (start .args .m) (start .args .key) (start .pre)))
 
 narrow-requires-2 : tie.Need-narrow-requires-2
 narrow-requires-2 c κs =
-    let a = c .before .before in
-    omega (arith, mod-lt (a .before .before .args .key) {m = a .wide32 .result} (omega arith))
+    let sum = c .before .before in
+    omega (arith, mod-lt (sum .digit-sum .result) {m = sum .before .wide32 .result} (omega arith))
 
 returns-2 : tie.Need-returns-2
 returns-2 c =
-    let b = c .before .before in
-    let a = b .before in
-    let start = a .before .before in
-    let unit = unit-whole _ _ _ _ (a .wide32 .ensures .0 ∙ a .before .power-below .ensures .0)
-    (rw (b .wide322 .ensures .0) at (c .before .if1 .left)) (c .narrow2 .ensures) in
+    let compared = c .before .before in
+    let sum = compared .before in
+    let power = sum .before in
+    let start = power .before .before in
+    let unit = unit-whole _ _ _ _ _ (power .wide32 .ensures .0 ∙ power .before .power-below .ensures .0) (sum .digit-sum .ensures .0)
+    (rw (compared .wide322 .ensures .0) at (c .before .if1 .left)) (c .narrow2 .ensures) in
     (unit, rw unit (unit-below (start .args .m) (start .args .key) (start .pre)))
 
 pub unit-of-spec : {M : Type 1} → statement M
 unit-of-spec =
-    tie.close (tie.spec (λ c κs. search needs) (λ c κs. search needs) (λ c. search needs) add-if1 (λ c κs. search needs) (λ c. search needs) (λ c. search needs)
-    narrow-requires returns (λ c. search needs) narrow-requires-2 returns-2)
+    tie.close (tie.spec (λ c κs. search needs) (λ c κs. search needs) (λ c κs. search needs) (λ c. search needs) add-if1 (λ c κs. search needs)
+    (λ c. search needs) (λ c. search needs) narrow-requires returns (λ c. search needs) narrow-requires-2 returns-2)

@@ -10,7 +10,7 @@ use lib.Dec.{eqb, ltb}
 use borrow.Author.Tests.{lt-ltb, le-ltb, ltb-true, ltb-false, eqb-true, eq-eqb, ne-eqb}
 use Rattle.buffer.specs.Choice.{pick}
 use Rattle.buffer.specs.ChoiceLaws.{pick-true, pick-false}
-use Rattle.model.specs.Units.{powerBelow, splitPointer, unitOf, moves}
+use Rattle.model.specs.Units.{powerBelow, splitPointer, address, unitOf, moves}
 use Rattle.model.specs.UnitLaws.{split-below, unit-below}
 use Rattle.model.proofs.history.ledger.Power.{Power, power-of}
 
@@ -31,11 +31,11 @@ split-whole m a b = let p : Bounds m = bounds m a b in omega arith
 
 -- ---- one split
 
--- the unit of a key with p + n units, n below p
+-- the unit of a number with p + n units, n below p
 unfoldable unitAt : ℕ → ℕ → ℕ → ℕ
 unitAt p n k = pick (ltb (k % p) n) (k % (2 * p)) (k % p)
 
--- the next binary digit of a key is 0 or 1
+-- the next binary digit of a number is 0 or 1
 double : (p k : ℕ) → 0 < p → (k % (2 * p) ≡ k % p) ⊎ (k % (2 * p) ≡ p + k % p)
 double p k h = go (k / p % 2) refl
   where
@@ -50,7 +50,7 @@ double p k h = go (k / p % 2) refl
         inr (omega arith)
     go (suc (suc b)) e = absurd (omega arith)
 
--- one unit more: the key stays, or it leaves unit n for unit p + n
+-- one unit more: the number stays, or it leaves unit n for unit p + n
 step : (p n k : ℕ) → 0 < p → (unitAt p (suc n) k ≡ unitAt p n k) ⊎ ((unitAt p n k ≡ n) × (unitAt p (suc n) k ≡ p + n))
 unfolding unitAt pick
 step p n k h = go (ltb (k % p) n) (ltb (k % p) (suc n)) refl refl
@@ -73,12 +73,12 @@ full p k h =
     pick-true (lt-ltb (k % p) p (mod-lt k h)) (k % (2 * p)) (k % p) ∙ sym (pick-false (le-ltb (k % (2 * p)) 0 (omega arith)) (k % (2 * (2 * p))) (k % (2 * p)))
 
 module _ (m k : ℕ) (lo : 1 ≤ m) where
-  at-now : unitOf m k ≡ unitAt (powerBelow m) (splitPointer m) k
-  unfolding unitOf unitAt
+  at-now : address m k ≡ unitAt (powerBelow m) (splitPointer m) k
+  unfolding address unitAt
   at-now = refl
 
-  at-next : m ≤ 15 → unitOf (suc m) k ≡ unitAt (powerBelow m) (suc (splitPointer m)) k
-  unfolding unitOf unitAt splitPointer
+  at-next : m ≤ 15 → address (suc m) k ≡ unitAt (powerBelow m) (suc (splitPointer m)) k
+  unfolding address unitAt splitPointer
   at-next hi = go (eqb (suc m) (2 * powerBelow m)) refl
     where
       p : ℕ
@@ -103,17 +103,21 @@ module _ (m k : ℕ) (lo : 1 ≤ m) where
           rw (more, now) refl
 
 -- THE SPLIT
-pub unitOf-grow : (m k : ℕ) → 1 ≤ m → m ≤ 15 → (unitOf (suc m) k ≡ unitOf m k) ⊎ ((unitOf m k ≡ splitPointer m) × (unitOf (suc m) k ≡ m))
-unitOf-grow m k lo hi = go (step (powerBelow m) (splitPointer m) k (b .some))
+address-grow : (m k : ℕ) → 1 ≤ m → m ≤ 15 → (address (suc m) k ≡ address m k) ⊎ ((address m k ≡ splitPointer m) × (address (suc m) k ≡ m))
+address-grow m k lo hi = go (step (powerBelow m) (splitPointer m) k (b .some))
   where
     b : Bounds m
     b = bounds m lo (omega arith)
 
     go : (unitAt (powerBelow m) (suc (splitPointer m)) k ≡ unitAt (powerBelow m) (splitPointer m) k)
         ⊎ ((unitAt (powerBelow m) (splitPointer m) k ≡ splitPointer m) × (unitAt (powerBelow m) (suc (splitPointer m)) k ≡ powerBelow m + splitPointer m))
-        → (unitOf (suc m) k ≡ unitOf m k) ⊎ ((unitOf m k ≡ splitPointer m) × (unitOf (suc m) k ≡ m))
+        → (address (suc m) k ≡ address m k) ⊎ ((address m k ≡ splitPointer m) × (address (suc m) k ≡ m))
     go (inl s) = inl (at-next m k lo hi ∙ s ∙ sym (at-now m k lo))
     go (inr s) = inr (at-now m k lo ∙ s .0, at-next m k lo hi ∙ s .1 ∙ split-whole m lo (omega arith))
+
+pub unitOf-grow : (m k : ℕ) → 1 ≤ m → m ≤ 15 → (unitOf (suc m) k ≡ unitOf m k) ⊎ ((unitOf m k ≡ splitPointer m) × (unitOf (suc m) k ≡ m))
+unfolding unitOf
+unitOf-grow m k lo hi = address-grow m _ lo hi
 
 -- ---- what it says of a key of the split unit, and of any other; forwards for grow, backwards for shrink
 

@@ -5,7 +5,7 @@ use Prim.Native.Nat.{_-_}
 use native.Mathlib.Omega.{arith}
 use Rattle.encoding.specs.Holding.{holds-step, holds-five, holds-long}
 use Rattle.splitting.proofs.StepLaws.{cleared-change}
-use Rattle.splitting.proofs.DealLoop.{Dealing, dealing-start, deal-goes, deal-stays, deal-from, deal-to, dealing-end}
+use Rattle.splitting.proofs.DealLoop.{Dealing, dealing-start, deal-goes, deal-stays, deal-place, dealing-end}
 use Rattle.splitting.proofs.dealing.deal_out.Statement.{statement}
 use Rattle.splitting.proofs.dealing.deal_out.Tie as tie
 
@@ -29,15 +29,11 @@ add-unit-of c = omega (arith, c .before .before .before .before .before .pre .0 
 
 move-record-requires : tie.Need-move-record-requires Inv-loop μ-loop
 move-record-requires c κs =
-    let u = c .before .before in
-    let k = u .before in
+    let k = c .before .before .before in
     let l = k .before .before .before in
     let e = l .before .before in
-    let taken = k .before .before .loop-test .taken in (
-      deal-from (e .args .s .now) _ _ _ (e .pre .0) (e .pre .1) (l .loop .inv) taken (k .key-at .ensures) (u .unit-of .ensures .0),
-      deal-to (e .args .s .now) _ _ _ (e .pre .0) (e .pre .1) (l .loop .inv) taken (k .key-at .ensures)
-          (u .unit-of .ensures .0) _ _ (e .pre .0 .unit) (omega (arith, l .loop .inv .few)),
-    )
+    let place = deal-place (e .args .s .now) _ _ _ (e .pre .0) (e .pre .1) (l .loop .inv) (k .before .before .loop-test .taken) in
+    (place _ _ (omega (arith, e .pre .0 .apart, e .pre .0 .unit)) (omega arith), place _ _ (e .pre .0 .unit) (omega (arith, l .loop .inv .few)))
 
 add-gone : tie.Need-add-gone Inv-loop μ-loop
 add-gone c =
@@ -46,15 +42,11 @@ add-gone c =
 
 move-record-requires-2 : tie.Need-move-record-requires-2 Inv-loop μ-loop
 move-record-requires-2 c κs =
-    let u = c .before .before in
-    let k = u .before in
+    let k = c .before .before .before in
     let l = k .before .before .before in
     let e = l .before .before in
-    let taken = k .before .before .loop-test .taken in (
-      deal-from (e .args .s .now) _ _ _ (e .pre .0) (e .pre .1) (l .loop .inv) taken (k .key-at .ensures) (u .unit-of .ensures .0),
-      deal-to (e .args .s .now) _ _ _ (e .pre .0) (e .pre .1) (l .loop .inv) taken (k .key-at .ensures) (u .unit-of .ensures .0) _ _
-          (omega (arith, e .pre .0 .apart, e .pre .0 .unit)) (omega (arith, l .loop .inv .few)),
-    )
+    let place = deal-place (e .args .s .now) _ _ _ (e .pre .0) (e .pre .1) (l .loop .inv) (k .before .before .loop-test .taken) in
+    (place _ _ (omega (arith, e .pre .0 .apart, e .pre .0 .unit)) (omega arith), place _ _ (omega (arith, e .pre .0 .apart, e .pre .0 .unit)) (omega (arith, l .loop .inv .few)))
 
 add-kept : tie.Need-add-kept Inv-loop μ-loop
 add-kept c =
