@@ -1,7 +1,8 @@
 /*
  * A travel program's day: lays out a store, teaches park positions, adds a check unit, loses two
- * units, reads all the same, repairs, and lists what is there. Build and run it with examples/run;
- * examples/travel.out is what it prints.
+ * units, reads all the same, repairs, and lists what is there. The hall numbers its posts in
+ * sixteens; a post's number is its key. Build and run it with examples/run; examples/travel.out is
+ * what it prints.
  */
 #include "lhrs.h"
 
@@ -11,7 +12,8 @@
 
 #define SLOTS 8u
 #define UNITS 4u
-#define POSITIONS 6u
+#define STEP 16u
+#define LAST_POST (6u * STEP)
 
 static uint8_t store[LHRS_LENGTH(SLOTS)];
 
@@ -35,7 +37,7 @@ static void park_position(uint8_t body[LHRS_BODY], uint32_t key)
 
 static void teach_positions(void)
 {
-    for (uint32_t key = 1; key <= POSITIONS; key++) {
+    for (uint32_t key = STEP; key <= LAST_POST; key += STEP) {
         uint8_t body[LHRS_BODY];
         park_position(body, key);
         expect("teach a park position", lhrs_teach(store, sizeof store, key, body, sizeof body),
@@ -57,14 +59,16 @@ static void print_position(uint32_t key, const uint8_t body[LHRS_BODY])
 
 static void read_positions(void)
 {
-    for (uint32_t key = 1; key <= POSITIONS; key++) {
+    for (uint32_t key = STEP; key <= LAST_POST; key += STEP) {
         uint8_t body[LHRS_BODY];
         expect("read", lhrs_read(store, sizeof store, key, body, sizeof body), LHRS_GRANTED);
         print_position(key, body);
     }
 }
 
-/* All records in one call, by unit. The buffer holds as many as the store can. */
+/* All records in one call, by unit: the sum of a key's hexadecimal digits decides where it lies, so
+   that posts 16, 32, 48 and 64 lie in units 1, 2, 3 and 0. The buffer holds as many as the store
+   can. */
 static void list_positions(void)
 {
     static uint8_t records[UNITS * SLOTS * LHRS_RECORD];
@@ -101,9 +105,9 @@ int main(void)
     expect("unit 2 is swapped", lhrs_out(store, sizeof store, 2), LHRS_GRANTED);
     print_units();
     read_positions();
-    park_position(body, POSITIONS + 1);
+    park_position(body, LAST_POST + STEP);
     expect("teach while units are out: refused",
-           lhrs_teach(store, sizeof store, POSITIONS + 1, body, sizeof body), LHRS_UNIT_OUT);
+           lhrs_teach(store, sizeof store, LAST_POST + STEP, body, sizeof body), LHRS_UNIT_OUT);
 
     expect("repair the group", lhrs_repair(store, sizeof store, 0), LHRS_GRANTED);
     print_units();

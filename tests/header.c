@@ -1,7 +1,7 @@
 /*
  * What include/lhrs.h says and the other tests do not show: a pointer with length 0 may be null, and
- * what its macros read, the check units of each group by the level too. It is C99 and C++98. Build
- * and run it with tests/header.
+ * what its macros read, the check units of each group by the level too; keys numbered in sixteens lie
+ * in different units. It is C99 and C++98. Build and run it with tests/header.
  */
 #include "lhrs.h"
 
@@ -116,11 +116,31 @@ static void raise_everywhere(void)
 /* A store that says another version is not sound. */
 static void other_version(void)
 {
-    expect("version", store[0], 2);
-    store[0] = 1;
-    expect("raise, version 1", lhrs_raise(store, sizeof store), LHRS_NOT_SOUND);
+    expect("version", store[0], 3);
     store[0] = 2;
-    expect("grow, version 2", lhrs_grow(store, sizeof store), LHRS_GRANTED);
+    expect("raise, version 2", lhrs_raise(store, sizeof store), LHRS_NOT_SOUND);
+    store[0] = 3;
+    expect("grow, version 3", lhrs_grow(store, sizeof store), LHRS_GRANTED);
+}
+
+/* Four units of two slots have room for 16 to 128, two in each unit by their digit sums; 144 lies in
+   unit 1 with 16 and 80. */
+static void posts_in_sixteens(void)
+{
+    static const uint8_t listed[] = {64, 128, 16, 80, 32, 96, 48, 112};
+    uint8_t records[sizeof listed * LHRS_RECORD];
+    size_t count, i;
+    expect("lay out", lhrs_lay_out(store, sizeof store, SLOTS), LHRS_GRANTED);
+    while (LHRS_UNITS(store) < 4)
+        expect("grow", lhrs_grow(store, sizeof store), LHRS_GRANTED);
+    for (i = 1; i <= sizeof listed; i++)
+        expect("teach a post", lhrs_teach(store, sizeof store, 16 * (uint32_t)i, body, LHRS_BODY),
+               LHRS_GRANTED);
+    expect("teach 144", lhrs_teach(store, sizeof store, 144, body, LHRS_BODY), LHRS_NO_ROOM);
+    expect("list", lhrs_list(store, sizeof store, records, sizeof records, &count), LHRS_GRANTED);
+    expect("count", count, sizeof listed);
+    for (i = 0; i < sizeof listed; i++)
+        expect("a key of the list", records[i * LHRS_RECORD + 3], listed[i]);
 }
 
 int main(void)
@@ -135,5 +155,6 @@ int main(void)
     reads(2, 2, LHRS_STATE_OUT);
     raise_everywhere();
     other_version();
+    posts_in_sixteens();
     return EXIT_SUCCESS;
 }

@@ -4,9 +4,10 @@ use reference::call::{Call, Kind};
 use reference::compare::case::Step;
 use reference::generate::cases::damaged_case;
 use reference::generate::{history, losses, LOSSES};
-use reference::ledger::Ledger;
+use reference::ledger::{digit_sum, split_unit, Ledger};
 use reference::store;
-use std::collections::HashSet;
+use reference::store::layout::{unit_of_number, View, VERSION};
+use std::collections::{BTreeSet, HashSet};
 
 /// Every number that the table gives to a kind of call, but 1.
 const NUMBERS: [(Kind, &[u8]); 11] = [
@@ -51,21 +52,27 @@ fn ledger_and_bytes_agree() {
     assert_eq!(reached, due.collect());
 }
 
+/// Shows each call of a history behind its layout, with the ledger that it meets.
+fn walk(calls: &[Call], mut see: impl FnMut(&Ledger, &Call)) {
+    let Call::LayOut { b } = calls[0] else { panic!("a history starts with a layout") };
+    let mut ledger = Ledger::open(b, usize::MAX).unwrap();
+    for call in &calls[1..] {
+        see(&ledger, call);
+        ledger.perform(call);
+    }
+}
+
 /// The raises of a history: the units and the level that each one met, whether a data unit and
 /// whether a check unit was out, and its number.
 fn raises(calls: &[Call]) -> Vec<(usize, usize, bool, bool, u8)> {
-    let Call::LayOut { b } = calls[0] else { panic!("a history starts with a layout") };
-    let mut ledger = Ledger::open(b, usize::MAX).unwrap();
     let mut raises = Vec::new();
-    for call in &calls[1..] {
+    walk(calls, |ledger, call| {
         let (data, checks) = ledger.out.split_at(16);
         let out = (data.contains(&true), checks.contains(&true));
-        let (units, level) = (ledger.units(), ledger.level);
-        let number = ledger.perform(call).number();
         if call.kind() == Kind::Raise {
-            raises.push((units, level, out.0, out.1, number.unwrap()));
+            raises.push((ledger.units(), ledger.level, out.0, out.1, ledger.number(call)));
         }
-    }
+    });
     raises
 }
 
@@ -86,6 +93,95 @@ fn histories_raise_everywhere() {
     assert!(met.iter().any(|&(_, level, data, checks, number)| {
         level == 3 && (data || checks) && number == 9
     }));
+}
+
+/// The first eight different keys that a history teaches, where there are so many.
+fn first_keys(calls: &[Call]) -> Option<BTreeSet<u32>> {
+    let mut keys = BTreeSet::new();
+    for call in calls {
+        let Call::Teach { key, .. } = call else { continue };
+        keys.insert(*key);
+        if keys.len() == 8 {
+            return Some(keys);
+        }
+    }
+    None
+}
+
+/// Of keys: whether all are in sixteens, how many are below 65,536, and whether all lie in one unit,
+/// whatever the number of units.
+fn kind(keys: BTreeSet<u32>) -> (bool, usize, bool) {
+    let in_sixteens = keys.iter().all(|key| key % 16 == 0);
+    let small = keys.iter().filter(|&&key| key < 65_536).count();
+    let remainders: HashSet<usize> = keys.iter().map(|&key| digit_sum(key) % 16).collect();
+    (in_sixteens, small, remainders.len() == 1)
+}
+
+/// Some histories begin with keys in sixteens, some with small keys and some with large ones; of the
+/// last two some begin with keys of one unit.
+#[test]
+fn histories_take_keys_of_every_kind() {
+    let starts = (0..1500).filter_map(|seed| first_keys(&history(seed)));
+    let met: HashSet<_> = starts.map(kind).collect();
+    assert!(met.contains(&(true, 8, false)));
+    for small in [0, 8] {
+        assert!(met.contains(&(false, small, false)), "several units, {small} small keys");
+        assert!(met.contains(&(false, small, true)), "one unit, {small} small keys");
+    }
+}
+
+/// The records of the unit that a grow splits: whether each one moves, and whether it would move by
+/// the key itself.
+fn split_records(ledger: &Ledger) -> HashSet<(bool, bool)> {
+    let added = ledger.units();
+    let records = ledger.lists[split_unit(added)].iter();
+    let moves = |number| unit_of_number(added + 1, number) == added;
+    records.map(|record| (moves(digit_sum(record.key)), moves(record.key as usize))).collect()
+}
+
+/// At every number of units some grow moves records and leaves others, and records move and stay that
+/// would move by the key itself, and that would stay by it.
+#[test]
+fn histories_split_by_the_sum() {
+    let (mut parted, mut records) = (HashSet::new(), HashSet::new());
+    for seed in 0..1500 {
+        walk(&history(seed), |ledger, call| {
+            if call.kind() == Kind::Grow && ledger.number(call) == 0 {
+                let of_split = split_records(ledger);
+                let moved = of_split.iter().filter(|record| record.0).count();
+                if moved > 0 && moved < of_split.len() {
+                    parted.insert(ledger.units());
+                }
+                records.extend(of_split.into_iter().map(|record| (ledger.units(), record)));
+            }
+        });
+    }
+    assert_eq!(parted, (1..16).collect());
+    assert_eq!(records.len(), 15 * 4);
+}
+
+/// Every unit comes to be full, and is taught different keys of one sum.
+#[test]
+fn histories_fill_every_unit() {
+    let (mut full, mut same_sum) = (HashSet::new(), HashSet::new());
+    for seed in 0..1500 {
+        walk(&history(seed), |ledger, call| {
+            let Call::Teach { key, .. } = call else { return };
+            let unit = ledger.unit_of(*key);
+            let others = &ledger.lists[unit];
+            match ledger.number(call) {
+                0 if others.iter().any(|other| digit_sum(other.key) == digit_sum(*key)) => {
+                    same_sum.insert(unit);
+                }
+                7 => {
+                    full.insert(unit);
+                }
+                _ => {}
+            }
+        });
+    }
+    assert_eq!(full, (0..16).collect());
+    assert_eq!(same_sum, (0..16).collect());
 }
 
 #[test]
@@ -143,4 +239,34 @@ fn each_clause_alone() {
         }
     }
     assert_eq!(alone, store::clause_names().collect());
+}
+
+/// Whether each key that a unit in service holds lies there by the key itself.
+fn lie_by_themselves(view: View) -> bool {
+    let lies = |unit, key| key == 0 || unit_of_number(view.units(), key as usize) == unit;
+    (0..view.units()).all(|unit| (0..view.b).all(|rank| lies(unit, view.key(unit, rank))))
+}
+
+/// Some damaged stores have all keys where the keys themselves put them and not where their sums do,
+/// some where the sums do and not the keys, some neither. Some say version 2 and are sound but for
+/// that, some say it and have all keys where the keys themselves put them.
+#[test]
+fn damaged_stores_tell_sums_from_keys() {
+    let mut met = HashSet::new();
+    for index in 0..3000 {
+        let (mut bytes, _) = damaged(index, |_, _, _| {});
+        let Some(version @ (2 | VERSION)) = bytes.first().copied() else { continue };
+        bytes[0] = VERSION;
+        let Some(broken) = store::broken_clauses(&bytes) else { continue };
+        let by_sums = broken.is_empty();
+        if by_sums || broken == ["keys in their own unit"] {
+            met.insert((version, by_sums, lie_by_themselves(View::new(&bytes).unwrap())));
+        }
+    }
+    for (by_sums, by_themselves) in [(false, true), (true, false), (false, false)] {
+        assert!(met.contains(&(VERSION, by_sums, by_themselves)), "{by_sums}, {by_themselves}");
+    }
+    for (by_sums, by_themselves) in [(true, false), (false, true)] {
+        assert!(met.contains(&(2, by_sums, by_themselves)), "{by_sums}, {by_themselves}");
+    }
 }

@@ -1,4 +1,4 @@
-//! The commissioning values of document 01.
+//! The commissioning values of document 01, values 7 and 8 with digit sums (document 02, request 2).
 
 use reference::ledger;
 use reference::store::layout::{check_at, unit_of};
@@ -90,7 +90,7 @@ fn value_6_changed_parity() {
 fn values_7_and_8_units_of_keys() {
     for unit_of in [unit_of, ledger::unit_of] {
         assert_eq!([8, 4, 5].map(|key| unit_of(5, key)), [0, 4, 1]);
-        assert_eq!([16, u32::MAX].map(|key| unit_of(16, key)), [0, 15]);
+        assert_eq!([16, u32::MAX].map(|key| unit_of(16, key)), [1, 8]);
     }
 }
 

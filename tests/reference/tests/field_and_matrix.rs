@@ -43,12 +43,14 @@ fn rebuilding_refuses() {
 
 #[test]
 fn keys_have_one_unit() {
-    let some = (0..2000).chain(u32::MAX - 100..=u32::MAX);
+    let of_any_digits = (1..2000).map(|i: u32| i.wrapping_mul(0x9E37_79B9));
+    let some = (0..2000).chain(u32::MAX - 100..=u32::MAX).chain(of_any_digits);
     for key in some {
+        assert_eq!(layout::digit_sum(key), ledger::digit_sum(key), "key {key:08X}");
         for units in 1..=16 {
             let unit = ledger::unit_of(units, key);
             assert!(unit < units);
-            assert_eq!(layout::unit_of(units, key), unit, "key {key} under {units} units");
+            assert_eq!(layout::unit_of(units, key), unit, "key {key:08X} under {units} units");
         }
     }
     for units in 1..16 {

@@ -7,21 +7,31 @@ use reference::store::{grow, lay_out, perform, raise, read, repair, sound, teach
 
 const SLOTS: u32 = 3;
 
-/// A store of so many units at a level, with up to three records in each unit. It grows at level 1
+/// A store of so many units at a level, with two or three records in each unit. It grows at level 1
 /// and is raised afterwards.
 fn store(units: usize, level: usize) -> Vec<u8> {
     let mut bytes = vec![0; 36 + 704 * SLOTS as usize];
     assert_eq!(lay_out(&mut bytes, SLOTS), 0);
     (1..units).for_each(|_| assert_eq!(grow(&mut bytes), 0));
-    for key in 1..=2 * units as u32 {
+    for key in keys(units) {
         assert_eq!(teach(&mut bytes, key, &body(key)), 0);
     }
     (1..level).for_each(|_| assert_eq!(raise(&mut bytes), 0));
     bytes
 }
 
+/// The keys of that store, by digit sums: of each unit its number, or 1F of unit 0, and the same with
+/// one or two zeros behind it.
+fn keys(units: usize) -> Vec<u32> {
+    let of_unit = |unit: usize| {
+        let first = if unit == 0 { 0x1F } else { unit as u32 };
+        [first, first << 4, first << 8].into_iter().take(2 + unit % 2)
+    };
+    (0..units).flat_map(of_unit).collect()
+}
+
 fn body(key: u32) -> [u8; 16] {
-    std::array::from_fn(|i| (key as usize * 29 * (i + 1)) as u8)
+    std::array::from_fn(|i| (key as usize % 251 * 29 * (i + 1)) as u8)
 }
 
 fn view(bytes: &[u8]) -> View<'_> {
@@ -68,7 +78,7 @@ fn the_new_check_unit_rebuilds() {
                 for unit in data.chain(checks) {
                     assert_eq!(unit_out(&mut bytes, unit as u32), 0);
                 }
-                for key in 1..=2 * units as u32 {
+                for key in keys(units) {
                     let mut out = [0; 16];
                     assert_eq!(read(&bytes, key, &mut out), 0);
                     assert_eq!(out, body(key));
@@ -88,7 +98,7 @@ fn it_does_not_matter_when_the_level_is_raised() {
         assert_eq!(lay_out(&mut early, SLOTS), 0);
         assert_eq!([raise(&mut early), raise(&mut early)], [0, 0]);
         (1..units).for_each(|_| assert_eq!(grow(&mut early), 0));
-        for key in 1..=2 * units as u32 {
+        for key in keys(units) {
             assert_eq!(teach(&mut early, key, &body(key)), 0);
         }
         assert!(early == store(units, 3), "{units} units");
@@ -178,16 +188,16 @@ fn assert_not_sound(bytes: &[u8], what: &str) {
 }
 
 #[test]
-fn only_version_2_is_sound() {
+fn only_version_3_is_sound() {
     let bytes = store(6, 2);
-    assert_eq!(bytes[0], 2);
-    for version in (0..=255).filter(|&version| version != 2) {
+    assert_eq!(bytes[0], 3);
+    for version in (0..=255).filter(|&version| version != 3) {
         let mut other = bytes.clone();
         other[0] = version;
         assert_not_sound(&other, &format!("version {version}"));
     }
     let mut old = bytes;
-    old[0] = 1;
+    old[0] = 2;
     assert_eq!(perform(&mut old, &Call::Out { unit: 28 }).number(), Some(2));
     assert_eq!(lay_out(&mut old, SLOTS), 0);
     assert!(sound(&old));

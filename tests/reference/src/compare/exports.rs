@@ -2,6 +2,7 @@
 //! the C programs can be tried on it.
 
 use super::faults::{seeded, spoil};
+use super::misplaced::read_misses;
 use crate::call::Kind;
 use crate::store::{self, matrix};
 use std::slice;
@@ -64,6 +65,9 @@ unsafe extern "C" fn lhrs_read(
     out_len: usize,
 ) -> u8 {
     let out = lent_mut(out, out_len);
+    if seeded("read-by-the-key-itself") && read_misses(lent(store, len), key) {
+        return 6;
+    }
     spoil(Kind::Read, lent_mut(store, len), |store| store::read(store, key, out))
 }
 

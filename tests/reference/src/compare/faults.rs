@@ -1,5 +1,9 @@
 //! Faults that the comparison has to catch, chosen by the environment variable LHRS_FAULT.
 
+use super::misplaced::{
+    decimal_digits, digits_as_symbols, grow_by_the_key, key_itself, placed_by_the_key_accepted,
+    seven_digits, teach_by, teach_compares_sums,
+};
 use crate::call::Kind;
 use crate::store;
 use crate::store::layout::{check_at, length, state_at, unit_range, View};
@@ -11,7 +15,7 @@ use std::sync::OnceLock;
 /// after it and the number, and returns the number to hand back.
 type Fault = (&'static str, Kind, fn(&[u8], &mut [u8], u8) -> u8);
 
-const FAULTS: [Fault; 18] = [
+const FAULTS: [Fault; 25] = [
     ("teach-does-nothing", Kind::Teach, |before, after, number| {
         after.copy_from_slice(before);
         number
@@ -86,12 +90,28 @@ const FAULTS: [Fault; 18] = [
         }
         number
     }),
-    ("version-1-accepted", Kind::Grow, version_1_accepted),
+    ("version-2-accepted", Kind::Grow, version_2_accepted),
     ("fewer-check-units-accepted", Kind::Repair, fewer_check_units_accepted),
+    ("teach-by-the-key-itself", Kind::Teach, |before, after, number| {
+        teach_by(key_itself, before, after, number)
+    }),
+    ("teach-by-seven-digits", Kind::Teach, |before, after, number| {
+        teach_by(seven_digits, before, after, number)
+    }),
+    ("teach-by-decimal-digits", Kind::Teach, |before, after, number| {
+        teach_by(decimal_digits, before, after, number)
+    }),
+    ("teach-adds-digits-as-symbols", Kind::Teach, |before, after, number| {
+        teach_by(digits_as_symbols, before, after, number)
+    }),
+    ("teach-compares-sums", Kind::Teach, teach_compares_sums),
+    ("grow-deals-by-the-key-itself", Kind::Grow, grow_by_the_key),
+    ("keys-placed-by-themselves-accepted", Kind::Repair, placed_by_the_key_accepted),
 ];
 
-/// Faults of what is handed back beside a number, which `exports` asks for by name.
-const SEEDED: [&str; 7] = [
+/// Faults by an argument, or of what is handed back beside a number: `exports` asks for them by name.
+const SEEDED: [&str; 8] = [
+    "read-by-the-key-itself",
     "list-invents-its-count",
     "list-leaves-the-count-when-refused",
     "list-writes-behind",
@@ -186,14 +206,14 @@ fn raise_makes_all_check_units_anew(before: &[u8], after: &mut [u8], number: u8)
     number
 }
 
-/// Grows a store of version 1 that would be sound by its other bytes.
-fn version_1_accepted(before: &[u8], after: &mut [u8], number: u8) -> u8 {
-    if number != 1 || before.first() != Some(&1) {
+/// Grows a store of version 2 that would be sound by its other bytes.
+fn version_2_accepted(before: &[u8], after: &mut [u8], number: u8) -> u8 {
+    if number != 1 || before.first() != Some(&2) {
         return number;
     }
     after[0] = VERSION;
     let number = store::grow(after);
-    after[0] = 1;
+    after[0] = 2;
     number
 }
 

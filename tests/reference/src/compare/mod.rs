@@ -11,6 +11,8 @@ mod exports;
 mod faults;
 #[cfg(feature = "subject")]
 mod minimal;
+#[cfg(feature = "self")]
+mod misplaced;
 #[cfg(feature = "subject")]
 mod returned;
 #[cfg(feature = "subject")]

@@ -1,7 +1,7 @@
 //! Arguments of calls: mostly fitting ones, and every kind that is refused.
 
 use crate::call::{Call, Kind};
-use crate::ledger::Ledger;
+use crate::ledger::{digit_sum, Ledger};
 use crate::random::Random;
 
 /// Numbers that are too large for a unit or a group, some of them small modulo 256.
@@ -14,13 +14,17 @@ pub struct Arguments {
 }
 
 impl Arguments {
-    /// A pool of about `size` keys: small numbers, keys of one unit, or any.
+    /// A pool of `size` keys: small numbers, numbers in sixteens, keys of one unit with few digits or
+    /// with any, or any keys.
     pub fn new(mut random: Random, size: usize) -> Arguments {
-        let last = random.next_u64() as u32 % 16;
-        let pool = match random.below(4) {
-            0 | 1 => (1..=size as u32).collect(),
-            2 => (1..=size as u32).map(|i| 16 * i + last).collect(),
-            _ => (0..size).map(|_| 1 + random.next_u64() as u32 % u32::MAX).collect(),
+        let sum = random.below(16);
+        let small = 1..=size as u32;
+        let pool = match random.below(8) {
+            0..=2 => small.collect(),
+            3 => small.map(|i| 16 * i).collect(),
+            4 => small.map(|i| key_of_sum(sum, i)).collect(),
+            5 => small.map(|_| key_of_sum(sum, any_up_to(&mut random, u32::MAX / 16))).collect(),
+            _ => small.map(|_| any_up_to(&mut random, u32::MAX)).collect(),
         };
         Arguments { random, pool }
     }
@@ -49,6 +53,7 @@ impl Arguments {
             0 => 0,
             1 => self.random.next_u64() as u32,
             2 | 3 => self.present_key(ledger),
+            4 => self.same_digits(ledger),
             _ => self.random.pick(&self.pool),
         }
     }
@@ -60,8 +65,15 @@ impl Arguments {
             1 => u32::MAX,
             2 => self.random.next_u64() as u32,
             3..=8 => self.random.pick(&self.pool),
+            9 => self.same_digits(ledger),
             _ => self.present_key(ledger),
         }
+    }
+
+    /// The digits of a present key in another order: mostly another key of the same unit.
+    fn same_digits(&mut self, ledger: &Ledger) -> u32 {
+        let digits = 1 + self.random.below(7) as u32;
+        self.present_key(ledger).rotate_left(4 * digits)
     }
 
     fn present_key(&mut self, ledger: &Ledger) -> u32 {
@@ -117,4 +129,16 @@ impl Arguments {
             _ => self.random.below(ledger.units().div_ceil(4)) as u32,
         }
     }
+}
+
+/// Any number from 1 to `most`.
+fn any_up_to(random: &mut Random, most: u32) -> u32 {
+    1 + random.next_u64() as u32 % most
+}
+
+/// The key whose digits but the last are those of `front`, and whose digit sum is `sum` modulo 16.
+/// Keys of one such sum lie in one unit, whatever the number of units.
+fn key_of_sum(sum: usize, front: u32) -> u32 {
+    let last = (sum + 8 * 16 - digit_sum(front)) % 16;
+    16 * front + last as u32
 }

@@ -3,13 +3,16 @@
 use crate::compare::case::Step;
 use crate::random::Random;
 use crate::store::layout::{
-    check_at, length, slot_at, state_at, unit_range, View, CHECK_RECORD, IN_SERVICE, OUT,
+    check_at, length, slot_at, state_at, unit_of_number, unit_range, View, CHECK_RECORD,
+    IN_SERVICE, OUT, VERSION,
 };
+use crate::store::recover::records;
+use crate::store::write::{make_check, set_unit, Record};
 
 /// Some damage to a sound store.
 pub fn damage(random: &mut Random, bytes: &[u8]) -> Vec<Step> {
     let view = View::new(bytes).expect("a sound store");
-    match random.below(18) {
+    match random.below(20) {
         0 | 1 => header(random, view),
         2 => vec![state(random)],
         3 => vec![units(random, view)],
@@ -18,12 +21,13 @@ pub fn damage(random: &mut Random, bytes: &[u8]) -> Vec<Step> {
         6 => vec![slice(random, view)],
         7 => vec![data_key(random, view)],
         8 => vec![listed_key(random, view)],
-        9..=11 => key_everywhere(random, view),
-        12 => vec![empty_slot(random, view)],
-        13 => vec![wrong_body(random, view)],
-        14 => wrong_parity(random, bytes),
-        15 => vec![other_version(random)],
-        16 => check_units(random, view),
+        9..=12 => key_everywhere(random, view),
+        13 => vec![empty_slot(random, view)],
+        14 => vec![wrong_body(random, view)],
+        15 => wrong_parity(random, bytes),
+        16 => vec![other_version(random)],
+        17 => version_before(random, view),
+        18 => check_units(random, view),
         _ => vec![anywhere(random, view)],
     }
 }
@@ -45,7 +49,25 @@ fn header(random: &mut Random, view: View) -> Vec<Step> {
 
 /// Another version, mostly that of the stores before.
 fn other_version(random: &mut Random) -> Step {
-    write(0, vec![random.pick(&[1, 1, 1, 0, 3])])
+    write(0, vec![random.pick(&[2, 2, 2, 2, 1, 0, 4])])
+}
+
+/// The records of the units in service lie as they did in the version before, by the keys themselves,
+/// as far as they fit; the store says that version or the present one.
+fn version_before(random: &mut Random, view: View) -> Vec<Step> {
+    let mut bytes = view.bytes.to_vec();
+    let serving: Vec<usize> =
+        (0..view.units()).filter(|&unit| view.state(unit) == IN_SERVICE).collect();
+    let taught: Vec<Record> = serving.iter().flat_map(|&unit| records(view, unit)).collect();
+    for unit in serving {
+        let lies_here = |record: &&Record| unit_of_number(view.units(), record.0 as usize) == unit;
+        let here: Vec<Record> = taught.iter().filter(lies_here).take(view.b).copied().collect();
+        set_unit(&mut bytes, unit, &here);
+    }
+    let checks = (0..4).flat_map(|group| view.checks_in(group, IN_SERVICE));
+    checks.for_each(|check| make_check(&mut bytes, check));
+    bytes[0] = random.pick(&[2, VERSION]);
+    vec![write(0, bytes)]
 }
 
 /// A group in place has one check unit less than the level, or one more, which is there whole: it is
@@ -125,8 +147,7 @@ fn key_everywhere(random: &mut Random, view: View) -> Vec<Step> {
     let unit = 4 * group + place;
     let keys = view.keys(unit).unwrap_or_else(|| vec![0; view.b]);
     let rank = random.below(view.b);
-    let keys = [0, keys[0], keys[rank].wrapping_add(1), keys[rank] ^ 16, random.next_u64() as u32];
-    let key = random.pick(&keys).to_be_bytes().to_vec();
+    let key = other_key(random, unit, keys[0], keys[rank]).to_be_bytes().to_vec();
     let mut steps = Vec::new();
     if view.state(unit) == IN_SERVICE {
         steps.push(write(slot_at(view.b, unit, rank), key.clone()));
@@ -138,6 +159,15 @@ fn key_everywhere(random: &mut Random, view: View) -> Vec<Step> {
         steps.push(write(check_at(view.b, check, rank) + 4 * place, key.clone()));
     }
     steps
+}
+
+/// A key in place of `key`: none, the unit's first, a near one, one that lies in the unit by itself
+/// and not, but for chance, by its digit sum, one that has the same digits, or any.
+fn other_key(random: &mut Random, unit: usize, first: u32, key: u32) -> u32 {
+    let any = random.next_u64() as u32;
+    let by_itself = any / 16 * 16 + unit as u32;
+    let keys = [0, first, key.wrapping_add(1), key ^ 16, by_itself, key.rotate_left(4), any];
+    random.pick(&keys)
 }
 
 /// A byte in a slot or a unit that ought to be zero, or in a record's body.

@@ -26,6 +26,12 @@ pub struct Ledger {
     pub out: [bool; 28],
 }
 
+/// The sum of a key's eight hexadecimal digits: the digit at place i is how often 16 to the power i
+/// goes into the key, modulo 16.
+pub fn digit_sum(key: u32) -> usize {
+    (0..8).map(|place| key as usize / 16usize.pow(place) % 16).sum()
+}
+
 /// The data unit of a key where `units` data units are in place.
 pub fn unit_of(units: usize, key: u32) -> usize {
     let mut j = 0;
@@ -33,10 +39,10 @@ pub fn unit_of(units: usize, key: u32) -> usize {
         j += 1;
     }
     let n = units - (1 << j);
-    let key = key as usize;
-    let unit = key % (1 << j);
+    let sum = digit_sum(key);
+    let unit = sum % (1 << j);
     if unit < n {
-        key % (1 << (j + 1))
+        sum % (1 << (j + 1))
     } else {
         unit
     }

@@ -6,7 +6,7 @@ use super::Ledger;
 impl Ledger {
     /// The bytes of the store, of its length, put together from the front.
     pub fn picture(&self) -> Vec<u8> {
-        let mut bytes = vec![2];
+        let mut bytes = vec![3];
         bytes.extend((36 + 704 * self.b as u32).to_be_bytes());
         bytes.extend([self.b as u8, self.units() as u8, self.level as u8]);
         bytes.extend((0..16).map(|unit| self.state(unit, unit < self.units())));

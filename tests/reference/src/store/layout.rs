@@ -1,6 +1,6 @@
 //! "Bytes of a store": where its parts lie, and reading them. Ranks count from 0 here.
 
-pub const VERSION: u8 = 2;
+pub const VERSION: u8 = 3;
 pub const HEADER: usize = 36;
 pub const SLOT: usize = 20;
 pub const CHECK_RECORD: usize = 32;
@@ -148,11 +148,22 @@ impl<'a> View<'a> {
     }
 }
 
-/// The data unit of a key under M units: the remainder by the larger power of two, or by the
-/// smaller one where there is no such unit yet.
+/// The sum of a key's eight hexadecimal digits, read from its text.
+pub fn digit_sum(key: u32) -> usize {
+    let text = format!("{key:08X}");
+    text.chars().map(|digit| digit.to_digit(16).expect("a digit") as usize).sum()
+}
+
+/// The data unit of a key under M units: that of its digit sum.
 pub fn unit_of(units: usize, key: u32) -> usize {
+    unit_of_number(units, digit_sum(key))
+}
+
+/// The data unit that a number comes to under M units: the remainder by the larger power of two, or
+/// by the smaller one where there is no such unit yet.
+pub fn unit_of_number(units: usize, number: usize) -> usize {
     let power = largest_power(units);
-    let unit = key as usize % (2 * power);
+    let unit = number % (2 * power);
     if unit < units {
         unit
     } else {

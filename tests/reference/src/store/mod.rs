@@ -4,10 +4,10 @@ pub mod field;
 pub mod layout;
 pub mod matrix;
 mod records;
-mod recover;
+pub(crate) mod recover;
 mod sound;
 mod units;
-mod write;
+pub(crate) mod write;
 
 use crate::call::{Answer, Call};
 pub use records::{correct, erase, list, read, read_in_place, teach};
