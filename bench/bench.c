@@ -151,7 +151,15 @@ static void set_key(struct hall *hall, uint32_t unit, uint32_t rank, const uint8
             memcpy(listed_key(hall, unit, rank, j), key, 4);
 }
 
-/* Keys that are there twice, of another unit, missing, or behind an empty slot. */
+/* Another key with the same digits, which is of the same unit. */
+static void turn_key(uint8_t key[4])
+{
+    uint8_t first = key[0];
+    key[0] = key[3];
+    key[3] = first;
+}
+
+/* Keys that are there twice, of another unit, new, missing, or behind an empty slot. */
 static void damage_keys(const struct hall *hall)
 {
     static struct hall damaged;
@@ -166,8 +174,8 @@ static void damage_keys(const struct hall *hall)
                 key[3] ^= 1;
                 set_key(&damaged, unit, rank, key);
                 same_verdict(&damaged);
-                key[1] ^= 1;
                 key[3] ^= 1;
+                turn_key(key);
                 set_key(&damaged, unit, rank, key);
                 same_verdict(&damaged);
             }

@@ -4,7 +4,7 @@
  */
 #include "plain.h"
 
-#define VERSION 2u
+#define VERSION 3u
 #define UNITS 16u
 #define GROUPS 4u
 #define CHECKS 3u /* check units of a group */
@@ -103,12 +103,21 @@ static uint32_t fill_of(const uint8_t *store, uint32_t unit)
     return rank;
 }
 
+/* The sum of a key's hexadecimal digits. */
+static uint32_t digit_sum(uint32_t key)
+{
+    uint32_t sum = 0;
+    for (; key != 0; key /= 16)
+        sum += key % 16;
+    return sum;
+}
+
 uint32_t plain_unit(uint32_t units, uint32_t key)
 {
-    uint32_t power = 1;
+    uint32_t sum = digit_sum(key), power = 1;
     while (2 * power <= units)
         power *= 2;
-    return key % (2 * power) < units ? key % (2 * power) : key % power;
+    return sum % (2 * power) < units ? sum % (2 * power) : sum % power;
 }
 
 /* Units out or not in place, and slots without a record, are zero. */

@@ -1,4 +1,4 @@
-/* What bench/plain.c has: a soundness test, and linear hashing. */
+/* What bench/plain.c has: a soundness test, and linear hashing of a key's digit sum. */
 #ifndef PLAIN_H
 #define PLAIN_H
 

@@ -1,14 +1,14 @@
 /*
  * The soundness test written for speed, in portable C99; compiled with -O3. Differences are or-ed and
- * tested once: keys against their own unit by masks, lists and zeros in words of 64 bits. Ranks that
- * all four units of a group have are tested together. A key that is there twice is found by a table
+ * tested once: keys against their own unit by masks of their digit sums, two sums at a time, lists and
+ * zeros in words of 64 bits. Ranks that all four units of a group have are tested together. A key that is there twice is found by a table
  * of stamps, with an exact look back where a stamp is met. The bench runs it beside the library's.
  */
 #include "tuned.h"
 
 #include <string.h>
 
-#define VERSION 2u
+#define VERSION 3u
 #define UNITS 16u
 #define GROUPS 4u
 #define PLACES 4u /* data units of a group */
@@ -49,17 +49,26 @@ static uint64_t load64(const uint8_t *at)
     return x;
 }
 
-/* Two keys below 256 as they lie in memory, one behind the other. */
-static uint64_t key_pair(uint32_t first, uint32_t second)
+/* A number whose high byte is the digit sum of a key: the two digits of each byte are added, and the
+   product adds the four bytes there. The order of the bytes does not matter. */
+static uint32_t spread(uint32_t key)
 {
-    static const uint8_t one[8] = {0, 0, 0, 1, 0, 0, 0, 0}, other[8] = {0, 0, 0, 0, 0, 0, 0, 1};
-    return load64(one) * first + load64(other) * second;
+    return ((key & 0x0f0f0f0fu) + (key >> 4 & 0x0f0f0f0fu)) * 0x01010101u;
 }
 
-static uint32_t small_key(uint32_t key)
+/* The same of two keys, one in each half. No byte of the product goes above 120. */
+static uint64_t spread_pair(uint64_t keys)
 {
-    static const uint8_t one[4] = {0, 0, 0, 1};
-    return load32(one) * key;
+    const uint64_t low = 0x0f0f0f0f0f0f0f0fu;
+    return ((keys & low) + (keys >> 4 & low)) * 0x01010101u;
+}
+
+/* Two numbers below 128 where two keys that lie one behind the other have their digit sums. */
+static uint64_t sum_pair(uint64_t first, uint64_t second)
+{
+    static const uint8_t front[8] = {255, 255, 255, 255, 0, 0, 0, 0};
+    const uint64_t both = 0x0100000001000000u, half = load64(front);
+    return (first * both & half) | (second * both & ~half);
 }
 
 /* Whether n bytes are zero; n is a multiple of 4. */
@@ -139,7 +148,7 @@ static inline int is_new(uint8_t *stamps, uint32_t unit, uint32_t key, const uin
     return 1;
 }
 
-/* The low bits of a key that tell whether it belongs to a unit: one bit more where the unit was split
+/* The low bits of a digit sum that tell whether a key belongs to a unit: one bit more where the unit was split
    or made by a split. */
 static uint32_t mask_of(const struct group *group, uint32_t unit)
 {
@@ -154,7 +163,7 @@ static uint32_t common_ranks(const struct group *group, uint8_t *stamps)
     const uint8_t *list = group->list, *data = group->data;
     size_t size = group->size;
     uint32_t slots = group->slots, unit = group->first, differ = 0, rank;
-    uint64_t own = key_pair(unit, unit + 1), next_own = key_pair(unit + 2, unit + 3);
+    uint64_t own = sum_pair(unit, unit + 1), next_own = sum_pair(unit + 2, unit + 3);
     uint64_t other = 0, next_other = 0;
     for (rank = 0; rank < slots; rank++) {
         const uint8_t *keys = list + CHECK_RECORD * rank, *slot = data + SLOT * rank;
@@ -164,16 +173,16 @@ static uint32_t common_ranks(const struct group *group, uint8_t *stamps)
             break;
         differ |= (a ^ load32(slot)) | (b ^ load32(slot + size)) | (c ^ load32(slot + 2 * size))
                   | (d ^ load32(slot + 3 * size));
-        other |= load64(keys) ^ own;
-        next_other |= load64(keys + 8) ^ next_own;
+        other |= spread_pair(load64(keys)) ^ own;
+        next_other |= spread_pair(load64(keys + 8)) ^ next_own;
         if (!is_new(stamps, unit, a, list, CHECK_RECORD, rank)
             || !is_new(stamps, unit + 1, b, list + 4, CHECK_RECORD, rank)
             || !is_new(stamps, unit + 2, c, list + 8, CHECK_RECORD, rank)
             || !is_new(stamps, unit + 3, d, list + 12, CHECK_RECORD, rank))
             return FAILED;
     }
-    other &= key_pair(mask_of(group, unit), mask_of(group, unit + 1));
-    next_other &= key_pair(mask_of(group, unit + 2), mask_of(group, unit + 3));
+    other &= sum_pair(mask_of(group, unit), mask_of(group, unit + 1));
+    next_other &= sum_pair(mask_of(group, unit + 2), mask_of(group, unit + 3));
     return (other | next_other | differ) != 0 ? FAILED : rank;
 }
 
@@ -182,16 +191,16 @@ static uint32_t common_ranks(const struct group *group, uint8_t *stamps)
 static uint32_t count_keys(const struct group *group, uint32_t unit, const uint8_t *keys,
                            size_t step, uint32_t rank, uint8_t *stamps)
 {
-    uint32_t own = small_key(unit), other = 0;
+    uint32_t own = unit << 24, other = 0;
     for (; rank < group->slots; rank++) {
         uint32_t key = load32(keys + step * rank);
         if (key == 0)
             break;
-        other |= key ^ own;
+        other |= spread(key) ^ own;
         if (!is_new(stamps, unit, key, keys, step, rank))
             return FAILED;
     }
-    return (other & small_key(mask_of(group, unit))) != 0 ? FAILED : rank;
+    return (other & mask_of(group, unit) << 24) != 0 ? FAILED : rank;
 }
 
 /* The keys of a group's units are dense, different and in their own unit, the list has the same, and

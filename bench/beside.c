@@ -1,0 +1,136 @@
+/*
+ * Times the soundness test of two builds of the library in one run, in turn: this one's, and an
+ * earlier one's, whose names begin with earlier_ in place of lhrs_. Each has a store of its own, laid
+ * out and filled by its own calls, so that it may be of another version. Prints a line for each size
+ * of store: b, M, K, the nanoseconds of the earlier test and of this one. Build and run it with
+ * bench/beside.
+ */
+#define _POSIX_C_SOURCE 199309L
+#include "lhrs.h"
+
+#include <stdio.h>
+#include <stdlib.h>
+#include <string.h>
+#include <time.h>
+
+#define MAX_SLOTS 64u
+#define MAX_UNITS 16u
+#define HEADER 36u
+#define ROUNDS 60
+#define BATCH_NANOSECONDS 1000000.0
+
+uint8_t earlier_lay_out(uint8_t *store, size_t len, uint32_t slots);
+uint8_t earlier_raise(uint8_t *store, size_t len);
+uint8_t earlier_grow(uint8_t *store, size_t len);
+uint8_t earlier_teach(uint8_t *store, size_t len, uint32_t key, const uint8_t *body, size_t size);
+uint8_t earlier_erase(uint8_t *store, size_t len, uint32_t key);
+uint8_t earlier_read(const uint8_t *store, size_t len, uint32_t key, uint8_t *out, size_t size);
+
+/* The calls of one build, and a store of its own. */
+struct build {
+    uint8_t (*lay_out)(uint8_t *, size_t, uint32_t);
+    uint8_t (*raise)(uint8_t *, size_t);
+    uint8_t (*grow)(uint8_t *, size_t);
+    uint8_t (*teach)(uint8_t *, size_t, uint32_t, const uint8_t *, size_t);
+    uint8_t (*erase)(uint8_t *, size_t, uint32_t);
+    uint8_t (*read)(const uint8_t *, size_t, uint32_t, uint8_t *, size_t);
+    size_t length;
+    uint32_t absent; /* a key that is not taught */
+    uint8_t bytes[LHRS_LENGTH(MAX_SLOTS)];
+};
+
+static struct build earlier = {earlier_lay_out, earlier_raise, earlier_grow, earlier_teach,
+                               earlier_erase,   earlier_read,  0,            0,
+                               {0}};
+static struct build now = {lhrs_lay_out, lhrs_raise, lhrs_grow, lhrs_teach,
+                           lhrs_erase,   lhrs_read,  0,         0,
+                           {0}};
+
+static void require(uint8_t number, uint8_t expected, const char *what)
+{
+    if (number != expected) {
+        fprintf(stderr, "%s returned %u, expected %u\n", what, (unsigned)number,
+                (unsigned)expected);
+        exit(EXIT_FAILURE);
+    }
+}
+
+/* The data unit that has a key, by its bytes: so no rule of where a key lies is taken for granted. */
+static uint32_t holder(const struct build *build, uint32_t slots, uint32_t key)
+{
+    uint8_t bytes[4] = {(uint8_t)(key >> 24), (uint8_t)(key >> 16), (uint8_t)(key >> 8),
+                        (uint8_t)key};
+    for (uint32_t slot = 0; slot < MAX_UNITS * slots; slot++)
+        if (memcmp(build->bytes + HEADER + LHRS_RECORD * slot, bytes, sizeof bytes) == 0)
+            return slot / slots;
+    return MAX_UNITS;
+}
+
+/* A store of so many units and check units, each data unit three quarters full. */
+static void fill(struct build *build, uint32_t slots, uint32_t units, uint32_t level)
+{
+    const uint8_t body[LHRS_BODY] = {0};
+    uint32_t counts[MAX_UNITS + 1] = {0}, records = slots * 3 / 4, left = records * units, key;
+    build->length = LHRS_LENGTH(slots);
+    require(build->lay_out(build->bytes, build->length, slots), 0, "lay out");
+    for (uint32_t k = 1; k < level; k++)
+        require(build->raise(build->bytes, build->length), 0, "raise");
+    for (uint32_t m = 1; m < units; m++)
+        require(build->grow(build->bytes, build->length), 0, "grow");
+    for (key = 1; left > 0; key++) {
+        require(build->teach(build->bytes, build->length, key, body, sizeof body), 0, "teach");
+        uint32_t unit = holder(build, slots, key);
+        if (counts[unit] == records) {
+            require(build->erase(build->bytes, build->length, key), 0, "erase");
+            continue;
+        }
+        counts[unit]++;
+        left--;
+    }
+    build->absent = key;
+}
+
+/* Nanoseconds of one test, over so many: each is a read of a key that is not there. */
+static double batch(const struct build *build, unsigned long runs)
+{
+    uint8_t out[LHRS_BODY];
+    struct timespec start, end;
+    clock_gettime(CLOCK_MONOTONIC, &start);
+    for (unsigned long i = 0; i < runs; i++)
+        require(build->read(build->bytes, build->length, build->absent, out, sizeof out), 6,
+                "read");
+    clock_gettime(CLOCK_MONOTONIC, &end);
+    double nanoseconds = 1e9 * (double)(end.tv_sec - start.tv_sec);
+    nanoseconds += (double)(end.tv_nsec - start.tv_nsec);
+    return nanoseconds / (double)runs;
+}
+
+static double less(double a, double b)
+{
+    return a < b ? a : b;
+}
+
+static void print_row(uint32_t slots, uint32_t units, uint32_t level)
+{
+    unsigned long runs = 1;
+    fill(&earlier, slots, units, level);
+    fill(&now, slots, units, level);
+    while (batch(&earlier, runs) * (double)runs < BATCH_NANOSECONDS)
+        runs *= 2;
+    double before = batch(&earlier, runs), after = batch(&now, runs);
+    for (int round = 1; round < ROUNDS; round++) {
+        before = less(before, batch(&earlier, runs));
+        after = less(after, batch(&now, runs));
+    }
+    printf("%u %u %u %.1f %.1f\n", (unsigned)slots, (unsigned)units, (unsigned)level, before, after);
+}
+
+int main(void)
+{
+    static const uint32_t slots[] = {4, 64}, units[] = {1, 4, 16}, levels[] = {1, 3};
+    for (int s = 0; s < 2; s++)
+        for (int u = 0; u < 3; u++)
+            for (int l = 0; l < 2; l++)
+                print_row(slots[s], units[u], levels[l]);
+    return EXIT_SUCCESS;
+}
