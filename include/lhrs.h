@@ -19,10 +19,12 @@
  * convention) and needs memcpy and memset of a C library, nothing else.
  *
  * Records. A record is a key, 1 to 4,294,967,295, and a body of 16 bytes; any body will do, all
- * zeros too. Records are spread over 1 to 16 data units of b slots each. Each four data units form
- * a group (0-3, 4-7, 8-11, 12-15). The store has a level, 1 to 3: each group with a data unit in
- * place has that many check units, from which units that are lost are rebuilt. So a group survives
- * as many lost units, data and check units together, as the level says.
+ * zeros too. Records are spread over 1 to 16 data units of b slots each, by the sum of the eight
+ * hexadecimal digits of their keys: so keys numbered in sixteens (0x10, 0x20, 0x30) fall into
+ * different units. Each four data units form a group (0-3, 4-7, 8-11, 12-15). The store has a
+ * level, 1 to 3: each group with a data unit in place has that many check units, from which units
+ * that are lost are rebuilt. So a group survives as many lost units, data and check units together,
+ * as the level says.
  *
  * Numbers. Each call returns one of the numbers below. A call that returns another number than 0
  * changes no byte. Where several numbers apply, the first of 2, 1, 3, 9, 4, 8, 5, 6, 7 is given.
@@ -66,7 +68,7 @@ enum lhrs_number {
     /* The call was granted and has done what it says. */
     LHRS_GRANTED = 0,
     /* The block holds no sound store: it was never laid out, it is cut off, it is damaged, or its
-       first byte says another version than 2. Every call but lhrs_lay_out tests this. Parity bytes
+       first byte says another version than 3. Every call but lhrs_lay_out tests this. Parity bytes
        are not tested. */
     LHRS_NOT_SOUND = 1,
     /* An argument is outside its range: key 0, b not 1 to 64, a body or an output that is not 16

@@ -15,7 +15,7 @@ fn key(s: &[u8], base: usize, step: usize, r: usize) -> u32
 }
 
 // Four bytes as a number, low byte first: the compiler makes one load of it.
-fn half(s: &[u8], at: usize) -> u32
+fn word(s: &[u8], at: usize) -> u32
     requires { ⌜ at + 4 ≤ length (now s) ⌝ }
     ensures { λ r. ⌜ r ≡ le32 (now (s .entry)) at ⌝ }
 {
@@ -31,7 +31,7 @@ fn turned_key(s: &[u8], base: usize, step: usize, r: usize) -> u32
     requires { ⌜ base + step * r + 4 ≤ length (now s) ⌝ }
     ensures { λ k. ⌜ k ≡ turnedKeys (now (s .entry)) base step r ⌝ }
 {
-    half(s, base + step * r)
+    word(s, base + step * r)
 }
 
 // Whether a turned key is none of the first n of a list.
@@ -143,7 +143,7 @@ fn pair(s: &[u8], at: usize) -> u64
     requires { ⌜ at + 8 ≤ length (now s) ⌝ }
     ensures { λ r. ⌜ r ≡ le32 (now (s .entry)) at + le32 (now (s .entry)) (at + 4) * 4294967296 ⌝ }
 {
-    buffer::wide64(half(s, at)) + buffer::wide64(half(s, at + 4)) * 4294967296
+    buffer::wide64(word(s, at)) + buffer::wide64(word(s, at + 4)) * 4294967296
 }
 
 fn same_pair(s: &[u8], x: usize, y: usize) -> bool

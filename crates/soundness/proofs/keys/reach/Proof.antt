@@ -2,6 +2,7 @@
 -- needs behind it use it. Assumes nothing.
 use Prim.Native.Nat.{ℕ, _*_, _-_}
 use mathlib.Core.Bool.{false}
+use mathlib.Core.List.{List}
 use mathlib.Core.Logic.{⊎-elim}
 use mathlib.Core.Path.{_≡_, refl, sym, ap, ap₂, _∙_}
 use lib.Bits.{bitAnd}
@@ -37,19 +38,19 @@ keys c = turnedKeys (start c .args .s .now) (start c .args .base) (start c .args
 abbrev rank : tie.After-turned-key Inv-loop μ-loop → ℕ
 rank c = c .before .before .loop .r
 
-abbrev masks : tie.After-turned-key Inv-loop μ-loop → tie.After-at-sum Inv-loop μ-loop
-masks c = c .before .before .before .before .before
+abbrev masked : tie.After-turned-key Inv-loop μ-loop → tie.After-at-sum Inv-loop μ-loop
+masked c = c .before .before .before .before .before
 
 some : (c : tie.Else1 Inv-loop μ-loop) → eqb (keys (c .before) (rank (c .before))) 0 ≡ false
 some c = is-ne (c .before .turned-key .ensures) refl (c .if1 .left)
 
 own-test : (c : tie.After-spread Inv-loop μ-loop)
-    → eqb (bitAnd (c .spread .result) (masks (c .before .before) .at-sum .result)) (c .before .before .before .before .before .at-sum2 .result)
+    → eqb (bitAnd (c .spread .result) (masked (c .before .before) .at-sum .result)) (c .before .before .before .before .before .at-sum2 .result)
     ≡ eqb (unitOf (start (c .before .before) .args .m) (keys (c .before .before) (rank (c .before .before)))) (start (c .before .before) .args .u)
 own-test c =
     let read = c .before .before in
     let asked = start read .pre in
-    let mask = masks read in
+    let mask = masked read in
     ap₂ eqb (ap (bitAnd (c .spread .result)) (mask .at-sum .ensures ∙ ap (λ (w : ℕ). w * sumAt) (mask .before .mask-of .ensures)))
     (read .before .before .before .at-sum2 .ensures ∙ ap (λ (w : ℕ). w * sumAt) (read .before .before .before .before .wide32 .ensures .0))
     ∙ spread-tells _ _ _ _ (asked .1) (asked .2) (asked .3) (c .spread .ensures ∙ ap digitSum (read .turned-key .ensures))
@@ -57,13 +58,12 @@ own-test c =
 new-test : (c : tie.After-turned-key Inv-loop μ-loop) → isNew (rank c) (keys c) (c .turned-key .result) ≡ isNew (rank c) (keys c) (keys c (rank c))
 new-test c = ap (isNew (rank c) (keys c)) (c .turned-key .ensures)
 
--- what the loop finds of the turned keys holds of the keys
-whole : (c : tie.After-mask-of Inv-loop μ-loop)
-    → reached (c .before .before .args .b) (c .before .before .args .m) (c .before .before .args .u) (turnedKeys (c .before .before .args .s .now) (c .before .before .args .base) (c .before .before .args .step))
-    ≡ reached (c .before .before .args .b) (c .before .before .args .m) (c .before .before .args .u) (strided32 (c .before .before .args .s .now) (c .before .before .args .base) (c .before .before .args .step))
-whole c =
-    let given = c .before .before .args in
-    reached-turned (given .s .now) (λ i. omega (arith, c .before .shared-slice-known .given i)) (given .base) (given .step) (given .b) (given .m) (given .u)
+-- what the loop finds of the turned keys is so of the keys
+abbrev found : tie.Start Inv-loop μ-loop → (List ℕ → ℕ → ℕ → ℕ → ℕ) → ℕ
+found c list = reached (c .args .b) (c .args .m) (c .args .u) (list (c .args .s .now) (c .args .base) (c .args .step))
+
+turned : (c : tie.After-mask-of Inv-loop μ-loop) → found (c .before .before) turnedKeys ≡ found (c .before .before) strided32
+turned c = reached-turned _ (λ i. omega (arith, c .before .shared-slice-known .given i)) _ _ _ _ _
 
 -- ---- the needs
 loop-holds : tie.Need-loop-holds Inv-loop μ-loop
@@ -76,7 +76,7 @@ returns : tie.Need-returns Inv-loop μ-loop
 returns c =
     let turn = c .before .before in
     let inv = turn .before .loop .inv in
-    (reaching-stop inv (turn .loop-test .taken) (is-eq (c .before .turned-key .ensures) refl (c .if1 .taken)) ∙ whole (masks (c .before) .before), inv .sized)
+    (reaching-stop inv (turn .loop-test .taken) (is-eq (c .before .turned-key .ensures) refl (c .if1 .taken)) ∙ turned (masked (c .before) .before), inv .sized)
 
 returns-2 : tie.Need-returns-2 Inv-loop μ-loop
 returns-2 c =
@@ -84,7 +84,7 @@ returns-2 c =
     let read = passed .before in
     let inv = read .before .before .loop .inv in
     let other = not-own _ _ (keys read) (rank read) (sym (own-test (c .before)) ∙ ne-eqb _ _ (c .if2 .taken)) in
-    (reaching-fail inv (read .before .loop-test .taken) (some passed) other ∙ whole (masks read .before), inv .sized)
+    (reaching-fail inv (read .before .loop-test .taken) (some passed) other ∙ turned (masked read .before), inv .sized)
 
 is-new-requires : tie.Need-is-new-requires Inv-loop μ-loop
 is-new-requires c κs = within-fewer (start (c .before .before .before .before .before .before) .pre .0) (omega arith)
@@ -96,7 +96,7 @@ returns-3 c =
     let inv = read .before .before .loop .inv in
     let twice =
     not-new (start read .args .m) (start read .args .u) (keys read) (rank read) (is-no (c .before .is-new .ensures ∙ new-test read) (c .if4 .taken)) in
-    (reaching-fail inv (read .before .loop-test .taken) (some passed) twice ∙ whole (masks read .before), inv .sized)
+    (reaching-fail inv (read .before .loop-test .taken) (some passed) twice ∙ turned (masked read .before), inv .sized)
 
 loop-again : tie.Need-loop-again Inv-loop μ-loop
 loop-again c =
@@ -112,7 +112,7 @@ loop-again c =
 returns-4 : tie.Need-returns-4 Inv-loop μ-loop
 returns-4 c =
     let inv = c .before .loop .inv in
-    (reaching-full inv (c .loop-test .left) ∙ whole (c .before .before .before .before .before), inv .sized)
+    (reaching-full inv (c .loop-test .left) ∙ turned (c .before .before .before .before .before), inv .sized)
 
 pub reach-spec : {M : Type 1} → statement M
 reach-spec =
