@@ -1,6 +1,7 @@
 pub mod Choice
 pub mod Range
 pub mod Bytes
+pub mod ByteOrder
 pub mod Table
 pub mod Strided
 pub mod Loops
@@ -9,6 +10,7 @@ pub mod TestLaws
 pub mod RangeLaws
 pub mod SpliceLaws
 pub mod ByteLaws
+pub mod ByteOrderLaws
 pub mod TableLaws
 pub mod LoopTests
 pub mod LoopWrites

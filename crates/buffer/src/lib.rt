@@ -3,6 +3,7 @@ ghost use mathlib.Core.Path.{_≡_};
 ghost use Prim.Native.Nat.{_+_, _*_, _/_, _%_, _≤_, _<_};
 ghost use lib.ListN.{length};
 ghost use Rattle.buffer.specs.Bytes.{byte, be32, bytes32, zeros};
+ghost use Rattle.buffer.specs.ByteOrder.{le32, turn};
 ghost use Rattle.buffer.specs.Loops.{allZero};
 
 // A byte as an index, and as a number of 32 bits.
@@ -55,7 +56,7 @@ fn little(a: u32, b: u32, c: u32, d: u32) -> u32
 
 // A number with its four bytes in the other order.
 fn swap(x: u32) -> u32
-    ensures { λ r. ⌜ r ≡ x % 256 * 16777216 + x / 256 % 256 * 65536 + x / 65536 % 256 * 256 + x / 16777216 ⌝ }
+    ensures { λ r. ⌜ r ≡ turn x ⌝ }
 {
     x % 256 * 16777216 + x / 256 % 256 * 65536 + x / 65536 % 256 * 256 + x / 16777216
 }
@@ -68,17 +69,24 @@ fn big(a: u32, b: u32, c: u32, d: u32) -> u32
     swap(little(a, b, c, d))
 }
 
-// The big-endian number of 32 bits at a place whose four bytes are there.
-pub fn load32(s: &[u8], at: usize) -> u32
+// The little-endian number of 32 bits at a place whose four bytes are there, and the big-endian one.
+pub fn low32(s: &[u8], at: usize) -> u32
     requires { ⌜ at + 4 ≤ length (now s) ⌝ }
-    ensures { λ r. ⌜ r ≡ be32 (now (s .entry)) at ⌝ }
+    ensures { λ r. ⌜ r ≡ le32 (now (s .entry)) at ⌝ }
 {
-    big(
+    little(
         wide32(s[at]),
         wide32(s[at + 1]),
         wide32(s[at + 2]),
         wide32(s[at + 3]),
     )
+}
+
+pub fn load32(s: &[u8], at: usize) -> u32
+    requires { ⌜ at + 4 ≤ length (now s) ⌝ }
+    ensures { λ r. ⌜ r ≡ be32 (now (s .entry)) at ⌝ }
+{
+    swap(low32(s, at))
 }
 
 // The big-endian number of 32 bits at any place; bytes past the end count as 0.

@@ -8,8 +8,9 @@ use lib.Dec.{eqb}
 use borrow.Author.Tests.{eqb-true, eq-eqb}
 use Rattle.buffer.specs.Bytes.{byte}
 use Rattle.buffer.specs.TestLaws.{same-test, and-true, and-first, and-second}
-use Rattle.soundness.specs.Keys.{le32, samePair}
-use Rattle.soundness.proofs.Turned.{turned-same}
+use Rattle.buffer.specs.ByteOrder.{le32}
+use Rattle.buffer.specs.ByteOrderLaws.{le-be-same}
+use Rattle.soundness.specs.Keys.{samePair}
 
 -- two numbers of 32 bits are told by the number of 64 bits that they make
 halves : (a b c d : ℕ) → a < 4294967296 → c < 4294967296 → eqb (a + b * 4294967296) (c + d * 4294967296) ≡ (eqb a c && eqb b d)
@@ -33,4 +34,4 @@ module _ (s : List ℕ) (bound : (i : ℕ) → byte s i < 256) where
   unfolding samePair
   same-words x y =
       halves (le32 s x) (le32 s (x + 4)) (le32 s y) (le32 s (y + 4)) (le-lt x) (le-lt y)
-      ∙ ap₂ (λ a b. a && b) (turned-same s bound x y) (turned-same s bound (x + 4) (y + 4))
+      ∙ ap₂ (λ a b. a && b) (le-be-same s bound x y) (le-be-same s bound (x + 4) (y + 4))

@@ -6,13 +6,10 @@ use mathlib.Core.Bool.{Bool, not, _&&_, _||_}
 use lib.Dec.{eqb, ltb, leb}
 use Rattle.buffer.specs.Choice.{pick}
 use Rattle.buffer.specs.Range.{all, first}
-use Rattle.buffer.specs.Bytes.{byte, be32}
+use Rattle.buffer.specs.Bytes.{be32}
+use Rattle.buffer.specs.ByteOrder.{le32}
 use Rattle.model.specs.Units.{powerBelow, splitPointer, unitOf}
 use Rattle.group.specs.Widths.{checkBytes}
-
--- four bytes as a number, low byte first
-unfoldable pub le32 : List ℕ → ℕ → ℕ
-le32 s at = byte s at + byte s (at + 1) * 256 + byte s (at + 2) * 65536 + byte s (at + 3) * 16777216
 
 -- a list of keys with the bytes of each in the other order
 unfoldable pub turnedKeys : List ℕ → ℕ → ℕ → ℕ → ℕ

@@ -3,8 +3,9 @@ ghost use mathlib.Core.Path.{_≡_};
 ghost use Prim.Native.Nat.{_+_, _*_, _≤_, _<_};
 ghost use lib.ListN.{length};
 ghost use Rattle.group.specs.Widths.{slotBytes, checkBytes};
+ghost use Rattle.buffer.specs.ByteOrder.{le32};
 ghost use Rattle.buffer.specs.Strided.{strided32, Within};
-ghost use Rattle.soundness.specs.Keys.{placeOf, maskOf, isNew, reached, sameKeys, noKeys, le32, turnedKeys, samePair, sameLists};
+ghost use Rattle.soundness.specs.Keys.{placeOf, maskOf, isNew, reached, sameKeys, noKeys, turnedKeys, samePair, sameLists};
 use lookup::digits;
 
 fn key(s: &[u8], base: usize, step: usize, r: usize) -> u32
@@ -14,24 +15,13 @@ fn key(s: &[u8], base: usize, step: usize, r: usize) -> u32
     buffer::load32(s, base + step * r)
 }
 
-// Four bytes as a number, low byte first: the compiler makes one load of it.
-fn word(s: &[u8], at: usize) -> u32
-    requires { ⌜ at + 4 ≤ length (now s) ⌝ }
-    ensures { λ r. ⌜ r ≡ le32 (now (s .entry)) at ⌝ }
-{
-    buffer::wide32(s[at])
-        + buffer::wide32(s[at + 1]) * 256
-        + buffer::wide32(s[at + 2]) * 65536
-        + buffer::wide32(s[at + 3]) * 16777216
-}
-
 // A key with its bytes in the other order. Whether it is 0, whether two of them are the same and what the sum of its digits is do not depend on the
 // order, and no byte has to be moved.
 fn turned_key(s: &[u8], base: usize, step: usize, r: usize) -> u32
     requires { ⌜ base + step * r + 4 ≤ length (now s) ⌝ }
     ensures { λ k. ⌜ k ≡ turnedKeys (now (s .entry)) base step r ⌝ }
 {
-    word(s, base + step * r)
+    buffer::low32(s, base + step * r)
 }
 
 // Whether a turned key is none of the first n of a list.
@@ -143,7 +133,7 @@ fn pair(s: &[u8], at: usize) -> u64
     requires { ⌜ at + 8 ≤ length (now s) ⌝ }
     ensures { λ r. ⌜ r ≡ le32 (now (s .entry)) at + le32 (now (s .entry)) (at + 4) * 4294967296 ⌝ }
 {
-    buffer::wide64(word(s, at)) + buffer::wide64(word(s, at + 4)) * 4294967296
+    buffer::wide64(buffer::low32(s, at)) + buffer::wide64(buffer::low32(s, at + 4)) * 4294967296
 }
 
 fn same_pair(s: &[u8], x: usize, y: usize) -> bool

@@ -6,7 +6,7 @@ use Rattle.soundness.proofs.keys.turned_key.Tie as tie
 
 returns : tie.Need-returns
 unfolding turnedKeys
-returns c = c .word .ensures
+returns c = c .low32 .ensures
 
 pub turned-key-spec : {M : Type 1} → statement M
 turned-key-spec = tie.close (tie.spec (λ c. search needs) (λ c. search needs) (λ c κs. search needs) returns)

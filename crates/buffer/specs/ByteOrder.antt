@@ -1,0 +1,12 @@
+-- Numbers of 32 bits with their bytes in the other order. Assumes nothing.
+use Prim.Native.Nat.{ℕ, _+_, _*_, _/_, _%_}
+use mathlib.Core.List.{List}
+use Rattle.buffer.specs.Bytes.{byte}
+
+-- the little-endian number of 32 bits at a place
+unfoldable pub le32 : List ℕ → ℕ → ℕ
+le32 s at = byte s at + byte s (at + 1) * 256 + byte s (at + 2) * 65536 + byte s (at + 3) * 16777216
+
+-- a number's four bytes in the other order
+abbrev pub turn : ℕ → ℕ
+turn x = x % 256 * 16777216 + x / 256 % 256 * 65536 + x / 65536 % 256 * 256 + x / 16777216
