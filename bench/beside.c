@@ -1,9 +1,9 @@
 /*
  * Times the soundness test of two builds of the library in one run, in turn: this one's, and an
  * earlier one's, whose names begin with earlier_ in place of lhrs_. Each has a store of its own, laid
- * out and filled by its own calls, so that it may be of another version. Prints a line for each size
- * of store: b, M, K, the nanoseconds of the earlier test and of this one. Build and run it with
- * bench/beside.
+ * out and filled by its own calls, so that it may be of another version with the same widths. Prints
+ * a line for each size of store: b, M, K, the nanoseconds of the earlier test and of this one. Build
+ * and run it with bench/beside.
  */
 #define _POSIX_C_SOURCE 199309L
 #include "lhrs.h"

@@ -8,7 +8,7 @@ use Rattle.buffer.specs.Bytes.{byte, be32}
 use Rattle.buffer.specs.ByteOrder.{le32}
 use Rattle.buffer.specs.ByteOrderLaws.{le-be-same, le-be-zero}
 use Rattle.buffer.specs.Choice.{pick}
-use Rattle.buffer.specs.Range.{all, first}
+use Rattle.buffer.specs.Range.{all}
 use Rattle.buffer.specs.RangeLaws.{all-ext, first-ext}
 use Rattle.buffer.specs.Strided.{strided32}
 use Rattle.model.specs.Units.{address, unitOf}

@@ -61,7 +61,8 @@ fn mask_of(m: u8, u: u8) -> u32
 }
 
 // How many keys a list has before its first key 0, or 65 where one of them is in another unit or there twice. Each key leaves the unit's stamp
-// in the table; only a key that finds the stamp already there is compared with those before it. What the table held before does not matter.
+// in the table; only a key that finds the stamp already there is compared with those before it. What the table held before does not matter. The
+// keys are read turned.
 pub fn reach(
     t: &mut [u8; 2048],
     s: &[u8],

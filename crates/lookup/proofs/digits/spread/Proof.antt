@@ -1,7 +1,6 @@
 -- `lookup::digits::spread` meets its contract. Assumes nothing.
 use Prim.Native.Nat.{ℕ, _*_}
 use mathlib.Core.Path.{ap, _∙_}
-use native.Mathlib.Omega.{arith}
 use borrow.Author.Needs.{needs}
 use Rattle.lookup.specs.Spread.{sumIn}
 use Rattle.lookup.proofs.Nibbles.{nibbles-fit, spread-sum}
