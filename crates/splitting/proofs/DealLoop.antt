@@ -161,9 +161,12 @@ module _ (s₀ : List ℕ) (n m count : ℕ) (sp : Split s₀ n m) (ec : count �
       (sym (ap length (kept-none (λ x. moves m (keyOf x)) (view s₀ .slot n))))
       (chunks-same data-units s₀ _ (sp .sized .long) (λ u r a b. dealing-none (view s₀) n m apart u r))
 
-  -- the places of a move
-  pub deal-place : {s : List ℕ} {stay left t : ℕ} → Dealing s₀ n m count s stay left t → t < count → (u q : ℕ) → u < 16 → q ≤ t → SlotIn s u q
-  deal-place d ht u q hu hq = record { long = d .sized .long; unit = hu; rank = omega (arith, most, d .five) }
+  -- the places that a record is moved from and to
+  pub deal-places : {s : List ℕ} {stay left t : ℕ} → Dealing s₀ n m count s stay left t → t < count → (u q : ℕ) → u < 16 → q ≤ t → SlotIn s n t × SlotIn s u q
+  deal-places d ht u q hu hq = (
+    record { long = d .sized .long; unit = omega (arith, sp .apart, sp .unit); rank = omega (arith, most, d .five) },
+    record { long = d .sized .long; unit = hu; rank = omega (arith, most, d .five) },
+  )
 
   module _ {s : List ℕ} {stay left t key w : ℕ} (d : Dealing s₀ n m count s stay left t) (ht : t < count)
       (ek : key ≡ keyOf (view s .slot n t)) (ew : w ≡ unitOf (m + 1) key) where

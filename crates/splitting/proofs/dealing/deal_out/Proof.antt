@@ -5,7 +5,7 @@ use Prim.Native.Nat.{_-_}
 use native.Mathlib.Omega.{arith}
 use Rattle.encoding.specs.Holding.{holds-step, holds-five, holds-long}
 use Rattle.splitting.proofs.StepLaws.{cleared-change}
-use Rattle.splitting.proofs.DealLoop.{Dealing, dealing-start, deal-goes, deal-stays, deal-place, dealing-end}
+use Rattle.splitting.proofs.DealLoop.{Dealing, dealing-start, deal-goes, deal-stays, deal-places, dealing-end}
 use Rattle.splitting.proofs.dealing.deal_out.Statement.{statement}
 use Rattle.splitting.proofs.dealing.deal_out.Tie as tie
 
@@ -32,8 +32,7 @@ move-record-requires c κs =
     let k = c .before .before .before in
     let l = k .before .before .before in
     let e = l .before .before in
-    let place = deal-place (e .args .s .now) _ _ _ (e .pre .0) (e .pre .1) (l .loop .inv) (k .before .before .loop-test .taken) in
-    (place _ _ (omega (arith, e .pre .0 .apart, e .pre .0 .unit)) (omega arith), place _ _ (e .pre .0 .unit) (omega (arith, l .loop .inv .few)))
+    deal-places (e .args .s .now) _ _ _ (e .pre .0) (e .pre .1) (l .loop .inv) (k .before .before .loop-test .taken) _ _ (e .pre .0 .unit) (omega (arith, l .loop .inv .few))
 
 add-gone : tie.Need-add-gone Inv-loop μ-loop
 add-gone c =
@@ -45,8 +44,7 @@ move-record-requires-2 c κs =
     let k = c .before .before .before in
     let l = k .before .before .before in
     let e = l .before .before in
-    let place = deal-place (e .args .s .now) _ _ _ (e .pre .0) (e .pre .1) (l .loop .inv) (k .before .before .loop-test .taken) in
-    (place _ _ (omega (arith, e .pre .0 .apart, e .pre .0 .unit)) (omega arith), place _ _ (omega (arith, e .pre .0 .apart, e .pre .0 .unit)) (omega (arith, l .loop .inv .few)))
+    deal-places (e .args .s .now) _ _ _ (e .pre .0) (e .pre .1) (l .loop .inv) (k .before .before .loop-test .taken) _ _ (omega (arith, e .pre .0 .apart, e .pre .0 .unit)) (omega (arith, l .loop .inv .few))
 
 add-kept : tie.Need-add-kept Inv-loop μ-loop
 add-kept c =
