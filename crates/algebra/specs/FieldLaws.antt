@@ -1,4 +1,4 @@
--- What follows from the laws of a field: cancelling, products with 𝟘, no divisors of 𝟘, terms and factors changing places.
+-- What follows from the laws of a field: cancelling, products with 𝟘, no divisors of 𝟘, quotients, terms and factors changing places.
 use mathlib.Core.Path.{_≡_, sym, ap, ap₂, _∙_}
 use Rattle.algebra.specs.Field.{Field}
 
@@ -55,6 +55,10 @@ module _ (F : Field) where
   -- a product of factors that are not 0 is not 0
   pub mul-ne-zero : (a b : A) → (a ≡ 𝟘 → ⊥) → (b ≡ 𝟘 → ⊥) → a ⊗ b ≡ 𝟘 → ⊥
   mul-ne-zero a b ha hb e = hb (factor-zero a b ha e)
+
+  -- a quotient, from a product
+  pub quotient : (a b c : A) → (b ≡ 𝟘 → ⊥) → a ⊗ b ≡ c → a ≡ c ⊗ inv b
+  quotient a b c h e = sym (ap (λ (x : A). x ⊗ inv b) (sym e) ∙ mul-assoc a b (inv b) ∙ ap (λ (x : A). a ⊗ x) (mul-inv b h) ∙ mul-one a)
 
   -- the middle two of four terms, or factors, change places
   pub add-swap : (a b c d : A) → a ⊕ b ⊕ (c ⊕ d) ≡ a ⊕ c ⊕ (b ⊕ d)

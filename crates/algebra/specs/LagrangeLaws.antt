@@ -1,6 +1,6 @@
 -- Lagrange's formula gives a polynomial with the values asked for, and the only one.
 -- A reader wants `lagrange-takes` (the values), `lagrange-polynomial` (a polynomial with as many coefficients as points) and `lagrange-only` (any
--- such polynomial is given by the formula from its values at different points).
+-- such polynomial is given by the formula from its values at different points). Barycentric uses the facts about points that differ.
 use mathlib.Core.Path.{_≡_, refl, sym, ap, ap₂, _∙_, subst}
 use mathlib.Core.List.{List, [], _∷_, _++_, map}
 use mathlib.Core.Logic.{_⊎_, inl, inr, ⊎-elim}
@@ -51,7 +51,7 @@ module _ (F : Field) where
       ⊎-elim (λ e. ap (λ (z : A). z ⊗ gaps F Q Rs) (ap (λ (S : Point A). gap F Q S) (sym e) ∙ gap-self F Q) ∙ fld.zero-mul F (gaps F Q Rs))
       (λ k. ap (λ (z : A). gap F Q R ⊗ z) (gaps-zero Q Rs k) ∙ fld.mul-zero F (gap F Q R)) h
 
-  gaps-ne : (Q : Point A) (Rs : List (Point A)) → All (λ R. Q ≡ R → ⊥) Rs → gaps F Q Rs ≡ 𝟘 → ⊥
+  pub gaps-ne : (Q : Point A) (Rs : List (Point A)) → All (λ R. Q ≡ R → ⊥) Rs → gaps F Q Rs ≡ 𝟘 → ⊥
   gaps-ne Q [] h = one-ne-zero
   gaps-ne Q (R ∷ Rs) h = fld.mul-ne-zero F (gap F Q R) (gaps F Q Rs) (gap-ne F Q R (h .0)) (gaps-ne Q Rs (h .1))
 
@@ -86,12 +86,14 @@ module _ (F : Field) where
   takes-same h g (C ∷ cs) [] e k = k
   takes-same h g (C ∷ cs) (y ∷ ys) e k = (e C (inl refl) ∙ k .0, takes-same h g cs ys (λ R m. e R (inr m)) (k .1))
 
-  apart : (C : Point A) (bs cs : List (Point A)) → All (λ B. C ≡ B → ⊥) bs → All (λ y. y ≡ C → ⊥) cs → All (λ B. C ≡ B → ⊥) (bs ++ cs)
+  -- a point that differs from those passed and from those to come differs from all; those to come differ from the points passed, of which there are none
+  -- at first and one more at each step
+  pub apart : (C : Point A) (bs cs : List (Point A)) → All (λ B. C ≡ B → ⊥) bs → All (λ y. y ≡ C → ⊥) cs → All (λ B. C ≡ B → ⊥) (bs ++ cs)
   apart C [] [] p q = tt
   apart C [] (D ∷ cs) p q = ((λ e. q .0 (sym e)), apart C [] cs p (q .1))
   apart C (B ∷ bs) cs p q = (p .0, apart C bs cs (p .1) q)
 
-  fresh-more : (C : Point A) (bs cs : List (Point A)) → All (λ R. All (λ B. R ≡ B → ⊥) bs) cs → All (λ y. y ≡ C → ⊥) cs
+  pub fresh-more : (C : Point A) (bs cs : List (Point A)) → All (λ R. All (λ B. R ≡ B → ⊥) bs) cs → All (λ y. y ≡ C → ⊥) cs
       → All (λ R. All (λ B. R ≡ B → ⊥) (C ∷ bs)) cs
   fresh-more C bs [] p q = tt
   fresh-more C bs (D ∷ cs) p q = ((q .0, p .0), fresh-more C bs cs (p .1) (q .1))
@@ -111,7 +113,7 @@ module _ (F : Field) where
         (takes-from (C ∷ bs) cs ys (suc-inj (length cs) (length ys) e) (fresh-more C bs cs (f .1) (d .0)) (d .1)),
   )
 
-  fresh-none : (cs : List (Point A)) → All (λ R. All (λ B. R ≡ B → ⊥) []) cs
+  pub fresh-none : (cs : List (Point A)) → All (λ R. All (λ B. R ≡ B → ⊥) []) cs
   fresh-none [] = tt
   fresh-none (C ∷ cs) = (tt, fresh-none cs)
 

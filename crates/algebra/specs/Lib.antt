@@ -1,5 +1,6 @@
 pub mod Every
 pub mod Xor
+pub mod XorSums
 pub mod Field
 pub mod FieldLaws
 pub mod Polynomial
@@ -8,8 +9,10 @@ pub mod Division
 pub mod Roots
 pub mod LagrangeLaws
 pub mod Interpolation
+pub mod Barycentric
 pub mod Binary
 pub mod BinaryTested
 pub mod BinaryLinear
 pub mod BinaryLaws
+pub mod BinaryPowers
 pub mod BinaryField

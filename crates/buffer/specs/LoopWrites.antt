@@ -6,10 +6,10 @@ use Prim.Native.Nat.{ℕ, zero, suc, _+_, _*_, _≤_, _<_}
 use native.Mathlib.Nat.{le-of-suc-le-suc, not-suc-le-zero}
 use native.Mathlib.Numerals.{add-one}
 use native.Mathlib.Omega.{arith}
-use lib.ListN.{length, getD, set, drop, length-append, length-set, take-append-drop, drop-of-length-le, List·getD-eq-default}
+use lib.ListN.{length, getD, set, drop, length-append, length-set, take-append-drop, drop-of-length-le, List·getD-eq-default, List·getD-append}
 use lib.Seq.{take-at, drop-at, drop-drop}
 use Rattle.buffer.specs.Loops.{entries}
-use Rattle.buffer.specs.RangeLaws.{length-entries}
+use Rattle.buffer.specs.RangeLaws.{length-entries, getD-entries}
 use Rattle.buffer.specs.Bytes.{byte, splice}
 use Rattle.buffer.specs.SpliceLaws.{length-splice, splice-next, set-splice}
 use Rattle.buffer.specs.ByteLaws.{byte-splice-before}
@@ -66,6 +66,12 @@ filling-turn {f} {l₀} {l} {i} v g h q =
 -- the entry that the next turn writes is as it was
 pub filling-read : {f : ℕ → ℕ} {l₀ l : List ℕ} {i : ℕ} → Filling f l₀ l i → getD l i 0 ≡ getD l₀ i 0
 filling-read {f} {l₀} {l} {i} g = rw (g .bytes) (filled-rest f l₀ i)
+
+-- an entry that a turn has written
+pub filling-written : {f : ℕ → ℕ} {l₀ l : List ℕ} {i : ℕ} → Filling f l₀ l i → (k : ℕ) → k < i → getD l k 0 ≡ f k
+unfolding filled
+filling-written {f} {l₀} {l} {i} g k h =
+    rw (g .bytes) (List·getD-append (entries i f) (drop i l₀) 0 k (rw length-entries h) ∙ getD-entries i f k 0 h)
 
 pub filling-end : {f : ℕ → ℕ} {l₀ l : List ℕ} {i : ℕ} → Filling f l₀ l i → length l ≤ i → l ≡ entries (length l₀) f
 filling-end {f} {l₀} {l} {i} g h =

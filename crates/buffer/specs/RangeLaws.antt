@@ -250,6 +250,12 @@ unfolding sum
 sum-ext zero f g h = refl
 sum-ext (suc n) f g h = rw (h n (omega arith), sum-ext n f g (λ k l. h k (omega arith)))
 
+-- the first term apart
+pub sum-front : (n : ℕ) (f : ℕ → ℕ) → sum (suc n) f ≡ f 0 + sum n (λ k. f (suc k))
+unfolding sum
+sum-front zero f = omega arith
+sum-front (suc n) f = omega (arith, sum-front n f)
+
 -- a sum of terms below a bound
 pub sum-le : (n m : ℕ) (f : ℕ → ℕ) → ((k : ℕ) → k < n → f k ≤ m) → sum n f ≤ m * n
 unfolding sum

@@ -81,6 +81,16 @@ part-splice-before at n o m new s h l =
     ∙ sym (part-left o m (take at s) (drop at s) (rw (length-take-le at s h) l))
     ∙ ap (part o m) (take-append-drop at s)
 
+-- a part replaced twice
+pub splice-again : (at n : ℕ) (x y s : List ℕ) → at ≤ length s → length y ≡ n → splice at n x (splice at n y s) ≡ splice at n x s
+unfolding splice
+splice-again at n x y s h e =
+    rw (
+      take-at (take at s) (y ++ drop n (drop at s)) at (length-take-le at s h),
+      drop-at (take at s) (y ++ drop n (drop at s)) at (length-take-le at s h),
+      drop-at y (drop n (drop at s)) n e,
+    )
+
 pub splice-next : (at n m : ℕ) (x y s : List ℕ) → at ≤ length s → length x ≡ n → splice (at + n) m y (splice at n x s) ≡ splice at (n + m) (x ++ y) s
 unfolding splice
 splice-next at n m x y s h e =

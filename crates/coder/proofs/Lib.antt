@@ -1,0 +1,8 @@
+pub mod Choices
+pub mod Logs
+pub mod Weighing
+pub mod Members
+pub mod Rebuilding
+pub mod Verdicts
+pub mod Columns
+pub mod Claims

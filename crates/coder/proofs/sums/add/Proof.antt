@@ -1,0 +1,38 @@
+-- `coder::sums::add` meets its contract. Assumes nothing.
+use mathlib.Core.Path.{ap₂}
+use Prim.Native.Nat.{_-_}
+use native.Mathlib.Omega.{arith}
+use lib.Bits.{bitXor}
+use lib.ListN.{length, length-set}
+use borrow.Author.Needs.{needs}
+use Rattle.buffer.specs.Bytes.{byte}
+use Rattle.buffer.specs.LoopWrites.{Filling, filling-start, filling-turn, filling-read, filling-end}
+use Rattle.coder.specs.Sums.{fourBytes}
+use Rattle.coder.proofs.Weighing.{inside-at}
+use Rattle.coder.proofs.sums.add.Statement.{statement}
+use Rattle.coder.proofs.sums.add.Tie as tie
+
+abbrev Inv-loop : tie.InvT-loop
+Inv-loop acc₀ s a b c d j₀ acc j = Filling (λ k. bitXor (byte acc₀ k) (fourBytes s a b c d k)) acc₀ acc j
+
+abbrev μ-loop : tie.MeasureT-loop
+μ-loop acc₀ s a b c d j₀ acc j = length acc - j
+
+four-bytes-requires : tie.Need-four-bytes-requires Inv-loop μ-loop
+four-bytes-requires c κs =
+    let inv = c .before .before .loop .inv in
+    inside-at (c .before .before .before .before .before .pre) _ (omega (arith, inv .long, c .before .loop-test .taken))
+
+loop-again : tie.Need-loop-again Inv-loop μ-loop
+loop-again c =
+    let inv = c .before .before .before .loop .inv in
+    filling-turn _ inv (search needs) (ap₂ bitXor (filling-read inv) (c .four-bytes .ensures))
+
+returns : tie.Need-returns Inv-loop μ-loop
+returns c = filling-end (c .before .loop .inv) (c .loop-test .left)
+
+pub add-spec : {M : Type 1} → statement M
+add-spec =
+    tie.close
+    (tie.spec Inv-loop μ-loop (λ c. filling-start) (λ c. search needs) four-bytes-requires (λ c. search needs) (λ c. search needs)
+    (λ c. simp length-set (omega arith)) loop-again (λ c. search needs) returns)

@@ -1,0 +1,61 @@
+-- What is claimed of the byte coder, by the value of polynomials (`evaluate`) alone: the columns' rule, that any m different columns fix the data, and
+-- that rebuilding returns just what was lost. proofs/Claims has the proofs.
+use mathlib.Core.Path.{_≡_}
+use mathlib.Core.Bool.{true}
+use mathlib.Core.List.{List, _++_}
+use Prim.Native.Nat.{ℕ, _*_, _-_, _≤_, _<_}
+use lib.Dec.{ltb}
+use lib.ListN.{length, getD}
+use Rattle.algebra.specs.Polynomial.{All, Distinct}
+use Rattle.buffer.specs.Choice.{pick}
+use Rattle.buffer.specs.Bytes.{part}
+use Rattle.buffer.specs.Table.{tab}
+use Rattle.buffer.specs.Loops.{entries}
+use Rattle.coder.specs.Interpolated.{Bytes, evaluate}
+use Rattle.coder.specs.Segment.{sizesFit, marksFit, present, presents, member, memberByte, ending, rebuildSegment}
+use Rattle.coder.specs.Columns.{column, segmentOf}
+
+-- ---- the columns
+pub record Columns : Type 0 where
+  -- of the values of any polynomial at points 0 to m - 1 column c is its value at point c
+  pub rule : (p : List ℕ) → Bytes p → length p ≤ 256 → (c : ℕ) → c < 256 → column (entries (length p) (evaluate p)) c ≡ evaluate p c
+  -- of any data there is such a polynomial
+  pub polynomial : (ds : List ℕ) → Bytes ds → length ds ≤ 256
+      → (p : List ℕ) × (length p ≡ length ds) × Bytes p × ((c : ℕ) → c < 256 → column ds c ≡ evaluate p c)
+  -- columns below m are the data
+  pub «data» : (ds : List ℕ) → Bytes ds → length ds ≤ 256 → (k : ℕ) → k < length ds → column ds k ≡ getD ds k 0
+  -- any m different columns fix the data
+  pub fixed : (cs : List ℕ) → Bytes cs → Distinct cs → length cs ≤ 256 → (ds es : List ℕ) → Bytes ds → Bytes es → length ds ≡ length cs → length es ≡ length cs
+      → All (λ c. column ds c ≡ column es c) cs → ds ≡ es
+
+-- ---- the call
+-- n marks and n members of len bytes each that fit, m or more of them present
+pub record Enough (m n len : ℕ) (s marks : List ℕ) : Type 0 where
+  pub sizes : sizesFit m n (len * n) ≡ true
+  pub long : length s ≡ len * n
+  pub count : length marks ≡ n
+  pub marked : marksFit marks ≡ true
+  pub enough : m ≤ length (presents marks n)
+
+pub record Rebuilds : Type 0 where
+  -- members of one polynomial a byte: rebuilding returns just them, whichever are missing and whatever stands there
+  pub rebuilt : (m n len : ℕ) (s marks : List ℕ) → Enough m n len s marks → (f : ℕ → List ℕ) → ((j : ℕ) → j < len → Bytes (f j) × (length (f j) ≡ m))
+      → ((c j : ℕ) → c < n → j < len → present marks c ≡ true → memberByte len s j c ≡ evaluate (f j) c)
+      → rebuildSegment m s marks ≡ ending 0 (tab n (λ c. entries len (λ j. evaluate (f j) c))) (entries n (λ _. 1))
+  -- the columns of any data, of which members are lost so that m are left: every byte is given back
+  pub returned : (m n len : ℕ) (s marks : List ℕ) → Enough m n len s marks → (d : List ℕ) → Bytes d → length d ≡ len * m
+      → ((c : ℕ) → c < n → present marks c ≡ true → member len s c ≡ member len (segmentOf m n len d) c)
+      → rebuildSegment m s marks ≡ ending 0 (segmentOf m n len d) (entries n (λ _. 1))
+  -- encoding: the data, and behind them members that are marked missing
+  pub encoded : (m n len : ℕ) → sizesFit m n (len * n) ≡ true → (d rest : List ℕ) → Bytes d → length d ≡ len * m → length rest ≡ len * (n - m)
+      → rebuildSegment m (d ++ rest) (entries n (λ c. pick (ltb c m) 1 0)) ≡ ending 0 (segmentOf m n len d) (entries n (λ _. 1))
+  -- a segment begins with its data
+  pub begins : (m n len : ℕ) (d : List ℕ) → m ≤ n → m ≤ 256 → Bytes d → length d ≡ len * m → part 0 (len * m) (segmentOf m n len d) ≡ d
+  -- present members stay, also where they disagree with the first m
+  pub stays : (m n len : ℕ) (s marks : List ℕ) → Enough m n len s marks → (c : ℕ) → c < n → present marks c ≡ true
+      → member len (rebuildSegment m s marks .members) c ≡ member len s c
+  -- with none missing nothing changes
+  pub whole : (m n len : ℕ) (s marks : List ℕ) → Enough m n len s marks → ((c : ℕ) → c < n → present marks c ≡ true) → rebuildSegment m s marks ≡ ending 0 s marks
+  -- a refused call changes nothing
+  pub refused : (m : ℕ) (s marks : List ℕ) → (rebuildSegment m s marks .number ≡ 0 → ⊥)
+      → (rebuildSegment m s marks .members ≡ s) × (rebuildSegment m s marks .marks ≡ marks)

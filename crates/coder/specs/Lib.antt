@@ -1,0 +1,13 @@
+pub mod Interpolated
+pub mod PointLaws
+pub mod Segment
+pub mod SegmentLaws
+pub mod MemberLaws
+pub mod Weights
+pub mod WeightLaws
+pub mod Sums
+pub mod Horner
+pub mod Choosing
+pub mod Granted
+pub mod Columns
+pub mod Claims

@@ -1,0 +1,69 @@
+-- The members of a segment as parts of one list: where they lie, their lengths and bytes, and those after a call. A reader wants `fitting` (what fitting
+-- sizes say), `over` (members do not overlap), `member-byte`, `after` and `after-wide`.
+use mathlib.Core.Path.{_≡_, sym, ap, _∙_, subst}
+use mathlib.Core.Bool.{true, _&&_}
+use mathlib.Core.List.{List}
+use Prim.Native.Nat.{ℕ, suc, _+_, _*_, _/_, _%_, _≤_, _<_}
+use native.Mathlib.Nat.{mul-suc, mul-le-mul-left, div-add-mod'}
+use native.Mathlib.Omega.{arith}
+use lib.Dec.{leb, eqb}
+use lib.ListN.{length}
+use borrow.Author.Tests.{leb-true, eqb-true}
+use Rattle.buffer.specs.Choice.{pick}
+use Rattle.buffer.specs.ChoiceLaws.{by-pick}
+use Rattle.buffer.specs.TestLaws.{and-first, and-second}
+use Rattle.buffer.specs.Bytes.{byte}
+use Rattle.buffer.specs.ByteLaws.{byte-part}
+use Rattle.buffer.specs.SpliceLaws.{length-part}
+use Rattle.buffer.specs.TableLaws.{Wide}
+use Rattle.buffer.specs.RangeLaws.{length-entries}
+use Rattle.coder.specs.Segment.{largestGroup, mostMembers, longestMember, sizesFit, present, chosen, member, memberByte, memberFrom}
+
+-- ---- sizes that fit
+pub record Fitting (m n bytes : ℕ) : Type 0 where
+  pub some : 1 ≤ m
+  pub group : m ≤ largestGroup
+  pub within : m ≤ n
+  pub few : n ≤ mostMembers
+  pub short : bytes / n ≤ longestMember
+  pub whole : bytes ≡ bytes / n * n
+
+pub fitting : (m n bytes : ℕ) → sizesFit m n bytes ≡ true → Fitting m n bytes
+unfolding sizesFit
+fitting m n bytes e =
+    let e₁ = and-second (leb 1 m) _ e in
+    let e₂ = and-second (leb m largestGroup) _ e₁ in
+    let e₃ = and-second (leb m n) _ e₂ in
+    let e₄ = and-second (leb n mostMembers) _ e₃ in
+    let e₅ = and-second (leb 1 (bytes / n)) _ e₄ in
+    record {
+      some = leb-true 1 m (and-first (leb 1 m) _ e);
+      group = leb-true m largestGroup (and-first (leb m largestGroup) _ e₁);
+      within = leb-true m n (and-first (leb m n) _ e₂);
+      few = leb-true n mostMembers (and-first (leb n mostMembers) _ e₃);
+      short = leb-true (bytes / n) longestMember (and-first (leb (bytes / n) longestMember) _ e₅);
+      whole = omega (arith, div-add-mod' bytes n, eqb-true (bytes % n) 0 (and-second (leb (bytes / n) longestMember) _ e₅));
+    }
+
+-- ---- where members lie
+pub over : (len p c : ℕ) → p < c → len * p + len ≤ len * c
+over len p c h = subst (λ (n : ℕ). n ≤ len * c) (mul-suc len p) (mul-le-mul-left len h)
+
+module _ (len : ℕ) (s : List ℕ) where
+  pub member-byte : (c j : ℕ) → j < len → byte (member len s c) j ≡ memberByte len s j c
+  unfolding member memberByte
+  member-byte c j h = byte-part (len * c) len s j h
+
+  pub member-long : (n c : ℕ) → length s ≡ len * n → c < n → length (member len s c) ≡ len
+  unfolding member
+  member-long n c e h = length-part (len * c) len s (subst (λ (k : ℕ). len * c + len ≤ k) (sym e) (over len c n h))
+
+-- ---- member c after a call
+abbrev pub after : ℕ → List ℕ → ℕ → List ℕ → ℕ → List ℕ
+after m marks len s c = pick (present marks c) (member len s c) (memberFrom (chosen m marks) len s c)
+
+pub after-wide : (m : ℕ) (marks : List ℕ) (n len : ℕ) (s : List ℕ) → length s ≡ len * n → Wide n len (after m marks len s)
+unfolding memberFrom
+after-wide m marks n len s e c h =
+    by-pick (λ l. length l ≡ len) (present marks c) (member len s c) (memberFrom (chosen m marks) len s c) (λ _. member-long len s n c e h)
+    (λ _. length-entries len _)
