@@ -1,5 +1,6 @@
 /*
- * lhrs.h: a record store for crane control units over one lent block of bytes.
+ * lhrs.h: a record store for crane control units over one lent block of bytes, and beside it a byte
+ * coder for groups of more than four units.
  *
  * The store. All of it lies in one block of bytes that the caller owns and lends to each call: a
  * pointer and its length. The library keeps nothing between calls, allocates nothing and opens
@@ -13,7 +14,8 @@
  *
  * At the same time. The library has no state. Calls on different stores may run at the same time.
  * On one store lhrs_read and lhrs_list may run beside each other and beside themselves; while any
- * other call runs, none may run beside it on that store.
+ * other call runs, none may run beside it on that store. lhrs_rebuild_segment takes no store: it may
+ * run beside any call, itself too, that is not lent the same members or marks.
  *
  * Where it runs. The archive libstore.a is compiled for x86-64 Linux (ELF objects, System V calling
  * convention) and needs memcpy and memset of a C library, nothing else.
@@ -27,7 +29,8 @@
  * as the level says.
  *
  * Numbers. Each call returns one of the numbers below. A call that returns another number than 0
- * changes no byte. Where several numbers apply, the first of 2, 1, 3, 9, 4, 8, 5, 6, 7 is given.
+ * changes no byte. Where several numbers apply, the first of 2, 1, 3, 9, 4, 8, 5, 6, 7 is given; so
+ * lhrs_rebuild_segment, which returns 0, 2 or 8 alone, gives 2 before 8.
  */
 #ifndef LHRS_H
 #define LHRS_H
@@ -68,11 +71,13 @@ enum lhrs_number {
     /* The call was granted and has done what it says. */
     LHRS_GRANTED = 0,
     /* The block holds no sound store: it was never laid out, it is cut off, it is damaged, or its
-       first byte says another version than 3. Every call but lhrs_lay_out tests this. Parity bytes
-       are not tested. */
+       first byte says another version than 3. Every call on a store but lhrs_lay_out tests this.
+       Parity bytes are not tested. */
     LHRS_NOT_SOUND = 1,
     /* An argument is outside its range: key 0, b not 1 to 64, a body or an output that is not 16
-       bytes long, a unit above 27, a group above 3. */
+       bytes long, a unit above 27, a group above 3; for a segment, m not 1 to 32, fewer than m or
+       more than 64 members, members that are not all of one length from 1 to 1,024 bytes, or a mark
+       that is neither 0 nor 1. */
     LHRS_BAD_ARGUMENT = 2,
     /* There is no such unit or group in the store at present. */
     LHRS_NOT_IN_PLACE = 3,
@@ -89,7 +94,8 @@ enum lhrs_number {
        for all records (list). */
     LHRS_NO_ROOM = 7,
     /* More units of a group are out than it has check units: nothing can be rebuilt (repair; read of
-       a key whose unit is out there; list with a data unit out there). */
+       a key whose unit is out there; list with a data unit out there). Fewer than m members of a
+       segment are present (rebuild segment). */
     LHRS_BEYOND_RECOVERY = 8,
     /* A limit: grow at 16 units, shrink at 1, raise at level 3. */
     LHRS_LIMIT = 9
@@ -171,6 +177,39 @@ uint8_t lhrs_shrink(uint8_t *store, size_t len);
  * Returns 0, 1, 4 or 9.
  */
 uint8_t lhrs_raise(uint8_t *store, size_t len);
+
+/*
+ * The byte coder, for groups of more than four units. It takes no store: the caller keeps the bytes
+ * of its units, and lends them as a segment.
+ *
+ * A segment is m data members and any number of check members behind them, m to 64 members in all.
+ * Its members are equal stretches of one block, each 1 to 1,024 bytes long, member c the one that
+ * starts at byte c times their length. A second block has one byte for each member, its mark: 1
+ * where the member is present, 0 where it is missing.
+ *
+ * Member c is column c of the code. Byte by byte it is the value at point c of the polynomial of a
+ * degree below m whose values at points 0 to m - 1 are the data members, over GF(256): bytes as
+ * polynomials modulo t^8+t^4+t^3+t^2+1, point c being the byte c. So any m members give all others.
+ *
+ * To encode, fill members 0 to m - 1, mark them with 1 and all others with 0: the call makes the
+ * others. To rebuild, mark with 0 what was lost; what those members hold does not matter. A segment
+ * made with fewer members is the front of one made with more.
+ */
+
+/* The largest m, the most members of a segment, and the most bytes of a member. */
+#define LHRS_LARGEST_GROUP 32u
+#define LHRS_MOST_MEMBERS 64u
+#define LHRS_LONGEST_MEMBER 1024u
+
+/*
+ * Rebuilds all missing members of a segment from the first m present ones, and makes all marks 1.
+ * Present members are not changed, nor compared with what the first m of them give. With none missing
+ * it is granted and changes nothing. marks_len is the number of members, and members_len that number
+ * times their length. When it refuses, it changes no member and no mark.
+ * Returns 0, 2 or 8.
+ */
+uint8_t lhrs_rebuild_segment(uint8_t *members, size_t members_len, uint8_t *marks,
+                             size_t marks_len, uint32_t m);
 
 #ifdef __cplusplus
 }

@@ -1,12 +1,14 @@
 /*
  * What include/lhrs.h says and the other tests do not show: a pointer with length 0 may be null, and
  * what its macros read, the check units of each group by the level too; keys numbered in sixteens lie
- * in different units. It is C99 and C++98. Build and run it with tests/header.
+ * in different units; the limits of a segment, which numbers it is refused with, and how it is made
+ * and rebuilt. It is C99 and C++98. Build and run it with tests/header.
  */
 #include "lhrs.h"
 
 #include <stdio.h>
 #include <stdlib.h>
+#include <string.h>
 
 #define SLOTS 2u
 
@@ -143,6 +145,79 @@ static void posts_in_sixteens(void)
         expect("a key of the list", records[i * LHRS_RECORD + 3], listed[i]);
 }
 
+/* Room for a member more than a segment has, each a byte longer than a member is. */
+static uint8_t members[(LHRS_MOST_MEMBERS + 1) * (LHRS_LONGEST_MEMBER + 1)];
+static uint8_t marks[LHRS_MOST_MEMBERS + 1];
+
+/* The number for so many members of a length, the first of them present. */
+static uint8_t segment(size_t count, size_t length, size_t present, uint32_t m)
+{
+    memset(marks, 0, sizeof marks);
+    memset(marks, 1, present);
+    return lhrs_rebuild_segment(members, count * length, marks, count, m);
+}
+
+static void null_segments(void)
+{
+    expect("segment of nothing", lhrs_rebuild_segment(NULL, 0, NULL, 0, 1), LHRS_BAD_ARGUMENT);
+    expect("segment, m = 0", lhrs_rebuild_segment(NULL, 0, NULL, 0, 0), LHRS_BAD_ARGUMENT);
+    expect("segment, no marks", lhrs_rebuild_segment(members, 4, NULL, 0, 1), LHRS_BAD_ARGUMENT);
+    memset(marks, 1, sizeof marks);
+    expect("segment, no bytes", lhrs_rebuild_segment(NULL, 0, marks, 2, 1), LHRS_BAD_ARGUMENT);
+}
+
+/* The macros are the largest that is granted; one more is refused, with all members present too. */
+static void segment_limits(void)
+{
+    const size_t most = LHRS_MOST_MEMBERS, longest = LHRS_LONGEST_MEMBER;
+    const uint32_t largest = LHRS_LARGEST_GROUP;
+    expect("a full segment", segment(most, longest, largest, largest), LHRS_GRANTED);
+    expect("a small segment", segment(1, 1, 1, 1), LHRS_GRANTED);
+    expect("m = 0", segment(4, 1, 4, 0), LHRS_BAD_ARGUMENT);
+    expect("m = 33", segment(most, 1, most, largest + 1), LHRS_BAD_ARGUMENT);
+    expect("m above the members", segment(4, 1, 4, 5), LHRS_BAD_ARGUMENT);
+    expect("65 members", segment(most + 1, 1, most + 1, 1), LHRS_BAD_ARGUMENT);
+    expect("1,025 bytes", segment(2, longest + 1, 2, 1), LHRS_BAD_ARGUMENT);
+    memset(marks, 1, sizeof marks);
+    expect("5 bytes for 2 members", lhrs_rebuild_segment(members, 5, marks, 2, 1),
+           LHRS_BAD_ARGUMENT);
+}
+
+/* A mark is 0 or 1, behind m present members too; what is refused with 2 is not refused with 8. */
+static void segment_numbers(void)
+{
+    expect("too few", segment(8, 4, 3, 4), LHRS_BEYOND_RECOVERY);
+    expect("a mark when refused", marks[3], 0);
+    expect("too few and m = 33", segment(64, 4, 3, 33), LHRS_BAD_ARGUMENT);
+    expect("too few and 65 members", segment(65, 4, 3, 4), LHRS_BAD_ARGUMENT);
+    memset(marks, 1, sizeof marks);
+    marks[7] = 2;
+    expect("a mark of 2", lhrs_rebuild_segment(members, 32, marks, 8, 4), LHRS_BAD_ARGUMENT);
+    memset(marks, 0, sizeof marks);
+    marks[0] = 255;
+    expect("a mark of 255, too few", lhrs_rebuild_segment(members, 32, marks, 8, 4),
+           LHRS_BAD_ARGUMENT);
+    expect("a mark when refused", marks[0], 255);
+}
+
+/* Data members 80 00 and 81 83. Member 2 is d0 + 2 (d0 + d1), byte by byte: 80 + 2 times 01 is 82, and
+   00 + 2 times 83 is 06 + 1D. Then both data members are lost, and rebuilt from members 2 and 3. */
+static void segment_made_and_rebuilt(void)
+{
+    static const uint8_t data[4] = {0x80, 0x00, 0x81, 0x83};
+    uint8_t given[8] = {0x80, 0x00, 0x81, 0x83, 0xEE, 0xEE, 0xEE, 0xEE};
+    uint8_t given_marks[4] = {1, 1, 0, 0};
+    expect("encode", lhrs_rebuild_segment(given, 8, given_marks, 4, 2), LHRS_GRANTED);
+    expect("first byte of member 2", given[4], 0x82);
+    expect("second byte of member 2", given[5], 0x1B);
+    expect("the marks are 1", given_marks[2] == 1 && given_marks[3] == 1, 1);
+    memset(given, 0xEE, sizeof data);
+    given_marks[0] = given_marks[1] = 0;
+    expect("rebuild", lhrs_rebuild_segment(given, 8, given_marks, 4, 2), LHRS_GRANTED);
+    expect("the data are back", memcmp(given, data, sizeof data) == 0, 1);
+    expect("the marks are 1", given_marks[0] == 1 && given_marks[1] == 1, 1);
+}
+
 int main(void)
 {
     expect("lay out", lhrs_lay_out(store, sizeof store, SLOTS), LHRS_GRANTED);
@@ -156,5 +231,9 @@ int main(void)
     raise_everywhere();
     other_version();
     posts_in_sixteens();
+    null_segments();
+    segment_limits();
+    segment_numbers();
+    segment_made_and_rebuilt();
     return EXIT_SUCCESS;
 }

@@ -18,6 +18,10 @@ use Rattle.coder.specs.WeightLaws.{xor-ne, log-self, log-apart, others-l
 pub apart-pos : (a b : ℕ) → (a ≡ b → ⊥) → 0 < bitXor a b
 apart-pos a b n = let some : bitXor a b ≡ 0 → ⊥ = xor-ne a b n in omega arith
 
+-- a sum of logarithms is bounded, whatever the point
+pub sum-bounded : (c : ℕ) (ps : List ℕ) (m r : ℕ) → r ≡ logOthers c ps m → r ≤ order * m
+sum-bounded c ps m r e = omega (arith, e, others-le c ps m)
+
 -- ---- a loop that adds up the logarithms of the differences of c and the first m points; i of them are passed
 abbrev pub Adding : ℕ → List ℕ → ℕ → ℕ → ℕ → Type 0
 Adding c ps m i s = Summing (λ k. logOther c (getD ps k 0)) m i s

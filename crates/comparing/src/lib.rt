@@ -6,6 +6,7 @@ ghost use lib.Dec.{ltb};
 ghost use lib.ListN.{length, drop};
 ghost use Rattle.buffer.specs.Choice.{pick};
 ghost use Rattle.code.specs.Matrix.{entry, Rebuilds};
+ghost use Rattle.field256.specs.Gf256.{product};
 ghost use Rattle.model.specs.Numbers.{Call};
 ghost use Rattle.model.specs.Perform.{givenIn};
 
@@ -44,4 +45,14 @@ pub extern "C" fn compared_coefficient(place: usize, column: usize) -> u8
     ensures { λ r. ⌜ r ≡ entry (place % 4) (column % 17) ⌝ }
 {
     code::coefficient(place % 4, column % 17)
+}
+
+// The product of GF(256), by logarithms.
+#[no_mangle]
+pub extern "C" fn compared_product(a: u8, b: u8) -> u8
+    ensures { λ r. ⌜ r ≡ product a b ⌝ }
+{
+    let table = field256::table();
+    let logs = field256::logs_from(&table);
+    field256::mul_in(&table, &logs, a, b)
 }

@@ -321,16 +321,16 @@ pub fn log_in(logs: &[u8; ORDER], a: u8) -> usize
     buffer::wide(logs[buffer::wide(a) - 1])
 }
 
-// The product of two bytes, by the tables lent.
+// The product of two bytes, by the tables lent. A product with 0 is 0, which has no logarithm.
 pub fn mul_in(table: &[u8; ORDER], logs: &[u8; ORDER], a: u8, b: u8) -> u8
     requires { ⌜ (now table ≡ powers) × (now logs ≡ logarithms) ⌝ }
     ensures { λ r. ⌜ r ≡ product a b ⌝ }
 {
     if a == 0 {
-        return 0;
+        return a;
     }
     if b == 0 {
-        return 0;
+        return b;
     }
     table[(log_in(logs, a) + log_in(logs, b)) % ORDER]
 }

@@ -1,9 +1,10 @@
-// The record store for C: each call on a lent store, and its number. include/lhrs.h declares them.
+// The record store and the byte coder for C: each call on lent bytes, and its number. include/lhrs.h declares them.
 pub mod lay_out;
 
 ghost use mathlib.Core.Path.{_≡_};
 ghost use Rattle.model.specs.Numbers.{Call};
 ghost use Rattle.model.specs.Perform.{outcome, plain, copied, listed, perform, layOut};
+ghost use Rattle.coder.specs.Segment.{ending, rebuildSegment};
 
 #[no_mangle]
 pub extern "C" fn lhrs_lay_out(store: &mut [u8], b: u32) -> u8
@@ -84,4 +85,12 @@ pub extern "C" fn lhrs_raise(store: &mut [u8]) -> u8
     ensures { λ r. ⌜ outcome (plain r) (now (store .exit)) ≡ perform (now (store .entry)) Call.raise ⌝ }
 {
     splitting::raise(store)
+}
+
+// The byte coder, which takes no store.
+#[no_mangle]
+pub extern "C" fn lhrs_rebuild_segment(members: &mut [u8], marks: &mut [u8], m: u32) -> u8
+    ensures { λ r. ⌜ ending r (now (members .exit)) (now (marks .exit)) ≡ rebuildSegment m (now (members .entry)) (now (marks .entry)) ⌝ }
+{
+    coder::rebuild(members, marks, m)
 }

@@ -1,8 +1,12 @@
-//! A second implementation of the record store, written from document 01, the requests of document 02
-//! that have landed, and the readings of both in docs/DECISIONS.md.
+//! A second implementation of the record store and of the byte coder beside it, written from document
+//! 01, the requests of document 02 that have landed, and the readings of both in docs/DECISIONS.md.
 //!
 //! `ledger` and `store` are independent of each other: each has its own field arithmetic, its own
 //! coefficients and its own addressing rule. The tests hold them to each other.
+//!
+//! `segment` is the byte coder, by schoolbook arithmetic: products by the polynomial rule, inverses by
+//! search, and the polynomial through the members by Newton's divided differences. It shares nothing
+//! with the other two.
 
 pub mod call;
 pub mod compare;
@@ -10,4 +14,5 @@ pub mod generate;
 pub mod hallrun;
 pub mod ledger;
 pub mod random;
+pub mod segment;
 pub mod store;

@@ -5,7 +5,7 @@ use std::process::{Command, Output};
 
 fn compare(fault: Option<&str>) -> Output {
     let mut command = Command::new(env!("CARGO_BIN_EXE_compare"));
-    command.args(["400", "600"]).env_remove("LHRS_FAULT");
+    command.args(["400", "600", "1200"]).env_remove("LHRS_FAULT");
     command.envs(fault.map(|name| ("LHRS_FAULT", name)));
     command.output().expect("compare runs")
 }

@@ -13,10 +13,10 @@ use Rattle.field256.proofs.mul_in.Statement.{statement}
 use Rattle.field256.proofs.mul_in.Tie as tie
 
 returns : tie.Need-returns
-returns c = sym (ap (λ (x : ℕ). product x (c .before .args .b)) (c .if1 .taken) ∙ zero-product 8 285 (c .before .args .b))
+returns c = c .if1 .taken ∙ sym (ap (λ (x : ℕ). product x (c .before .args .b)) (c .if1 .taken) ∙ zero-product 8 285 (c .before .args .b))
 
 returns-2 : tie.Need-returns-2
-returns-2 c = sym (ap (product (c .before .before .args .a)) (c .if2 .taken) ∙ product-zero 8 285 (c .before .before .args .a))
+returns-2 c = c .if2 .taken ∙ sym (ap (product (c .before .before .args .a)) (c .if2 .taken) ∙ product-zero 8 285 (c .before .before .args .a))
 
 returns-3 : tie.Need-returns-3
 returns-3 c =

@@ -1,7 +1,8 @@
-//! Compares the store under its C names with the reference: `compare [HISTORIES [DAMAGED]]`.
+//! Compares the store and the byte coder under their C names with the reference:
+//! `compare [HISTORIES [DAMAGED [SEGMENTS]]]`.
 //! The last line counts the differences; the exit status is 1 if there are any.
 
-use reference::compare::{compare_code, minimal, run, Tally};
+use reference::compare::{compare_code, compare_segments, minimal, run, SegmentsOutcome, Tally};
 use reference::generate::cases::{damaged_case, history_case};
 use std::sync::atomic::{AtomicUsize, Ordering};
 use std::{env, process, thread};
@@ -21,14 +22,16 @@ fn main() {
     let mut counts = env::args().skip(1).map(|word| word.parse().expect("a number of cases"));
     let histories = counts.next().unwrap_or(6_000);
     let damaged = counts.next().unwrap_or(24_000);
+    let segments = counts.next().unwrap_or(24_000);
     let code_differs = report_code();
+    let segments_differ = report_segments(segments);
     let total = compare(histories, damaged);
     print!("{}", total.tally);
     if let Some(&first) = total.differing.iter().min() {
         print_difference(first, histories);
     }
     let calls = total.tally.calls();
-    let differences = total.differing.len() + code_differs as usize;
+    let differences = total.differing.len() + code_differs as usize + segments_differ as usize;
     println!("compared: {histories} histories, {damaged} damaged stores, {calls} calls, {differences} differences");
     process::exit((differences > 0) as i32);
 }
@@ -41,6 +44,20 @@ fn report_code() -> bool {
         println!("the code layer differs: {words}");
     }
     code.difference.is_some()
+}
+
+/// Compares the byte coder; true where it differs.
+fn report_segments(count: usize) -> bool {
+    let outcome = compare_segments(count);
+    let SegmentsOutcome { granted, bad, beyond, .. } = outcome;
+    println!("all products, and {count} segments: {granted} granted, {bad} refused with 2, {beyond} with 8");
+    if let Some(words) = &outcome.product {
+        println!("the byte coder differs: {words}");
+    }
+    if let Some((segment, words)) = &outcome.difference {
+        println!("the byte coder differs: {words}; {segment}");
+    }
+    outcome.differs()
 }
 
 fn case(index: usize, histories: usize) -> reference::compare::case::Case {

@@ -47,11 +47,12 @@ impl Arena {
         room.iter_mut().skip(at).zip(content).for_each(|(byte, new)| *byte = *new);
     }
 
-    /// The first byte in which two arenas of one shape differ, in words.
-    pub fn difference(&self, expected: &Arena, name: &str) -> Option<String> {
-        let pairs = self.bytes.iter().zip(&expected.bytes).enumerate();
-        let (at, (got, due)) = pairs.into_iter().find(|(_, (a, b))| a != b)?;
+    /// Whether two arenas of one shape are the same; if not, the first byte that differs, in words.
+    pub fn same(&self, expected: &Arena, name: &str) -> Result<(), String> {
+        let mut pairs = self.bytes.iter().zip(&expected.bytes);
+        let Some(at) = pairs.position(|(got, due)| got != due) else { return Ok(()) };
+        let (got, due) = (self.bytes[at], expected.bytes[at]);
         let at = at as isize - self.front as isize;
-        Some(format!("byte {at} of the {name} is {got:02X}, expected {due:02X}"))
+        Err(format!("byte {at} of the {name} is {got:02X}, expected {due:02X}"))
     }
 }

@@ -1,9 +1,11 @@
-//! This crate's byte store under the C names of the store under test, so that the comparison and
-//! the C programs can be tried on it.
+//! This crate's byte store and byte coder under the C names of those under test, so that the
+//! comparison and the C programs can be tried on them.
 
 use super::faults::{seeded, spoil};
 use super::misplaced::read_misses;
+use super::segment_faults::rebuild_or_fail;
 use crate::call::Kind;
+use crate::segment::field;
 use crate::store::{self, matrix};
 use std::slice;
 
@@ -157,4 +159,23 @@ unsafe extern "C" fn lhrs_shrink(store: *mut u8, len: usize) -> u8 {
 #[no_mangle]
 unsafe extern "C" fn lhrs_raise(store: *mut u8, len: usize) -> u8 {
     spoil(Kind::Raise, lent_mut(store, len), store::raise)
+}
+
+#[no_mangle]
+unsafe extern "C" fn lhrs_rebuild_segment(
+    members: *mut u8,
+    members_len: usize,
+    marks: *mut u8,
+    marks_len: usize,
+    m: u32,
+) -> u8 {
+    rebuild_or_fail(lent_mut(members, members_len), lent_mut(marks, marks_len), m)
+}
+
+#[no_mangle]
+extern "C" fn compared_product(a: u8, b: u8) -> u8 {
+    if seeded("zero-with-logarithm-0") {
+        return field::product(a.max(1), b.max(1));
+    }
+    field::product(a, b)
 }

@@ -4,6 +4,7 @@ use super::misplaced::{
     decimal_digits, digits_as_symbols, grow_by_the_key, key_itself, placed_by_the_key_accepted,
     seven_digits, teach_by, teach_compares_sums,
 };
+use super::segment_faults::SEGMENT_FAULTS;
 use crate::call::Kind;
 use crate::store;
 use crate::store::layout::{check_at, length, state_at, unit_range, View};
@@ -110,7 +111,7 @@ const FAULTS: [Fault; 25] = [
 ];
 
 /// Faults by an argument, or of what is handed back beside a number: `exports` asks for them by name.
-const SEEDED: [&str; 8] = [
+const SEEDED: [&str; 9] = [
     "read-by-the-key-itself",
     "list-invents-its-count",
     "list-leaves-the-count-when-refused",
@@ -119,10 +120,12 @@ const SEEDED: [&str; 8] = [
     "rebuild-leaves-data-when-refused",
     "rebuild-without-column-16",
     "a-wrong-coefficient",
+    "zero-with-logarithm-0",
 ];
 
 pub fn fault_names() -> impl Iterator<Item = &'static str> {
-    FAULTS.iter().map(|(name, _, _)| *name).chain(SEEDED)
+    let of_calls = FAULTS.iter().map(|(name, _, _)| *name);
+    of_calls.chain(SEEDED).chain(SEGMENT_FAULTS.iter().map(|(name, _)| *name))
 }
 
 /// Whether the fault of this name is chosen.
@@ -131,7 +134,7 @@ pub fn seeded(name: &str) -> bool {
     name_chosen() == Some(name)
 }
 
-fn name_chosen() -> Option<&'static str> {
+pub fn name_chosen() -> Option<&'static str> {
     static CHOSEN: OnceLock<Option<String>> = OnceLock::new();
     let chosen = CHOSEN.get_or_init(|| {
         let name = env::var("LHRS_FAULT").ok()?;

@@ -1,4 +1,5 @@
-//! The comparison of a store under its C names with the reference, call by call.
+//! The comparison of a store, and of the byte coder beside it, under their C names with the reference,
+//! call by call.
 
 #[cfg(feature = "subject")]
 mod arena;
@@ -17,6 +18,10 @@ mod misplaced;
 mod returned;
 #[cfg(feature = "subject")]
 mod run;
+#[cfg(feature = "self")]
+mod segment_faults;
+#[cfg(feature = "subject")]
+mod segments;
 #[cfg(feature = "subject")]
 mod subject;
 
@@ -30,6 +35,8 @@ pub use minimal::minimal;
 pub use returned::Tally;
 #[cfg(feature = "subject")]
 pub use run::{run, Outcome};
+#[cfg(feature = "subject")]
+pub use segments::{compare_segments, SegmentsOutcome};
 
 #[cfg(all(feature = "self", feature = "library"))]
 compile_error!("the features self and library both provide the C names: choose one");

@@ -74,8 +74,8 @@ impl Run {
             return Err(format!("{returned}, expected {expected}"));
         }
         self.tally.add(call.kind(), returned);
-        same(&self.subject, &self.reference, "store")?;
-        same(&lent, &expected_lent, "body or output")?;
+        self.subject.same(&self.reference, "store")?;
+        lent.same(&expected_lent, "body or output")?;
         if let Call::ReadInPlace { key } = call {
             self.place(*key)?;
         }
@@ -166,13 +166,6 @@ fn perform(bytes: &mut [u8], call: &Call, lent: &mut Arena) -> Returned {
         }
         _ => Returned::Number(store::perform(bytes, call).number().expect("a number is returned")),
     }
-}
-
-fn same(got: &Arena, expected: &Arena, name: &str) -> Result<(), String> {
-    if got == expected {
-        return Ok(());
-    }
-    Err(got.difference(expected, name).expect("arenas of one shape"))
 }
 
 fn agree(returned: Returned, ledger: Returned) -> Result<(), String> {

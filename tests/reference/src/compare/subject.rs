@@ -1,4 +1,4 @@
-//! The store under test, by its C names.
+//! The store and the byte coder under test, by their C names.
 
 use super::arena::Arena;
 use super::returned::Returned;
@@ -23,6 +23,13 @@ extern "C" {
     fn lhrs_grow(store: *mut u8, len: usize) -> u8;
     fn lhrs_shrink(store: *mut u8, len: usize) -> u8;
     fn lhrs_raise(store: *mut u8, len: usize) -> u8;
+    fn lhrs_rebuild_segment(
+        members: *mut u8,
+        members_len: usize,
+        marks: *mut u8,
+        marks_len: usize,
+        m: u32,
+    ) -> u8;
 }
 
 // What crate comparing exports for these comparisons.
@@ -36,6 +43,7 @@ extern "C" {
     ) -> usize;
     fn compared_rebuild(columns: *const u8, symbols: *const u8, data: *mut u8) -> u8;
     fn compared_coefficient(place: usize, column: usize) -> u8;
+    fn compared_product(a: u8, b: u8) -> u8;
 }
 
 /// Makes a call on the first `len` bytes of a store's arena. `lent` is the arena of the body or of
@@ -77,4 +85,16 @@ pub fn rebuild(columns: &mut Arena, symbols: &mut Arena, data: &mut Arena) -> u8
 /// The entry of the matrix of a place, 0 to 3, and a column, 0 to 16.
 pub fn coefficient(place: usize, column: usize) -> u8 {
     unsafe { compared_coefficient(place, column) }
+}
+
+/// Rebuilds a segment; the arenas hold its members and its marks.
+pub fn rebuild_segment(members: &mut Arena, marks: &mut Arena, m: u32) -> u8 {
+    let (members_len, marks_len) = (members.capacity(), marks.capacity());
+    // The arenas hold the slices whole, and they are different allocations.
+    unsafe { lhrs_rebuild_segment(members.start(), members_len, marks.start(), marks_len, m) }
+}
+
+/// The product of two bytes in the field of the byte coder.
+pub fn product(a: u8, b: u8) -> u8 {
+    unsafe { compared_product(a, b) }
 }

@@ -1,4 +1,4 @@
-//! Generators with fixed seeds: histories, damaged stores, inputs of hallrun.
+//! Generators with fixed seeds: histories, damaged stores, inputs of hallrun, segments.
 
 mod arguments;
 pub mod cases;
@@ -7,6 +7,7 @@ pub mod fixed;
 mod history;
 pub mod lines;
 mod losses;
+pub mod segments;
 
 pub use history::{history, short_history};
 pub use losses::{losses, LOSSES};

@@ -5,8 +5,7 @@ use lib.ListN.{getD}
 use borrow.Author.Needs.{needs}
 use Rattle.buffer.specs.LoopWrites.{Filling, filling-start, filling-turn, filling-written}
 use Rattle.coder.specs.Weights.{headroom, weightOf}
-use Rattle.coder.specs.WeightLaws.{others-le}
-use Rattle.coder.proofs.Logs.{apart-pos, taken-le, weight-read}
+use Rattle.coder.proofs.Logs.{apart-pos, sum-bounded, taken-le, weight-read}
 use Rattle.coder.proofs.weights.fill_weights.Statement.{statement}
 use Rattle.coder.proofs.weights.fill_weights.Tie as tie
 
@@ -17,10 +16,7 @@ abbrev μ-loop : tie.MeasureT-loop
 μ-loop weights₀ table logs points others m q all i₀ weights i = m - i
 
 add-all : tie.Need-add-all Inv-loop μ-loop
-add-all c =
-    let start = c .before .before in
-    let a = start .args in
-    omega (arith, c .log-others .ensures, others-le (a .q) (a .points .now) (a .m), start .pre .3)
+add-all c = omega (arith, sum-bounded _ _ _ _ (c .log-others .ensures), c .before .before .pre .3)
 
 log-in-requires : tie.Need-log-in-requires Inv-loop μ-loop
 log-in-requires c κs =
