@@ -2,7 +2,7 @@
 -- missing one is the value of the polynomial that the chosen ones fix. Data have such a polynomial (proofs/Columns), so their segment is given back.
 -- Assumes nothing.
 use mathlib.Core.Path.{_≡_, refl, sym, ap, ap₂, _∙_, subst}
-use mathlib.Core.Bool.{true, _&&_}
+use mathlib.Core.Bool.{true, false, _&&_}
 use mathlib.Core.List.{List, [], _∷_, _++_, map}
 use Prim.Native.Nat.{ℕ, suc, _+_, _*_, _-_, _/_, _≤_, _<_}
 use native.Mathlib.Nat.{mul-le-mul-left, mul-div-cancel, mul-add}
@@ -12,7 +12,7 @@ use lib.ListN.{length, length-append}
 use lib.Seq.{length-take-le}
 use borrow.Author.Tests.{le-leb, leb-true, lt-ltb, ltb-true, eq-eqb, eqb-true}
 use Rattle.buffer.specs.Choice.{pick}
-use Rattle.buffer.specs.ChoiceLaws.{by-pick, pick-true}
+use Rattle.buffer.specs.ChoiceLaws.{by-pick, pick-true, pick-false}
 use Rattle.buffer.specs.TestLaws.{and-true, and-first, and-second}
 use Rattle.buffer.specs.Bytes.{byte, part}
 use Rattle.buffer.specs.ByteLaws.{byte-part}
@@ -26,10 +26,11 @@ use Rattle.coder.specs.Segment.{largestGroup, mostMembers, sizesFit, mar
 use Rattle.coder.specs.Segment.{member, memberByte, memberFrom, membersAfter, Ending, ending, rebuildSegment}
 use Rattle.coder.specs.Columns.{column, dataBytes, segmentOf}
 use Rattle.coder.specs.Claims.{Enough, Rebuilds}
-use Rattle.coder.specs.SegmentLaws.{Member, all-map, map-all, chosen-members, chosen-distinct}
+use Rattle.algebra.specs.Polynomial.{All}
+use Rattle.coder.specs.SegmentLaws.{Member, all-map, all-both, map-all, chosen-members, chosen-distinct}
 use Rattle.coder.specs.MemberLaws.{Fitting, fitting, over, member-byte, member-long, after, after-wide}
 use Rattle.coder.specs.PointLaws.{byte-low, all-entries}
-use Rattle.coder.proofs.Columns.{interpolated-only, columns}
+use Rattle.coder.proofs.Columns.{interpolated-only, coefficients, coefficients-long, coefficients-low, interpolated-value, interpolated-takes, columns}
 
 -- ---- members and their bytes
 module _ (len : ℕ) (s : List ℕ) where
@@ -79,6 +80,34 @@ module _ (m n len : ℕ) (s marks : List ℕ) (g : Enough m n len s marks) where
 
   kept : (c : ℕ) → c < n → present marks c ≡ true → member len (rebuildSegment m s marks .members) c ≡ member len s c
   kept c h e = member-chunk len _ n (after m marks len s) (ap (λ (x : Ending). x .members) ends) (after-wide m marks n len s (g .long)) c h ∙ pick-true e _ _
+
+  -- a missing member, by the polynomial through the first m present ones
+  module _ (b : Bytes s) (j : ℕ) (l : j < len) where
+    abbrev values : List ℕ
+    values = map (memberByte len s j) (chosen m marks)
+
+    abbrev through : List ℕ
+    through = coefficients (chosen m marks) values
+
+    serving : All (λ c. memberByte len s j c ≡ evaluate through c) (chosen m marks)
+    unfolding memberByte
+    serving =
+        all-both (λ c. memberByte len s j c ≡ interpolated (chosen m marks) values c) (λ c. c < 256) (λ c. memberByte len s j c ≡ evaluate through c)
+        (λ c e h. e ∙ interpolated-value (chosen m marks) values c h) (chosen m marks)
+        (interpolated-takes (memberByte len s j) (λ c. byte-low s b (len * c + j)) (chosen m marks) chosen-bytes (chosen-distinct marks m)) chosen-bytes
+
+    lost : (c : ℕ) → c < n → present marks c ≡ false → memberByte len (rebuildSegment m s marks .members) j c ≡ evaluate through c
+    unfolding memberFrom
+    lost c h e =
+        sym (member-byte len (rebuildSegment m s marks .members) c j l)
+        ∙ ap (λ (t : List ℕ). byte t j)
+        (member-chunk len _ n (after m marks len s) (ap (λ (x : Ending). x .members) ends) (after-wide m marks n len s (g .long)) c h ∙ pick-false e _ _)
+        ∙ getD-entries len (λ j. interpolated (chosen m marks) (map (memberByte len s j) (chosen m marks)) c) j 0 l
+        ∙ interpolated-value (chosen m marks) values c (omega (arith, fits .few))
+
+    served : (p : List ℕ) × (length p ≡ m) × Bytes p × All (λ c. memberByte len s j c ≡ evaluate p c) (chosen m marks)
+        × ((c : ℕ) → c < n → present marks c ≡ false → memberByte len (rebuildSegment m s marks .members) j c ≡ evaluate p c)
+    served = (through, coefficients-long (chosen m marks) values ∙ chosen-long, coefficients-low (chosen m marks) values, serving, lost)
 
   -- members of one polynomial a byte
   module _ (f : ℕ → List ℕ) (low : (j : ℕ) → j < len → Bytes (f j) × (length (f j) ≡ m))
@@ -283,6 +312,7 @@ refused m s marks =
 pub rebuilds : Rebuilds
 rebuilds = record {
   rebuilt = rebuilt;
+  from-the-first = served;
   returned = returned;
   encoded = encoded;
   begins = λ m n len d h few b e. segment-begins m len d few b n h e;

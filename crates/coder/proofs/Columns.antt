@@ -43,6 +43,43 @@ module _ (p : List ℕ) (b : Bytes p) where
       ∙ ap (λ (y : Byte). y .0) (lagrange-only gf256 (map point ps) function (is-polynomial ps e) (distinct-points ps l d) (point q))
       ∙ evaluate-is p b q h
 
+-- ---- the polynomial with any values, wrong ones too, at any points
+module _ (ps ys : List ℕ) where
+  its : IsPolynomial gf256 (length (map point ps)) (lagrange gf256 [] (map point ps) (map element ys))
+  its = lagrange-polynomial gf256 (map point ps) (map element ys)
+
+  pub coefficients : List ℕ
+  coefficients = map (λ (a : Byte). a .0) (its .poly)
+
+  pub coefficients-long : length coefficients ≡ length ps
+  unfolding coefficients
+  coefficients-long = length-map (its .poly) (λ (a : Byte). a .0) ∙ its .long ∙ length-map ps point
+
+  pub coefficients-low : Bytes coefficients
+  unfolding coefficients
+  coefficients-low = numbers-low (its .poly)
+
+  pub interpolated-value : (c : ℕ) → c < 256 → interpolated ps ys c ≡ evaluate coefficients c
+  unfolding interpolated coefficients
+  interpolated-value c h =
+      ap (λ (y : Byte). y .0) (sym (its .is (point c)))
+      ∙ ap (λ (l : List Byte). (value gf256 l (point c)) .0) (sym (elements-are (its .poly)))
+      ∙ evaluate-is (map (λ (a : Byte). a .0) (its .poly)) (numbers-low (its .poly)) c h
+
+-- it has these values
+takes-all : (g : Point Byte → Byte) (h : ℕ → ℕ) → ((c : ℕ) → h c < 256) → (ps : List ℕ) → Takes gf256 g (map point ps) (map element (map h ps))
+    → All (λ c. h c ≡ (g (point c)) .0) ps
+takes-all g h low [] t = tt
+takes-all g h low (c ∷ ps) t = (sym (ap (λ (y : Byte). y .0) (t .0) ∙ small (h c) (low c)), takes-all g h low ps (t .1))
+
+pub interpolated-takes : (h : ℕ → ℕ) → ((c : ℕ) → h c < 256) → (ps : List ℕ) → Bytes ps → Distinct ps
+    → All (λ c. h c ≡ interpolated ps (map h ps) c) ps
+unfolding interpolated
+interpolated-takes h low ps b d =
+    takes-all (lagrange gf256 [] (map point ps) (map element (map h ps))) h low ps
+    (lagrange-takes gf256 (map point ps) (map element (map h ps))
+    (length-map ps point ∙ sym (length-map (map h ps) element ∙ length-map ps h)) (distinct-points ps b d))
+
 -- ---- the polynomial of data, through the points 0 to m - 1
 abbrev firsts : ℕ → List (Point Byte)
 firsts m = map point (entries m (λ k. k))
@@ -84,22 +121,9 @@ rule p b h c l =
     ap₂ (λ (n : ℕ) (ys : List ℕ). interpolated (entries n (λ k. k)) ys c) (length-entries m (evaluate p)) (sym (map-entries (evaluate p) m (λ k. k)))
     ∙ interpolated-only p b (entries m (λ k. k)) (firsts-low m h) (firsts-distinct m) (sym (length-entries m (λ k. k))) c l
 
-module _ (ds : List ℕ) where
-  abbrev its : IsPolynomial gf256 (length (firsts (length ds))) (through (length ds) ds)
-  its = lagrange-polynomial gf256 (firsts (length ds)) (map element ds)
-
-  abbrev coefficients : List ℕ
-  coefficients = map (λ (a : Byte). a .0) (its .poly)
-
-  coefficients-long : length coefficients ≡ length ds
-  coefficients-long = length-map (its .poly) (λ (a : Byte). a .0) ∙ its .long ∙ firsts-long (length ds)
-
-  column-value : (c : ℕ) → c < 256 → column ds c ≡ evaluate coefficients c
-  column-value c h =
-      column-is (length ds) ds refl c
-      ∙ ap (λ (y : Byte). y .0) (sym (its .is (point c)))
-      ∙ ap (λ (l : List Byte). (value gf256 l (point c)) .0) (sym (elements-are (its .poly)))
-      ∙ evaluate-is coefficients (numbers-low (its .poly)) c h
+column-value : (ds : List ℕ) (c : ℕ) → c < 256 → column ds c ≡ evaluate (coefficients (entries (length ds) (λ k. k)) ds) c
+unfolding column
+column-value ds c h = interpolated-value (entries (length ds) (λ k. k)) ds c h
 
 its-data : (ds : List ℕ) → Bytes ds → length ds ≤ 256 → (k : ℕ) → k < length ds → column ds k ≡ getD ds k 0
 its-data ds b h k l =
@@ -123,7 +147,9 @@ numbers-same ds es bd be e = sym (numbers-are ds bd) ∙ ap (map (λ (a : Byte).
 pub columns : Columns
 columns = record {
   rule = rule;
-  polynomial = λ ds b h. (coefficients ds, coefficients-long ds, numbers-low (its ds .poly), column-value ds);
+  polynomial = λ ds b h.
+      let ps : List ℕ = entries (length ds) (λ k. k) in
+      (coefficients ps ds, coefficients-long ps ds ∙ length-entries (length ds) (λ k. k), coefficients-low ps ds, column-value ds);
   «data» = its-data;
   fixed = λ cs bc dc h ds es bd be ed ee a.
       let m : ℕ = length cs in

@@ -1,7 +1,7 @@
 -- What is claimed of the byte coder, by the value of polynomials (`evaluate`) alone: the columns' rule, that any m different columns fix the data, and
 -- that rebuilding returns just what was lost. proofs/Claims has the proofs.
 use mathlib.Core.Path.{_≡_}
-use mathlib.Core.Bool.{true}
+use mathlib.Core.Bool.{true, false}
 use mathlib.Core.List.{List, _++_}
 use Prim.Native.Nat.{ℕ, _*_, _-_, _≤_, _<_}
 use lib.Dec.{ltb}
@@ -12,7 +12,7 @@ use Rattle.buffer.specs.Bytes.{part}
 use Rattle.buffer.specs.Table.{tab}
 use Rattle.buffer.specs.Loops.{entries}
 use Rattle.coder.specs.Interpolated.{Bytes, evaluate}
-use Rattle.coder.specs.Segment.{sizesFit, marksFit, present, presents, member, memberByte, ending, rebuildSegment}
+use Rattle.coder.specs.Segment.{sizesFit, marksFit, present, presents, chosen, member, memberByte, ending, rebuildSegment}
 use Rattle.coder.specs.Columns.{column, segmentOf}
 
 -- ---- the columns
@@ -42,6 +42,11 @@ pub record Rebuilds : Type 0 where
   pub rebuilt : (m n len : ℕ) (s marks : List ℕ) → Enough m n len s marks → (f : ℕ → List ℕ) → ((j : ℕ) → j < len → Bytes (f j) × (length (f j) ≡ m))
       → ((c j : ℕ) → c < n → j < len → present marks c ≡ true → memberByte len s j c ≡ evaluate (f j) c)
       → rebuildSegment m s marks ≡ ending 0 (tab n (λ c. entries len (λ j. evaluate (f j) c))) (entries n (λ _. 1))
+  -- the first m present ones serve, whatever the members hold: byte by byte one polynomial of m bytes has their values, and the missing members are its
+  -- values at their points
+  pub from-the-first : (m n len : ℕ) (s marks : List ℕ) → Enough m n len s marks → Bytes s → (j : ℕ) → j < len
+      → (p : List ℕ) × (length p ≡ m) × Bytes p × All (λ c. memberByte len s j c ≡ evaluate p c) (chosen m marks)
+      × ((c : ℕ) → c < n → present marks c ≡ false → memberByte len (rebuildSegment m s marks .members) j c ≡ evaluate p c)
   -- the columns of any data, of which members are lost so that m are left: every byte is given back
   pub returned : (m n len : ℕ) (s marks : List ℕ) → Enough m n len s marks → (d : List ℕ) → Bytes d → length d ≡ len * m
       → ((c : ℕ) → c < n → present marks c ≡ true → member len s c ≡ member len (segmentOf m n len d) c)

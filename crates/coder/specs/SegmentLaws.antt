@@ -24,6 +24,10 @@ pub all-map {ℓ κ} : (P : ℕ → Type ℓ) (Q : ℕ → Type κ) → ((x : �
 all-map P Q f [] a = tt
 all-map P Q f (x ∷ l) a = (f x (a .0), all-map P Q f l (a .1))
 
+pub all-both {ℓ κ μ} : (P : ℕ → Type ℓ) (Q : ℕ → Type κ) (R : ℕ → Type μ) → ((x : ℕ) → P x → Q x → R x) → (l : List ℕ) → All P l → All Q l → All R l
+all-both P Q R f [] a b = tt
+all-both P Q R f (x ∷ l) a b = (f x (a .0) (b .0), all-both P Q R f l (a .1) (b .1))
+
 -- maps that agree on all of a list are the same on it
 pub map-all : (f g : ℕ → ℕ) (l : List ℕ) → All (λ x. f x ≡ g x) l → map f l ≡ map g l
 map-all f g [] a = refl
