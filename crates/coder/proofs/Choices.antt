@@ -7,8 +7,9 @@ use Prim.Native.Nat.{ℕ, _+_, _≤_, _<_}
 use native.Mathlib.Nat.{not-suc-le-zero}
 use native.Mathlib.Omega.{arith}
 use lib.ListN.{length, getD, set, take, length-append, length-set, List·getD-append}
-use lib.Seq.{getD-set-same, getD-set-other, getD-append-seam, length-take-le, getD-take, ext-getD}
+use lib.Seq.{getD-set-same, getD-append-seam, length-take-le, getD-take, ext-getD}
 use borrow.Author.Count.{below-more}
+use Rattle.coder.specs.ListLaws.{set-before}
 use Rattle.coder.specs.Segment.{largestGroup, present, presents, chosen}
 use Rattle.coder.specs.SegmentLaws.{presents-none, presents-more, presents-same}
 use Rattle.coder.specs.Choosing.{Choosing, Chosen}
@@ -57,9 +58,7 @@ module _ {marks points : List ℕ} {m c seen : ℕ} (g : Choosing marks points m
       }
     where
       before : (k : ℕ) → k < seen → getD (set points seen v) k 0 ≡ getD (presents marks (c + 1)) k 0
-      before k i =
-          let other : k ≡ seen → ⊥ = λ z. omega arith in
-          getD-set-other points seen k v 0 other ∙ g .taken k (omega arith) i ∙ earlier e k i
+      before k i = set-before points seen v k i ∙ g .taken k (omega arith) i ∙ earlier e k i
 
       here : getD (set points seen v) seen 0 ≡ getD (presents marks (c + 1)) seen 0
       here = getD-set-same points seen v 0 (omega (arith, g .long)) ∙ q ∙ last e

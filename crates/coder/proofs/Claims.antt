@@ -4,42 +4,42 @@
 use mathlib.Core.Path.{_≡_, refl, sym, ap, ap₂, _∙_, subst}
 use mathlib.Core.Bool.{true, false, _&&_}
 use mathlib.Core.List.{List, [], _∷_, _++_, map}
-use Prim.Native.Nat.{ℕ, suc, _+_, _*_, _-_, _/_, _≤_, _<_}
-use native.Mathlib.Nat.{mul-le-mul-left, mul-div-cancel, mul-add}
+use Prim.Native.Nat.{ℕ, _+_, _*_, _-_, _/_, _≤_, _<_}
+use native.Mathlib.Nat.{mul-div-cancel, mul-add}
 use native.Mathlib.Omega.{arith}
 use lib.Dec.{ltb, leb}
 use lib.ListN.{length, length-append}
 use lib.Seq.{length-take-le}
-use borrow.Author.Tests.{le-leb, leb-true, lt-ltb, ltb-true, eq-eqb, eqb-true}
+use borrow.Author.Tests.{le-leb, lt-ltb, ltb-true, eq-eqb, eqb-true}
+use Rattle.algebra.specs.Polynomial.{All}
 use Rattle.buffer.specs.Choice.{pick}
 use Rattle.buffer.specs.ChoiceLaws.{by-pick, pick-true, pick-false}
-use Rattle.buffer.specs.TestLaws.{and-true, and-first, and-second}
 use Rattle.buffer.specs.Bytes.{byte, part}
-use Rattle.buffer.specs.ByteLaws.{byte-part}
-use Rattle.buffer.specs.SpliceLaws.{length-part, part-left, part-seam}
+use Rattle.buffer.specs.SpliceLaws.{part-left, part-seam}
 use Rattle.buffer.specs.Table.{tab}
-use Rattle.buffer.specs.TableLaws.{Wide, tab-ext, tab-append, tab-parts, part-chunk, length-tab}
+use Rattle.buffer.specs.TableLaws.{Wide, tab-ext, tab-append, part-chunk, length-tab}
 use Rattle.buffer.specs.Loops.{entries}
 use Rattle.buffer.specs.RangeLaws.{all-holds, length-entries, getD-entries, entries-ext, entries-of}
 use Rattle.coder.specs.Interpolated.{Bytes, evaluate, interpolated}
-use Rattle.coder.specs.Segment.{largestGroup, mostMembers, sizesFit, marksFit, present, presents, chosen}
+use Rattle.coder.specs.Segment.{sizesFit, marksFit, present, presents, chosen}
 use Rattle.coder.specs.Segment.{member, memberByte, memberFrom, membersAfter, Ending, ending, rebuildSegment}
 use Rattle.coder.specs.Columns.{column, dataBytes, segmentOf}
 use Rattle.coder.specs.Claims.{Enough, Rebuilds}
-use Rattle.algebra.specs.Polynomial.{All}
-use Rattle.coder.specs.SegmentLaws.{Member, all-map, all-both, map-all, chosen-members, chosen-distinct}
-use Rattle.coder.specs.MemberLaws.{Fitting, fitting, over, member-byte, member-long, after, after-wide}
-use Rattle.coder.specs.PointLaws.{byte-low, all-entries}
-use Rattle.coder.proofs.Columns.{interpolated-only, coefficients, coefficients-long, coefficients-low, interpolated-value, interpolated-takes, columns}
+use Rattle.coder.specs.ListLaws.{all-map, all-both, all-entries}
+use Rattle.coder.specs.SegmentLaws.{Member, chosen-members, chosen-distinct, chosen-map}
+use Rattle.coder.specs.MemberLaws.{Fitting, fitting, member-in, member-byte, member-long, members-are, after, after-wide, call-granted}
+use Rattle.coder.specs.PointLaws.{byte-low}
+use Rattle.coder.proofs.Columns.{interpolated-only, coefficients, coefficients-long, coefficients-low, interpolated-value, interpolated-takes}
+use Rattle.coder.proofs.Columns.{columns}
+
+-- the first m parts of a table, and the others
+tab-split : (m n : ℕ) (f : ℕ → List ℕ) → m ≤ n → tab n f ≡ tab m f ++ tab (n - m) (λ k. f (m + k))
+tab-split m n f h = let e : n ≡ m + (n - m) = omega arith in ap (λ (k : ℕ). tab k f) e ∙ tab-append m (n - m) f
 
 -- ---- members and their bytes
 module _ (len : ℕ) (s : List ℕ) where
   member-is : (n c : ℕ) (f : ℕ → ℕ) → length s ≡ len * n → c < n → ((j : ℕ) → j < len → memberByte len s j c ≡ f j) → member len s c ≡ entries len f
   member-is n c f e h k = entries-of (member len s c) len f (member-long len s n c e h) (λ j l. member-byte len s c j l ∙ k j l)
-
-  members-are : (n : ℕ) → length s ≡ len * n → tab n (member len s) ≡ s
-  unfolding member
-  members-are n e = tab-parts n len s e
 
   member-chunk : (n : ℕ) (f : ℕ → List ℕ) → s ≡ tab n f → Wide n len f → (c : ℕ) → c < n → member len s c ≡ f c
   unfolding member
@@ -53,9 +53,6 @@ module _ (m n len : ℕ) (s marks : List ℕ) (g : Enough m n len s marks) where
   length-is : length s / length marks ≡ len
   length-is = ap₂ (λ (a b : ℕ). a / b) (g .long) (g .count) ∙ mul-div-cancel len (omega (arith, fits .some, fits .within))
 
-  first-test : (sizesFit m (length marks) (length s) && marksFit marks) ≡ true
-  first-test = and-true (ap₂ (λ (a b : ℕ). sizesFit m a b) (g .count) (g .long) ∙ g .sizes) (g .marked)
-
   enough : m ≤ length (presents marks (length marks))
   enough = subst (λ (k : ℕ). m ≤ length (presents marks k)) (sym (g .count)) (g .enough)
 
@@ -64,10 +61,8 @@ module _ (m n len : ℕ) (s marks : List ℕ) (g : Enough m n len s marks) where
   members-after = ap (λ (l : ℕ). membersAfter m marks l s) length-is ∙ ap (λ (k : ℕ). tab k (after m marks len s)) (g .count)
 
   ends : rebuildSegment m s marks ≡ ending 0 (tab n (after m marks len s)) (entries n (λ _. 1))
-  unfolding rebuildSegment
   ends =
-      pick-true first-test _ _
-      ∙ pick-true (le-leb m (length (presents marks (length marks))) enough) _ _
+      call-granted m s marks (ap₂ (λ (a b : ℕ). sizesFit m a b) (g .count) (g .long) ∙ g .sizes) (g .marked) enough
       ∙ ap₂ (λ (t : List ℕ) (k : ℕ). ending 0 t (entries k (λ _. 1))) members-after (g .count)
 
   chosen-long : length (chosen m marks) ≡ m
@@ -116,10 +111,7 @@ module _ (m n len : ℕ) (s marks : List ℕ) (g : Enough m n len s marks) where
     wanted c = entries len (λ j. evaluate (f j) c)
 
     chosen-values : (j : ℕ) → j < len → map (memberByte len s j) (chosen m marks) ≡ map (evaluate (f j)) (chosen m marks)
-    chosen-values j l =
-        map-all (memberByte len s j) (evaluate (f j)) (chosen m marks)
-        (all-map (Member marks (length marks)) (λ p. memberByte len s j p ≡ evaluate (f j) p)
-        (λ p h. are p j (omega (arith, h .below, g .count)) l (h .is)) (chosen m marks) (chosen-members marks m))
+    chosen-values j l = chosen-map marks m (memberByte len s j) (evaluate (f j)) (λ p h. are p j (omega (arith, h .below, g .count)) l (h .is))
 
     missing : (c : ℕ) → c < n → memberFrom (chosen m marks) len s c ≡ wanted c
     unfolding memberFrom
@@ -184,9 +176,7 @@ module _ (m len : ℕ) (d : List ℕ) (few : m ≤ 256) (b : Bytes d) where
 
   segment-front : (n : ℕ) → m ≤ n → segmentOf m n len d ≡ tab m columnOf ++ tab (n - m) (λ k. columnOf (m + k))
   unfolding segmentOf
-  segment-front n h =
-      let e : n ≡ m + (n - m) = omega arith in
-      ap (λ (k : ℕ). tab k columnOf) e ∙ tab-append m (n - m) columnOf
+  segment-front n h = tab-split m n columnOf h
 
   segment-begins : (n : ℕ) → m ≤ n → length d ≡ len * m → part 0 (len * m) (segmentOf m n len d) ≡ d
   segment-begins n h e =
@@ -265,10 +255,7 @@ module _ (m n : ℕ) (inside : m ≤ n) where
   unfolding presents
   marks-enough =
       let own : ℕ → List ℕ = λ c. pick (present (firstMarks m n) c) (c ∷ []) [] in
-      let e : n ≡ m + (n - m) = omega arith in
-      let whole : presents (firstMarks m n) n ≡ presents (firstMarks m n) m ++ tab (n - m) (λ k. own (m + k)) =
-      ap (λ (k : ℕ). tab k own) e ∙ tab-append m (n - m) own in
-      omega (arith, ap length whole, length-append (presents (firstMarks m n) m) (tab (n - m) (λ k. own (m + k))), firsts-present)
+      omega (arith, ap length (tab-split m n own inside), length-append (presents (firstMarks m n) m) (tab (n - m) (λ k. own (m + k))), firsts-present)
 
 both-long : (m n len : ℕ) → m ≤ n → len * m + len * (n - m) ≡ len * n
 both-long m n len h = let e : m + (n - m) ≡ n = omega arith in sym (mul-add len m (n - m)) ∙ ap (λ (k : ℕ). len * k) e
@@ -289,7 +276,7 @@ module _ (m n len : ℕ) (sizes : sizesFit m n (len * n) ≡ true) (d rest : Lis
 
   member-left : (c : ℕ) → c < m → member len (d ++ rest) c ≡ member len d c
   unfolding member
-  member-left c h = part-left (len * c) len d rest (subst (λ (k : ℕ). len * c + len ≤ k) (sym e) (over len c m h))
+  member-left c h = part-left (len * c) len d rest (member-in len d m c e h)
 
   encoded : rebuildSegment m (d ++ rest) (firstMarks m n) ≡ ending 0 (segmentOf m n len d) (entries n (λ _. 1))
   encoded =

@@ -16,9 +16,8 @@ use Rattle.field256.specs.Gf256Laws.{Byte, gf256}
 use Rattle.coder.specs.Interpolated.{Bytes, evaluate, element, point, interpolated}
 use Rattle.coder.specs.Columns.{column}
 use Rattle.coder.specs.Claims.{Columns}
-use Rattle.coder.specs.SegmentLaws.{all-at, all-map}
-use Rattle.coder.specs.PointLaws.{small, elements-are, numbers-are, numbers-low, distinct-points, evaluate-low, evaluate-is}
-use Rattle.coder.specs.PointLaws.{map-entries, firsts-distinct, firsts-low}
+use Rattle.coder.specs.ListLaws.{all-map, map-entries, firsts-distinct}
+use Rattle.coder.specs.PointLaws.{small, elements-are, numbers-are, numbers-low, byte-low, distinct-points, evaluate-low, evaluate-is, firsts-low}
 
 -- ---- a polynomial from its values
 module _ (p : List ℕ) (b : Bytes p) where
@@ -131,7 +130,7 @@ its-data ds b h k l =
     column-is m ds refl k
     ∙ ap (λ (p : ℕ). (through m ds (point p)) .0) (sym (getD-entries m (λ k. k) k 0 l))
     ∙ takes-at (through m ds) (entries m (λ k. k)) ds (through-takes m ds refl h) k l
-    ∙ small (getD ds k 0) (all-at (λ x. x < 256) ds b k l)
+    ∙ small (getD ds k 0) (byte-low ds b k)
 
 -- from the columns as elements
 elements-fixed : (m : ℕ) (cs ds es : List ℕ) → Bytes cs → Distinct cs → length cs ≡ m → m ≤ 256 → length ds ≡ m → length es ≡ m

@@ -1,5 +1,7 @@
 pub mod Choices
 pub mod Logs
+pub mod Picking
+pub mod Adding
 pub mod Weighing
 pub mod Members
 pub mod Rebuilding

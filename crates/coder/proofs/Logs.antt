@@ -1,4 +1,5 @@
--- The laws of the loops that add up logarithms and look up weights. Assumes nothing.
+-- The loops that add up logarithms and look up weights. A reader wants `Adding`, what holds while the logarithms of differences are added up, with
+-- `adding-self` and `adding-other`; and `weight-read`: what is read from the table of powers is the weight. Assumes nothing.
 use mathlib.Core.Path.{_≡_, sym, _∙_, subst}
 use mathlib.Core.List.{List}
 use Prim.Native.Nat.{ℕ, _+_, _*_, _%_, _-_, _≤_, _<_}

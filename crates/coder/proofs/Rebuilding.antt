@@ -1,30 +1,32 @@
--- The loop over the members of a segment: those passed are as they will be, the others as they were. Assumes nothing.
-use mathlib.Core.Path.{_≡_, refl, sym, ap, ap₂, _∙_, subst}
+-- The loop over the members of a segment. A reader wants `Rebuilding`, what holds at each turn: the members passed are as they will be, the others as they
+-- were; with `rebuilding-start`, `turn-missing`, `turn-present` and `rebuilding-end`; and what the first m present members are as points (`points-small`,
+-- `points-distinct`, `points-away`, `points-placed`). Assumes nothing.
+use mathlib.Core.Path.{_≡_, refl, sym, ap, _∙_, subst}
 use mathlib.Core.Bool.{Bool, true, false}
-use mathlib.Core.List.{List, map}
-use Prim.Native.Nat.{ℕ, suc, _+_, _*_, _≤_, _<_}
+use mathlib.Core.List.{List}
+use Prim.Native.Nat.{ℕ, _+_, _*_, _≤_, _<_}
 use native.Mathlib.Omega.{arith}
 use lib.Dec.{ltb, eqb}
 use lib.ListN.{length, getD, set, take}
 use lib.Seq.{length-take-le, getD-take}
 use borrow.Author.Tests.{eq-eqb, ne-eqb, eqb-true, eqb-false, lt-ltb, le-ltb, ltb-true, ltb-false}
-use Rattle.algebra.specs.Polynomial.{All, Distinct}
+use Rattle.algebra.specs.Polynomial.{Distinct}
 use Rattle.buffer.specs.Choice.{pick}
 use Rattle.buffer.specs.ChoiceLaws.{pick-true, pick-false, pick-same, by-test, by-pick}
 use Rattle.buffer.specs.TestLaws.{not-both}
-use Rattle.buffer.specs.Bytes.{byte, part, splice}
-use Rattle.buffer.specs.ByteLaws.{byte-part}
+use Rattle.buffer.specs.Bytes.{byte, splice}
 use Rattle.buffer.specs.Table.{tab, upd}
-use Rattle.buffer.specs.TableLaws.{Wide, tab-ext, tab-parts, byte-tab, length-tab, splice-chunk, upd-at, upd-other}
+use Rattle.buffer.specs.TableLaws.{Wide, tab-ext, byte-tab, length-tab, splice-chunk, upd-at, upd-other}
 use Rattle.buffer.specs.Loops.{entries}
 use Rattle.buffer.specs.RangeLaws.{entries-ext}
 use Rattle.buffer.specs.LoopWrites.{Filling, filling-start, filling-turn, filling-read, filling-end}
+use Rattle.coder.specs.ListLaws.{all-at}
 use Rattle.coder.specs.Interpolated.{interpolated}
 use Rattle.coder.specs.Segment.{largestGroup, mostMembers, present, chosen, member, memberByte, memberFrom, membersAfter}
-use Rattle.coder.specs.SegmentLaws.{Member, all-at, all-map, map-all, chosen-members, chosen-distinct}
+use Rattle.coder.specs.SegmentLaws.{Member, chosen-members, chosen-distinct, chosen-map}
 use Rattle.coder.specs.Weights.{Away}
 use Rattle.coder.specs.Sums.{Placed, Small}
-use Rattle.coder.specs.MemberLaws.{over, member-long, after, after-wide}
+use Rattle.coder.specs.MemberLaws.{member-in, member-byte, member-long, members-are, after, after-wide}
 
 module _ (m : ℕ) (marks₀ : List ℕ) (len : ℕ) (s₀ : List ℕ) where
   -- member c in the end, and in turn i
@@ -41,14 +43,15 @@ module _ (m : ℕ) (marks₀ : List ℕ) (len : ℕ) (s₀ : List ℕ) where
 
   module _ (whole : length s₀ ≡ len * length marks₀) where
     now-long : (i : ℕ) → Wide (length marks₀) len (now i)
-    now-long i c h = by-pick (λ l. length l ≡ len) (ltb c i) (last c) (member len s₀ c) (λ e. after-wide m marks₀ (length marks₀) len s₀ whole c h) (λ e. member-long len s₀ (length marks₀) c whole h)
+    now-long i c h =
+        by-pick (λ l. length l ≡ len) (ltb c i) (last c) (member len s₀ c) (λ e. after-wide m marks₀ (length marks₀) len s₀ whole c h)
+        (λ e. member-long len s₀ (length marks₀) c whole h)
 
     pub rebuilding-start : (scratch : List ℕ) → length scratch ≡ len → Rebuilding s₀ marks₀ scratch 0
-    unfolding member
     rebuilding-start scratch e = record {
       width = e;
-      bytes = sym (tab-ext (length marks₀) (now 0) (λ c. part (len * c) len s₀) (λ c h. pick-false (le-ltb c 0 (omega arith)) (last c) (member len s₀ c))
-          ∙ tab-parts (length marks₀) len s₀ whole);
+      bytes = sym (tab-ext (length marks₀) (now 0) (member len s₀) (λ c h. pick-false (le-ltb c 0 (omega arith)) (last c) (member len s₀ c))
+          ∙ members-are len s₀ (length marks₀) whole);
       filling = filling-start;
     }
 
@@ -61,20 +64,18 @@ module _ (m : ℕ) (marks₀ : List ℕ) (len : ℕ) (s₀ : List ℕ) where
 
       -- present members are as they were, at any turn
       kept : (p j : ℕ) → Member marks₀ (length marks₀) p → j < len → memberByte len members j p ≡ memberByte len s₀ j p
-      unfolding memberByte member
+      unfolding memberByte
       kept p j h l =
+          let own = member len s₀ p in
           ap (λ (t : List ℕ). byte t (len * p + j)) (g .bytes) ∙ byte-tab (length marks₀) len (now i) (now-long i) p j (h .below) l
-          ∙ ap (λ (t : List ℕ). byte t j) (ap (λ (t : List ℕ). pick (ltb p i) t (member len s₀ p)) (pick-true (h .is) (member len s₀ p) _) ∙ pick-same (ltb p i) (member len s₀ p))
-          ∙ byte-part (len * p) len s₀ j l
+          ∙ ap (λ (t : List ℕ). byte t j) (ap (λ (t : List ℕ). pick (ltb p i) t own) (pick-true (h .is) own _) ∙ pick-same (ltb p i) own)
+          ∙ member-byte len s₀ p j l
 
       same-member : memberFrom (chosen m marks₀) len members i ≡ memberFrom (chosen m marks₀) len s₀ i
       unfolding memberFrom
       same-member =
-          entries-ext len (λ j. interpolated (chosen m marks₀) (map (memberByte len members j) (chosen m marks₀)) i)
-          (λ j. interpolated (chosen m marks₀) (map (memberByte len s₀ j) (chosen m marks₀)) i)
-          (λ j l. ap (λ (t : List ℕ). interpolated (chosen m marks₀) t i)
-          (map-all (memberByte len members j) (memberByte len s₀ j) (chosen m marks₀)
-          (all-map (Member marks₀ (length marks₀)) (λ p. memberByte len members j p ≡ memberByte len s₀ j p) (λ p h. kept p j h l) (chosen m marks₀) (chosen-members marks₀ m))))
+          entries-ext len _ _ (λ j l. ap (λ (t : List ℕ). interpolated (chosen m marks₀) t i)
+          (chosen-map marks₀ m (memberByte len members j) (memberByte len s₀ j) (λ p h. kept p j h l)))
 
       mark-read : getD marks i 0 ≡ byte marks₀ i
       mark-read = filling-read (g .filling)
@@ -87,23 +88,23 @@ module _ (m : ℕ) (marks₀ : List ℕ) (len : ℕ) (s₀ : List ℕ) where
         marked = filling-turn 1 (g .filling) h refl
 
         -- only member i changes from turn to turn
-        next : (x : List ℕ) → x ≡ last i → (c : ℕ) → upd (now i) i x c ≡ now (i + 1) c
-        next x e c =
-            by-test (λ _. upd (now i) i x c ≡ now (i + 1) c) (eqb c i)
-            (λ t.
-            let is : c ≡ i = eqb-true c i t in
-            upd-at (now i) i x c is ∙ e ∙ ap last (sym is) ∙ sym (pick-true (lt-ltb c (i + 1) (omega arith)) (last c) (member len s₀ c)))
-            (λ t.
-            let other : c ≡ i → ⊥ = eqb-false c i t in
-            upd-other (now i) i x c other ∙ ap (λ (b : Bool). pick b (last c) (member len s₀ c)) (later c other))
-          where
-            later : (c : ℕ) → (c ≡ i → ⊥) → ltb c i ≡ ltb c (i + 1)
-            later c n =
-                by-test (λ b. b ≡ ltb c (i + 1)) (ltb c i) (λ t. sym (lt-ltb c (i + 1) (omega (arith, ltb-true c i t))))
-                (λ t. let ge : i ≤ c = ltb-false c i t in sym (le-ltb c (i + 1) (omega arith)))
+        here : (c : ℕ) → c ≡ i → last i ≡ now (i + 1) c
+        here c is = ap last (sym is) ∙ sym (pick-true (lt-ltb c (i + 1) (omega arith)) (last c) (member len s₀ c))
+
+        elsewhere : (c : ℕ) → (c ≡ i → ⊥) → now i c ≡ now (i + 1) c
+        elsewhere c n =
+            ap (λ (b : Bool). pick b (last c) (member len s₀ c))
+            (by-test (λ b. b ≡ ltb c (i + 1)) (ltb c i) (λ t. sym (lt-ltb c (i + 1) (omega (arith, ltb-true c i t))))
+            (λ t. let ge : i ≤ c = ltb-false c i t in sym (le-ltb c (i + 1) (omega arith))))
+
+        -- a function that is member i in the end at i, and as in turn i elsewhere
+        next : (f : ℕ → List ℕ) → ((c : ℕ) → c ≡ i → f c ≡ last i) → ((c : ℕ) → (c ≡ i → ⊥) → f c ≡ now i c) → (c : ℕ) → f c ≡ now (i + 1) c
+        next f e o c =
+            by-test (λ _. f c ≡ now (i + 1) c) (eqb c i) (λ t. e c (eqb-true c i t) ∙ here c (eqb-true c i t))
+            (λ t. o c (eqb-false c i t) ∙ elsewhere c (eqb-false c i t))
 
         pub member-fits : length scratch * i + length scratch ≤ length members
-        member-fits = subst (λ (n : ℕ). length scratch * i + length scratch ≤ n) (sym members-whole) (over (length scratch) i (length marks₀) inside)
+        member-fits = member-in (length scratch) members (length marks₀) i members-whole inside
 
         pub absent : (getD marks i 0 ≡ 1 → ⊥) → present marks₀ i ≡ false
         absent n = ne-eqb (byte marks₀ i) 1 (λ z. n (mark-read ∙ z))
@@ -112,30 +113,27 @@ module _ (m : ℕ) (marks₀ : List ℕ) (len : ℕ) (s₀ : List ℕ) where
             → members′ ≡ splice (length scratch * i) (length scratch) (memberFrom ps (length scratch) members i) members
             → Rebuilding members′ (set marks i 1) scratch′ (i + 1)
         turn-missing ps members′ scratch′ are n e q =
+            let new = memberFrom (chosen m marks₀) len members i in
+            let is : new ≡ last i = same-member ∙ sym (pick-false (absent n) (member len s₀ i) (memberFrom (chosen m marks₀) len s₀ i)) in
             record {
               width = e ∙ g .width;
               bytes = q ∙ (λ k. splice (g .width k * i) (g .width k) (memberFrom (are k) (g .width k) members i) (g .bytes k))
-                  ∙ splice-chunk (length marks₀) len (now i) (now-long i) i (memberFrom (chosen m marks₀) len members i) inside
-                  ∙ tab-ext (length marks₀) _ (now (i + 1)) (λ c l. next (memberFrom (chosen m marks₀) len members i)
-                  (same-member ∙ sym (pick-false (absent n) (member len s₀ i) (memberFrom (chosen m marks₀) len s₀ i))) c);
+                  ∙ splice-chunk (length marks₀) len (now i) (now-long i) i new inside
+                  ∙ tab-ext (length marks₀) _ (now (i + 1))
+                  (λ c l. next (upd (now i) i new) (λ c t. upd-at (now i) i new c t ∙ is) (upd-other (now i) i new) c);
               filling = marked;
             }
 
-        pub turn-present : (members′ scratch′ : List ℕ) → getD marks i 0 ≡ 1 → members′ ≡ members → scratch′ ≡ scratch → Rebuilding members′ (set marks i 1) scratch′ (i + 1)
+        pub turn-present : (members′ scratch′ : List ℕ) → getD marks i 0 ≡ 1 → members′ ≡ members → scratch′ ≡ scratch
+            → Rebuilding members′ (set marks i 1) scratch′ (i + 1)
         turn-present members′ scratch′ p e q =
             let there : present marks₀ i ≡ true = eq-eqb (byte marks₀ i) 1 (sym mark-read ∙ p) in
             let stays : now i i ≡ last i = pick-false (le-ltb i i (omega arith)) (last i) (member len s₀ i) ∙ sym (pick-true there (member len s₀ i) _) in
             record {
               width = ap length q ∙ g .width;
-              bytes = e ∙ g .bytes ∙ tab-ext (length marks₀) (now i) (now (i + 1)) (λ c l. sym (unchanged c) ∙ next (now i i) stays c);
+              bytes = e ∙ g .bytes ∙ tab-ext (length marks₀) (now i) (now (i + 1)) (λ c l. next (now i) (λ c t. ap (now i) t ∙ stays) (λ c o. refl) c);
               filling = marked;
             }
-          where
-            unchanged : (c : ℕ) → upd (now i) i (now i i) c ≡ now i c
-            unchanged c =
-                by-test (λ _. upd (now i) i (now i i) c ≡ now i c) (eqb c i)
-                (λ t. upd-at (now i) i (now i i) c (eqb-true c i t) ∙ ap (now i) (sym (eqb-true c i t)))
-                (λ t. upd-other (now i) i (now i i) c (eqb-false c i t))
 
       pub rebuilding-end : length marks ≤ i → (members ≡ membersAfter m marks₀ len s₀) × (marks ≡ entries (length marks₀) (λ _. 1))
       unfolding membersAfter
@@ -145,7 +143,8 @@ module _ (m : ℕ) (marks₀ : List ℕ) (len : ℕ) (s₀ : List ℕ) where
       )
 
 -- ---- the points are the first m present members
-module _ (ps : List ℕ) (m : ℕ) (marks : List ℕ) (few : m ≤ largestGroup) (n64 : length marks ≤ mostMembers) (are : take m ps ≡ chosen m marks) (long : length ps ≡ largestGroup) where
+module _ (ps : List ℕ) (m : ℕ) (marks : List ℕ) (few : m ≤ largestGroup) (short : length marks ≤ mostMembers)
+    (are : take m ps ≡ chosen m marks) (long : length ps ≡ largestGroup) where
   taken : length (take m ps) ≡ m
   taken = length-take-le m ps (omega arith)
 
@@ -164,4 +163,4 @@ module _ (ps : List ℕ) (m : ℕ) (marks : List ℕ) (few : m ≤ largestGroup)
   points-away c e = record { away = λ k h z. not-both (point-at k h .is) (sym (ap (present marks) z) ∙ e) }
 
   pub points-placed : (len : ℕ) (s : List ℕ) → length s ≡ len * length marks → Placed len s ps m
-  points-placed len s e = record { fits = λ k h. subst (λ (n : ℕ). len * getD ps k 0 + len ≤ n) (sym e) (over len (getD ps k 0) (length marks) (point-at k h .below)) }
+  points-placed len s e = record { fits = λ k h. member-in len s (length marks) (getD ps k 0) e (point-at k h .below) }

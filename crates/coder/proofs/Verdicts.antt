@@ -1,16 +1,17 @@
--- How a call ends, from the tests of the code: refused with 2 or 8, or granted. Assumes nothing.
-use mathlib.Core.Path.{_≡_, refl, sym, ap₂, _∙_, subst}
+-- How a call ends, from the tests of the code. A reader wants `refused-sizes` and `refused-marks` (it returns 2), `refused-few` (8), `granted` (what the
+-- tests say of a call that goes on) and `rebuilt` (0). Assumes nothing.
+use mathlib.Core.Path.{_≡_, sym, ap₂, _∙_}
 use mathlib.Core.Bool.{true, false}
 use mathlib.Core.List.{List}
 use Prim.Native.Nat.{ℕ, _/_, _≤_, _<_}
 use native.Mathlib.Omega.{arith}
 use lib.ListN.{length}
-use borrow.Author.Tests.{le-leb, lt-leb}
+use borrow.Author.Tests.{lt-leb}
 use Rattle.buffer.specs.ChoiceLaws.{pick-true, pick-false}
 use Rattle.buffer.specs.TestLaws.{and-true, and-false-first, and-false-second}
 use Rattle.buffer.specs.Loops.{entries}
 use Rattle.coder.specs.Segment.{sizesFit, marksFit, presents, membersAfter, ending, rebuildSegment}
-use Rattle.coder.specs.MemberLaws.{fitting}
+use Rattle.coder.specs.MemberLaws.{fitting, call-granted}
 use Rattle.coder.specs.Choosing.{Chosen}
 use Rattle.coder.specs.Granted.{Granted}
 
@@ -23,7 +24,8 @@ module _ (m : ℕ) (s marks : List ℕ) where
   unfolding rebuildSegment
   refused-marks e = sym (pick-false (and-false-second (sizesFit m (length marks) (length s)) e) _ (ending 2 s marks))
 
-  module _ (sizes : sizesFit m (length marks) (length s) ≡ true) (fit : marksFit marks ≡ true) {points : List ℕ} {seen : ℕ} (g : Chosen marks points m seen) where
+  module _ (sizes : sizesFit m (length marks) (length s) ≡ true) (fit : marksFit marks ≡ true) {points : List ℕ} {seen : ℕ}
+      (g : Chosen marks points m seen) where
     pub refused-few : seen < m → ending 8 s marks ≡ rebuildSegment m s marks
     unfolding rebuildSegment
     refused-few h =
@@ -45,8 +47,4 @@ module _ (m : ℕ) (s marks : List ℕ) where
 
     pub rebuilt : m ≤ seen → (s′ marks′ : List ℕ) → s′ ≡ membersAfter m marks (length s / length marks) s → marks′ ≡ entries (length marks) (λ _. 1)
         → ending 0 s′ marks′ ≡ rebuildSegment m s marks
-    unfolding rebuildSegment
-    rebuilt h s′ marks′ e q =
-        ap₂ (ending 0) e q
-        ∙ sym (pick-true (and-true sizes fit) _ (ending 2 s marks)
-        ∙ pick-true (le-leb m (length (presents marks (length marks))) (omega (arith, g .count))) _ (ending 8 s marks))
+    rebuilt h s′ marks′ e q = ap₂ (ending 0) e q ∙ sym (call-granted m s marks sizes fit (omega (arith, g .count)))

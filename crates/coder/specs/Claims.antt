@@ -60,7 +60,8 @@ pub record Rebuilds : Type 0 where
   pub stays : (m n len : ℕ) (s marks : List ℕ) → Enough m n len s marks → (c : ℕ) → c < n → present marks c ≡ true
       → member len (rebuildSegment m s marks .members) c ≡ member len s c
   -- with none missing nothing changes
-  pub whole : (m n len : ℕ) (s marks : List ℕ) → Enough m n len s marks → ((c : ℕ) → c < n → present marks c ≡ true) → rebuildSegment m s marks ≡ ending 0 s marks
+  pub whole : (m n len : ℕ) (s marks : List ℕ) → Enough m n len s marks → ((c : ℕ) → c < n → present marks c ≡ true)
+      → rebuildSegment m s marks ≡ ending 0 s marks
   -- a refused call changes nothing
   pub refused : (m : ℕ) (s marks : List ℕ) → (rebuildSegment m s marks .number ≡ 0 → ⊥)
       → (rebuildSegment m s marks .members ≡ s) × (rebuildSegment m s marks .marks ≡ marks)

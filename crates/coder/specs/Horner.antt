@@ -46,8 +46,10 @@ pub horner-step : (n : ℕ) (v y : ℕ → ℕ) → ((k : ℕ) → k < n → v k
 unfolding total
 horner-step zero v y hv hy = ap (λ (x : ℕ). bitXor x 0) (product-zero 8 285 2)
 horner-step (suc n) v y hv hy =
-    ap (λ (x : ℕ). bitXor x (bitXor (total n (λ k. v k % 2 * y k)) (v n % 2 * y n))) (product-add 8 285 2 (total n (λ k. product (v k / 2) (y k))) (product (v n / 2) (y n)))
-    ∙ xor-swap (product 2 (total n (λ k. product (v k / 2) (y k)))) (product 2 (product (v n / 2) (y n))) (total n (λ k. v k % 2 * y k)) (v n % 2 * y n)
+    let halves : ℕ = total n (λ k. product (v k / 2) (y k)) in
+    let digits : ℕ = total n (λ k. v k % 2 * y k) in
+    ap (λ (x : ℕ). bitXor x (bitXor digits (v n % 2 * y n))) (product-add 8 285 2 halves (product (v n / 2) (y n)))
+    ∙ xor-swap (product 2 halves) (product 2 (product (v n / 2) (y n))) digits (v n % 2 * y n)
     ∙ ap₂ bitXor (horner-step n v y (λ k l. hv k (omega arith)) (λ k l. hy k (omega arith)))
     (sym (product-step (v n) (y n) (hv n (omega arith)) (hy n (omega arith))))
 

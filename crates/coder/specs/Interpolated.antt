@@ -1,6 +1,6 @@
 -- Polynomials over GF(256), and the value at a point of the one through given points. A reader wants `evaluate p x`, the value of a polynomial, and
 -- `interpolated ps ys q`: the value at q of the polynomial of degree below the number of the points ps that has the values ys there, by Lagrange's
--- formula. The formula need not be believed: that this is the one such polynomial's value is stated by `evaluate` alone (specs/Columns).
+-- formula. The formula need not be believed: that this is the one such polynomial's value is stated by `evaluate` alone (specs/Claims).
 use mathlib.Core.List.{List, [], _∷_, map}
 use Prim.Native.Nat.{ℕ, _%_, _<_}
 use native.Mathlib.Nat.{mod-lt}

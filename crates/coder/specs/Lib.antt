@@ -1,3 +1,4 @@
+pub mod ListLaws
 pub mod Interpolated
 pub mod PointLaws
 pub mod Segment

@@ -1,23 +1,26 @@
 -- The members of a segment as parts of one list: where they lie, their lengths and bytes, and those after a call. A reader wants `fitting` (what fitting
--- sizes say), `over` (members do not overlap), `member-byte`, `after` and `after-wide`.
-use mathlib.Core.Path.{_≡_, sym, ap, _∙_, subst}
-use mathlib.Core.Bool.{true, _&&_}
+-- sizes say), `over` (members do not overlap), `member-in`, `member-byte`, `members-are`, `after`, `after-wide` and `call-granted`.
+use mathlib.Core.Path.{_≡_, sym, _∙_, subst}
+use mathlib.Core.Bool.{true}
 use mathlib.Core.List.{List}
-use Prim.Native.Nat.{ℕ, suc, _+_, _*_, _/_, _%_, _≤_, _<_}
+use Prim.Native.Nat.{ℕ, _+_, _*_, _/_, _%_, _≤_, _<_}
 use native.Mathlib.Nat.{mul-suc, mul-le-mul-left, div-add-mod'}
 use native.Mathlib.Omega.{arith}
-use lib.Dec.{leb, eqb}
+use lib.Dec.{leb}
 use lib.ListN.{length}
-use borrow.Author.Tests.{leb-true, eqb-true}
+use borrow.Author.Tests.{le-leb, leb-true, eqb-true}
 use Rattle.buffer.specs.Choice.{pick}
-use Rattle.buffer.specs.ChoiceLaws.{by-pick}
-use Rattle.buffer.specs.TestLaws.{and-first, and-second}
+use Rattle.buffer.specs.ChoiceLaws.{by-pick, pick-true}
+use Rattle.buffer.specs.TestLaws.{and-true, and-first, and-second}
 use Rattle.buffer.specs.Bytes.{byte}
 use Rattle.buffer.specs.ByteLaws.{byte-part}
 use Rattle.buffer.specs.SpliceLaws.{length-part}
-use Rattle.buffer.specs.TableLaws.{Wide}
+use Rattle.buffer.specs.Table.{tab}
+use Rattle.buffer.specs.TableLaws.{Wide, tab-parts}
+use Rattle.buffer.specs.Loops.{entries}
 use Rattle.buffer.specs.RangeLaws.{length-entries}
-use Rattle.coder.specs.Segment.{largestGroup, mostMembers, longestMember, sizesFit, present, chosen, member, memberByte, memberFrom}
+use Rattle.coder.specs.Segment.{largestGroup, mostMembers, longestMember, sizesFit, marksFit, present, presents, chosen}
+use Rattle.coder.specs.Segment.{member, memberByte, memberFrom, membersAfter, ending, rebuildSegment}
 
 -- ---- sizes that fit
 pub record Fitting (m n bytes : ℕ) : Type 0 where
@@ -54,9 +57,16 @@ module _ (len : ℕ) (s : List ℕ) where
   unfolding member memberByte
   member-byte c j h = byte-part (len * c) len s j h
 
+  pub member-in : (n c : ℕ) → length s ≡ len * n → c < n → len * c + len ≤ length s
+  member-in n c e h = subst (λ (k : ℕ). len * c + len ≤ k) (sym e) (over len c n h)
+
   pub member-long : (n c : ℕ) → length s ≡ len * n → c < n → length (member len s c) ≡ len
   unfolding member
-  member-long n c e h = length-part (len * c) len s (subst (λ (k : ℕ). len * c + len ≤ k) (sym e) (over len c n h))
+  member-long n c e h = length-part (len * c) len s (member-in n c e h)
+
+  pub members-are : (n : ℕ) → length s ≡ len * n → tab n (member len s) ≡ s
+  unfolding member
+  members-are n e = tab-parts n len s e
 
 -- ---- member c after a call
 abbrev pub after : ℕ → List ℕ → ℕ → List ℕ → ℕ → List ℕ
@@ -67,3 +77,11 @@ unfolding memberFrom
 after-wide m marks n len s e c h =
     by-pick (λ l. length l ≡ len) (present marks c) (member len s c) (memberFrom (chosen m marks) len s c) (λ _. member-long len s n c e h)
     (λ _. length-entries len _)
+
+-- ---- how a call ends whose tests hold
+pub call-granted : (m : ℕ) (s marks : List ℕ) → sizesFit m (length marks) (length s) ≡ true → marksFit marks ≡ true
+    → m ≤ length (presents marks (length marks))
+    → rebuildSegment m s marks ≡ ending 0 (membersAfter m marks (length s / length marks) s) (entries (length marks) (λ _. 1))
+unfolding rebuildSegment
+call-granted m s marks e f h =
+    pick-true (and-true e f) _ _ ∙ pick-true (le-leb m (length (presents marks (length marks))) h) _ _

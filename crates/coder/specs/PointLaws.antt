@@ -1,6 +1,6 @@
 -- Bytes as elements and as points of the field. A user wants `evaluate-is`: the value at a point of the polynomial whose coefficients are bytes is the
--- number that `evaluate` gives; `distinct-points`: different bytes are different points; and that the numbers 0 to m - 1 are different bytes
--- (`firsts-low`, `firsts-distinct`). Assumes nothing.
+-- number that `evaluate` gives; `distinct-points`: different bytes are different points; and `firsts-low`: the numbers 0 to m - 1 are bytes. Assumes
+-- nothing.
 use mathlib.Core.Path.{_≡_, refl, sym, ap, ap₂, _∙_}
 use mathlib.Core.List.{List, [], _∷_, map}
 use Prim.Native.Nat.{ℕ, zero, suc, _%_, _≤_, _<_}
@@ -13,6 +13,7 @@ use Rattle.algebra.specs.Polynomial.{Point, fin, inf, All, Distinct, value}
 use Rattle.buffer.specs.Loops.{entries}
 use Rattle.field256.specs.Gf256.{product}
 use Rattle.field256.specs.Gf256Laws.{Byte, gf256, tested}
+use Rattle.coder.specs.ListLaws.{all-entries}
 use Rattle.coder.specs.Interpolated.{Bytes, evaluate, element, point}
 
 pub small : (x : ℕ) → x < 256 → x % 256 ≡ x
@@ -49,7 +50,8 @@ pub point-is : (p q : ℕ) → p < 256 → q < 256 → point p ≡ point q → p
 unfolding number
 point-is p q hp hq e = sym (small p hp) ∙ ap number e ∙ small q hq
 
-pub all-points : (P : ℕ → Type 0) (Q : Point Byte → Type 0) → ((p : ℕ) → p < 256 → P p → Q (point p)) → (ps : List ℕ) → Bytes ps → All P ps → All Q (map point ps)
+pub all-points : (P : ℕ → Type 0) (Q : Point Byte → Type 0) → ((p : ℕ) → p < 256 → P p → Q (point p)) → (ps : List ℕ) → Bytes ps → All P ps
+    → All Q (map point ps)
 all-points P Q h [] l a = tt
 all-points P Q h (p ∷ ps) l a = (h p (l .0) (a .0), all-points P Q h ps (l .1) (a .1))
 
@@ -72,28 +74,6 @@ unfolding evaluate
 evaluate-is [] b x h = refl
 evaluate-is (a ∷ p) b x h = ap₂ bitXor (small a (b .0)) (ap₂ product (small x h) (evaluate-is p (b .1) x h))
 
--- ---- the numbers f 0 to f (n - 1)
-pub all-entries {ℓ} : (P : ℕ → Type ℓ) (n : ℕ) (f : ℕ → ℕ) → ((k : ℕ) → k < n → P (f k)) → All P (entries n f)
-unfolding entries
-all-entries P zero f h = tt
-all-entries P (suc n) f h = (h 0 (omega arith), all-entries P n (λ k. f (suc k)) (λ k l. h (suc k) (omega arith)))
-
-pub map-entries : (g : ℕ → ℕ) (n : ℕ) (f : ℕ → ℕ) → map g (entries n f) ≡ entries n (λ k. g (f k))
-unfolding entries
-map-entries g zero f = refl
-map-entries g (suc n) f = ap (λ (t : List ℕ). g (f 0) ∷ t) (map-entries g n (λ k. f (suc k)))
-
--- rising numbers are different
-rising : (n : ℕ) (f : ℕ → ℕ) → ((i j : ℕ) → i < j → f i < f j) → Distinct (entries n f)
-unfolding entries
-rising zero f h = tt
-rising (suc n) f h = (
-  all-entries (λ y. y ≡ f 0 → ⊥) n (λ k. f (suc k)) (λ k l e. omega (arith, h 0 (suc k) (omega arith))),
-  rising n (λ k. f (suc k)) (λ i j l. h (suc i) (suc j) (omega arith)),
-)
-
-pub firsts-distinct : (m : ℕ) → Distinct (entries m (λ k. k))
-firsts-distinct m = rising m (λ k. k) (λ i j l. l)
-
+-- ---- the numbers 0 to m - 1
 pub firsts-low : (m : ℕ) → m ≤ 256 → Bytes (entries m (λ k. k))
 firsts-low m h = all-entries (λ k. k < 256) m (λ k. k) (λ k l. omega arith)

@@ -8,7 +8,7 @@ use lib.ListN.{length, getD}
 use Rattle.algebra.specs.XorSums.{total}
 use Rattle.buffer.specs.Bytes.{byte}
 use Rattle.field256.specs.Gf256.{product}
-use Rattle.coder.specs.Segment.{memberByte}
+use Rattle.coder.specs.Segment.{largestGroup, memberByte}
 
 -- the members of len bytes at the first m points ps are in s
 pub record Placed (len : ℕ) (s ps : List ℕ) (m : ℕ) : Type 0 where
@@ -46,9 +46,13 @@ digitSum len s ps ws b m j = total m (digitTerm len s ps ws b j)
 unfoldable pub weightedSum : ℕ → List ℕ → List ℕ → List ℕ → ℕ → ℕ → ℕ → ℕ
 weightedSum len s ps ws b m j = total m (λ k. product (getD ws k 0 / 2 ^ b) (memberByte len s j (getD ps k 0)))
 
+-- the places of a group's members, and four behind them
+abbrev pub roomForPlaces : ℕ
+roomForPlaces = largestGroup + 4
+
 -- k places and behind them four times `none`: the bytes from the k places on add up to the digit's sum
 pub record Picked (len : ℕ) (s ps ws : List ℕ) (b m none : ℕ) (places : List ℕ) (k : ℕ) : Type 0 where
-  pub long : length places ≡ 36
+  pub long : length places ≡ roomForPlaces
   pub few : k ≤ m
   pub fits : (t : ℕ) → t < k → getD places t 0 + len ≤ length s
   pub sums : (j : ℕ) → j < len → total k (λ t. byte s (getD places t 0 + j)) ≡ digitSum len s ps ws b m j

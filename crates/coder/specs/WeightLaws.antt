@@ -2,7 +2,7 @@
 -- values times these weights, for different points below 256, a group's number at most, and a q below 256 that is none of them.
 use mathlib.Core.Path.{_≡_, refl, sym, ap, ap₂, _∙_}
 use mathlib.Core.List.{List, [], _∷_, map}
-use Prim.Native.Nat.{ℕ, suc, _+_, _-_, _*_, _%_, _≤_, _<_}
+use Prim.Native.Nat.{ℕ, _+_, _-_, _*_, _%_, _≤_, _<_}
 use native.Mathlib.Omega.{arith}
 use lib.Bits.{bitXor, xor-self, xor-zero-l, xor-zero-r, xor-lt}
 use lib.Dec.{eqb, lt→ltb}
@@ -32,11 +32,6 @@ use Rattle.coder.specs.Weights.{logOther, logOthers, headroom, weightOf}
 -- q is none of the points
 unfoldable pub Outside : ℕ → List ℕ → Type 0
 Outside q ps = All (λ p. q ≡ p → ⊥) ps
-
--- what holds at each place of a list holds of all
-pub all-of {ℓ} : (P : ℕ → Type ℓ) (l : List ℕ) → ((k : ℕ) → k < length l → P (getD l k 0)) → All P l
-all-of P [] h = tt
-all-of P (x ∷ l) h = (h 0 (omega arith), all-of P l (λ k i. h (suc k) (omega arith)))
 
 -- ---- differences and their logarithms
 pub xor-ne : (a b : ℕ) → (a ≡ b → ⊥) → bitXor a b ≡ 0 → ⊥

@@ -11,7 +11,7 @@ ghost use Rattle.algebra.specs.Polynomial.{Distinct};
 ghost use Rattle.buffer.specs.Bytes.{splice};
 ghost use Rattle.buffer.specs.Loops.{entries};
 ghost use Rattle.field256.specs.Powers.{powers, logarithms};
-ghost use Rattle.coder.specs.Segment.{sizesFit, chosen, memberFrom, membersAfter, ending, rebuildSegment};
+ghost use Rattle.coder.specs.Segment.{largestGroup, mostMembers, longestMember, sizesFit, chosen, memberFrom, membersAfter, ending, rebuildSegment};
 ghost use Rattle.coder.specs.Granted.{Granted};
 ghost use Rattle.coder.specs.Weights.{Away, Others};
 ghost use Rattle.coder.specs.Sums.{Placed, Small};
@@ -60,7 +60,7 @@ fn rebuild_member(
     others: &[usize; LARGEST_GROUP],
     c: u8,
 )
-    requires { ⌜ (m ≤ 32) × (length (now scratch) ≤ 1024) × Placed (length (now scratch)) (now members) (now points) m × Small (now points) m
+    requires { ⌜ (m ≤ largestGroup) × (length (now scratch) ≤ longestMember) × Placed (length (now scratch)) (now members) (now points) m × Small (now points) m
         × Away (now points) m c × Distinct (take m (now points)) × (now table ≡ powers) × (now logs ≡ logarithms) × Others (now others) (now points) m m
         × (length (now scratch) * c + length (now scratch) ≤ length (now members)) ⌝ }
     ensures { λ _. ⌜ now (members .exit) ≡ splice (length (now (scratch .entry)) * c) (length (now (scratch .entry)))
@@ -86,9 +86,9 @@ fn rebuild_missing(
     logs: &[u8; field256::ORDER],
     others: &[usize; LARGEST_GROUP],
 )
-    requires { ⌜ (m ≤ 32) × (length (now scratch) ≤ 1024) × (length (now marks) ≤ 64) × (length (now members) ≡ length (now scratch) * length (now marks))
-        × (take m (now points) ≡ chosen m (now marks)) × (length (now points) ≡ 32) × (now table ≡ powers) × (now logs ≡ logarithms)
-        × Others (now others) (now points) m m ⌝ }
+    requires { ⌜ (m ≤ largestGroup) × (length (now scratch) ≤ longestMember) × (length (now marks) ≤ mostMembers)
+        × (length (now members) ≡ length (now scratch) * length (now marks)) × (take m (now points) ≡ chosen m (now marks))
+        × (length (now points) ≡ largestGroup) × (now table ≡ powers) × (now logs ≡ logarithms) × Others (now others) (now points) m m ⌝ }
     ensures { λ _. ⌜ (now (members .exit) ≡ membersAfter m (now (marks .entry)) (length (now (scratch .entry))) (now (members .entry)))
         × (now (marks .exit) ≡ entries (length (now (marks .entry))) (λ c. 1)) ⌝ }
 {
@@ -105,7 +105,8 @@ fn rebuild_missing(
 // Rebuilds every missing member of a segment from the first m present ones, which stand in points: tables and what the points share are made once.
 fn rebuild_from(members: &mut [u8], marks: &mut [u8], points: &[u8; LARGEST_GROUP], m: usize)
     requires { ⌜ Granted (now members) (now marks) (now points) m ⌝ }
-    ensures { λ _. ⌜ (now (members .exit) ≡ membersAfter m (now (marks .entry)) (length (now (members .entry)) / length (now (marks .entry))) (now (members .entry)))
+    ensures { λ _. ⌜ (now (members .exit)
+        ≡ membersAfter m (now (marks .entry)) (length (now (members .entry)) / length (now (marks .entry))) (now (members .entry)))
         × (now (marks .exit) ≡ entries (length (now (marks .entry))) (λ c. 1)) ⌝ }
 {
     let len = members.len() / marks.len();

@@ -2,7 +2,7 @@
 ghost use mathlib.Core.Path.{_≡_};
 ghost use Prim.Native.Nat.{_+_, _≤_, _<_};
 ghost use lib.ListN.{length};
-ghost use Rattle.coder.specs.Segment.{marksFit};
+ghost use Rattle.coder.specs.Segment.{largestGroup, mostMembers, marksFit};
 ghost use Rattle.coder.specs.Choosing.{Choosing, Chosen};
 
 // Whether every mark is 0 or 1.
@@ -21,7 +21,7 @@ pub fn marks_fit(marks: &[u8]) -> bool
 
 // Notes member c where it is present and fewer than m were seen; returns how many were seen, c included.
 fn note(points: &mut [u8], marks: &[u8], m: usize, seen: usize, c: usize) -> usize
-    requires { ⌜ (c < length (now marks)) × (c < 64) × (m ≤ 32) × Choosing (now marks) (now points) m c seen ⌝ }
+    requires { ⌜ (c < length (now marks)) × (c < mostMembers) × (m ≤ largestGroup) × Choosing (now marks) (now points) m c seen ⌝ }
     ensures { λ r. ⌜ Choosing (now (marks .entry)) (now (points .exit)) m (c + 1) r ⌝ }
 {
     if marks[c] != 1 {
@@ -36,7 +36,7 @@ fn note(points: &mut [u8], marks: &[u8], m: usize, seen: usize, c: usize) -> usi
 
 // The first m present members, where there are so many; returns how many are present.
 pub fn first_present(points: &mut [u8], marks: &[u8], m: usize) -> usize
-    requires { ⌜ (length (now points) ≡ 32) × (m ≤ 32) × (length (now marks) ≤ 64) ⌝ }
+    requires { ⌜ (length (now points) ≡ largestGroup) × (m ≤ largestGroup) × (length (now marks) ≤ mostMembers) ⌝ }
     ensures { λ r. ⌜ Chosen (now (marks .entry)) (now (points .exit)) m r ⌝ }
 {
     let mut seen: usize = 0;

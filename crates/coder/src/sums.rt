@@ -7,7 +7,8 @@ ghost use lib.ListN.{length};
 ghost use Rattle.buffer.specs.Bytes.{byte};
 ghost use Rattle.buffer.specs.Loops.{entries};
 ghost use Rattle.field256.specs.Gf256.{product};
-ghost use Rattle.coder.specs.Sums.{Placed, Blank, Small, Inside, fourBytes, digitSum, weightedSum, Picked};
+ghost use Rattle.coder.specs.Segment.{largestGroup, longestMember};
+ghost use Rattle.coder.specs.Sums.{roomForPlaces, Placed, Blank, Small, Inside, fourBytes, digitSum, weightedSum, Picked};
 
 // How many members are added in a pass.
 const FOUR: usize = 4;
@@ -25,8 +26,8 @@ fn digit(w: u8, b: u8) -> u8
 
 // Where member c of members of len bytes starts.
 pub fn place(len: usize, c: u8) -> usize
-    requires { ⌜ len ≤ 1024 ⌝ }
-    ensures { λ r. ⌜ (r ≡ len * c) × (r ≤ 261120) ⌝ }
+    requires { ⌜ len ≤ longestMember ⌝ }
+    ensures { λ r. ⌜ (r ≡ len * c) × (r ≤ longestMember * 255) ⌝ }
 {
     len * buffer::wide(c)
 }
@@ -76,7 +77,7 @@ fn pick_digit(
     b: u8,
     none: usize,
 ) -> usize
-    requires { ⌜ (length (now places) ≡ 36) × (b < 8) × (m ≤ 32) × (len ≤ 1024) × Placed len (now s) (now points) m ⌝ }
+    requires { ⌜ (length (now places) ≡ roomForPlaces) × (b < 8) × (m ≤ largestGroup) × (len ≤ longestMember) × Placed len (now s) (now points) m ⌝ }
     ensures { λ r. ⌜ Picked len (now (s .entry)) (now (points .entry)) (now (weights .entry)) b m none (now (places .exit)) r ⌝ }
 {
     let mut k = 0;
@@ -104,8 +105,8 @@ fn add_digit(
     b: u8,
     none: usize,
 )
-    requires { ⌜ (length (now places) ≡ 36) × (b < 8) × (m ≤ 32) × (length (now acc) ≤ 1024) × Placed (length (now acc)) (now s) (now points) m
-        × Blank (length (now acc)) (now s) none ⌝ }
+    requires { ⌜ (length (now places) ≡ roomForPlaces) × (b < 8) × (m ≤ largestGroup) × (length (now acc) ≤ longestMember)
+        × Placed (length (now acc)) (now s) (now points) m × Blank (length (now acc)) (now s) none ⌝ }
     ensures { λ _. ⌜ now (acc .exit) ≡ entries (length (now (acc .entry))) (λ j. bitXor (product 2 (byte (now (acc .entry)) j))
         (digitSum (length (now (acc .entry))) (now (s .entry)) (now (points .entry)) (now (weights .entry)) b m j)) ⌝ }
 {
@@ -134,7 +135,7 @@ pub fn weigh(
     m: usize,
     none: usize,
 )
-    requires { ⌜ (m ≤ 32) × (length (now acc) ≤ 1024) × Placed (length (now acc)) (now s) (now points) m × Small (now weights) m
+    requires { ⌜ (m ≤ largestGroup) × (length (now acc) ≤ longestMember) × Placed (length (now acc)) (now s) (now points) m × Small (now weights) m
         × Blank (length (now acc)) (now s) none ⌝ }
     ensures { λ _. ⌜ now (acc .exit) ≡ entries (length (now (acc .entry)))
         (weightedSum (length (now (acc .entry))) (now (s .entry)) (now (points .entry)) (now (weights .entry)) 0 m) ⌝ }

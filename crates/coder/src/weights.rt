@@ -3,6 +3,7 @@ ghost use mathlib.Core.Path.{_≡_};
 ghost use Prim.Native.Nat.{_≤_};
 ghost use lib.ListN.{length};
 ghost use Rattle.field256.specs.Powers.{powers, logarithms};
+ghost use Rattle.coder.specs.Segment.{largestGroup};
 ghost use Rattle.coder.specs.Weights.{logOthers, Away, Others, Weighed};
 
 // A multiple of the order, no less than the logarithms of the differences of a group and one point more.
@@ -15,7 +16,7 @@ fn log_others(
     m: usize,
     c: u8,
 ) -> usize
-    requires { ⌜ (now logs ≡ logarithms) × (m ≤ 32) ⌝ }
+    requires { ⌜ (now logs ≡ logarithms) × (m ≤ largestGroup) ⌝ }
     ensures { λ r. ⌜ r ≡ logOthers c (now (points .entry)) m ⌝ }
 {
     let mut s = 0;
@@ -37,7 +38,7 @@ pub fn fill_others(
     points: &[u8; super::LARGEST_GROUP],
     m: usize,
 )
-    requires { ⌜ (length (now others) ≡ 32) × (now logs ≡ logarithms) × (m ≤ 32) ⌝ }
+    requires { ⌜ (length (now others) ≡ largestGroup) × (now logs ≡ logarithms) × (m ≤ largestGroup) ⌝ }
     ensures { λ _. ⌜ Others (now (others .exit)) (now (points .entry)) m m ⌝ }
 {
     let mut i = 0;
@@ -57,7 +58,7 @@ pub fn fill_weights(
     m: usize,
     q: u8,
 )
-    requires { ⌜ (length (now weights) ≡ 32) × (now table ≡ powers) × (now logs ≡ logarithms) × (m ≤ 32)
+    requires { ⌜ (length (now weights) ≡ largestGroup) × (now table ≡ powers) × (now logs ≡ logarithms) × (m ≤ largestGroup)
         × Away (now points) m q × Others (now others) (now points) m m ⌝ }
     ensures { λ _. ⌜ Weighed (now (weights .exit)) (now (points .entry)) m q m ⌝ }
 {

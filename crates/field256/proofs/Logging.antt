@@ -1,5 +1,6 @@
--- What holds at each turn of the loop that writes the logarithm of each power at its place: the first i powers have theirs.
-use mathlib.Core.Path.{_≡_, refl, sym, ap, _∙_, subst}
+-- The loop that writes the logarithm of each power at its place. A reader wants `Logging`, what holds at each turn: the first i powers have theirs; with
+-- `logging-start`, `logging-turn` and `logging-end`. Assumes nothing.
+use mathlib.Core.Path.{_≡_, sym, ap, _∙_}
 use mathlib.Core.List.{List}
 use Prim.Native.Nat.{ℕ, suc, _+_, _-_, _≤_, _<_}
 use native.Mathlib.Nat.{not-suc-le-zero}

@@ -66,11 +66,14 @@ power-period (suc t) = ap power (more t) ∙ power-add order (t * order) ∙ ap�
 pub power-mod : (n : ℕ) → power (n % order) ≡ power n
 power-mod n =
     sym (ap power (sym (div-add-mod' n order)) ∙ power-add (n / order * order) (n % order)
-    ∙ ap (λ (x : ℕ). product x (power (n % order))) (power-period (n / order)) ∙ binary.one-product tested (lit< tt) (power (n % order)) (power-low (n % order)))
+    ∙ ap (λ (x : ℕ). product x (power (n % order))) (power-period (n / order))
+    ∙ binary.one-product tested (lit< tt) (power (n % order)) (power-low (n % order)))
 
 -- a power is not 0
 pub power-ne : (n : ℕ) → power n ≡ 0 → ⊥
-power-ne n e = one-ne (sym (sym (power-add n (n * 254)) ∙ ap power (whole n) ∙ power-period n) ∙ ap (λ (x : ℕ). product x (power (n * 254))) e ∙ zero-product 8 285 (power (n * 254)))
+power-ne n e =
+    one-ne (sym (sym (power-add n (n * 254)) ∙ ap power (whole n) ∙ power-period n)
+    ∙ ap (λ (x : ℕ). product x (power (n * 254))) e ∙ zero-product 8 285 (power (n * 254)))
   where
     one-ne : _≡_ {A = ℕ} 1 0 → ⊥
     one-ne e = omega arith

@@ -3,7 +3,7 @@ ghost use mathlib.Core.Path.{_≡_};
 ghost use Prim.Native.Nat.{_<_};
 ghost use lib.ListN.{length};
 ghost use Rattle.field256.specs.Gf256.{product};
-ghost use Rattle.field256.specs.Powers.{powers, logarithm, logarithms};
+ghost use Rattle.field256.specs.Powers.{order, powers, logarithm, logarithms};
 
 // How many powers of 2 there are.
 pub const ORDER: usize = 255;
@@ -293,7 +293,7 @@ pub fn table() -> [u8; ORDER]
 
 // Writes the logarithm of each power at its place.
 fn fill_logs(logs: &mut [u8], table: &[u8; ORDER])
-    requires { ⌜ (length (now logs) ≡ 255) × (now table ≡ powers) ⌝ }
+    requires { ⌜ (length (now logs) ≡ order) × (now table ≡ powers) ⌝ }
     ensures { λ _. ⌜ now (logs .exit) ≡ logarithms ⌝ }
 {
     let mut i = 0;
@@ -316,7 +316,7 @@ pub fn logs_from(table: &[u8; ORDER]) -> [u8; ORDER]
 // The logarithm of a number that is not 0, by the table lent.
 pub fn log_in(logs: &[u8; ORDER], a: u8) -> usize
     requires { ⌜ (now logs ≡ logarithms) × (0 < a) ⌝ }
-    ensures { λ r. ⌜ (r ≡ logarithm a) × (r < 255) ⌝ }
+    ensures { λ r. ⌜ (r ≡ logarithm a) × (r < order) ⌝ }
 {
     buffer::wide(logs[buffer::wide(a) - 1])
 }

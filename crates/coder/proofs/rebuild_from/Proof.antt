@@ -1,5 +1,5 @@
 -- `coder::rebuild_from` meets its contract. Assumes nothing.
-use mathlib.Core.Path.{_≡_, refl, sym, ap, _∙_, subst}
+use mathlib.Core.Path.{_≡_, sym, ap, _∙_, subst}
 use mathlib.Core.List.{List}
 use Prim.Native.Nat.{ℕ, _*_, _/_, _-_, _≤_}
 use native.Mathlib.Omega.{arith}
@@ -10,6 +10,9 @@ use Rattle.coder.specs.Segment.{longestMember, membersAfter}
 use Rattle.coder.proofs.rebuild_from.Statement.{statement}
 use Rattle.coder.proofs.rebuild_from.Tie as tie
 
+abbrev len : tie.Start → ℕ
+len c = length (c .args .members .now) / length (c .args .marks .now)
+
 -- the part of the scratch that is lent is a member long
 abbrev zeros : List ℕ
 zeros = replicate longestMember 0
@@ -17,32 +20,37 @@ zeros = replicate longestMember 0
 lent : (n : ℕ) → n ≤ longestMember → length (take (n - 0) zeros) ≡ n
 lent n h = let none : n - 0 ≡ n = omega arith in ap (λ (k : ℕ). length (take k zeros)) none ∙ length-take-le n zeros h
 
+-- ---- once the tables and what the points share are made
+abbrev start : tie.After-fill-others → tie.Start
+start c = c .before .before .before .before .before .before .before .before
+
+wide : (c : tie.After-fill-others) → length (take (len (start c) - 0) zeros) ≡ len (start c)
+wide c = lent (len (start c)) (start c .pre .short)
+
 rebuild-missing-requires : tie.Need-rebuild-missing-requires
 rebuild-missing-requires c κs =
-    let g = c .before .before .before .before .before .before .before .before .before .before .before .before .before .before .before .pre in
-    let a = c .before .before .before .before .before .before .before .before .before .before .before .before .before .before .before .args in
-    let wide = lent (length (a .members .now) / length (a .marks .now)) (g .short) in (
+    let made = c .before .before .before .before .before .before .before in
+    let g = start made .pre in (
       g .group,
-      subst (λ (n : ℕ). n ≤ 1024) (sym wide) (g .short),
+      subst (λ (n : ℕ). n ≤ longestMember) (sym (wide made)) (g .short),
       g .few,
-      g .whole ∙ ap (λ (n : ℕ). n * length (a .marks .now)) (sym wide),
+      g .whole ∙ ap (λ (n : ℕ). n * length (start made .args .marks .now)) (sym (wide made)),
       g .are,
       g .long,
-      c .before .before .before .before .before .before .before .before .before .before .before .before .table .ensures,
-      c .before .before .before .before .before .before .before .before .before .before .logs-from .ensures,
-      c .before .before .before .before .before .before .before .fill-others .ensures,
+      made .before .before .before .before .before .table .ensures,
+      made .before .before .before .logs-from .ensures,
+      made .fill-others .ensures,
     )
 
 returns : tie.Need-returns
 returns c =
-    let g = c .before .before .before .before .before .before .before .before .before .before .before .before .before .before .before .before .before .before .before .before .before .pre in
-    let a = c .before .before .before .before .before .before .before .before .before .before .before .before .before .before .before .before .before .before .before .before .before .args in
-    let wide = lent (length (a .members .now) / length (a .marks .now)) (g .short) in
+    let made = c .before .before .before .before .before .before .before .before .before .before .before .before .before in
+    let a = start made .args in
     let done = c .before .before .before .before .before .rebuild-missing .ensures in
-    (done .0 ∙ ap (λ (n : ℕ). membersAfter (a .m) (a .marks .now) n (a .members .now)) wide, done .1)
+    (done .0 ∙ ap (λ (n : ℕ). membersAfter (a .m) (a .marks .now) n (a .members .now)) (wide made), done .1)
 
 pub rebuild-from-spec : {M : Type 1} → statement M
 rebuild-from-spec =
     tie.close
-    (tie.spec (λ c. search needs) (λ c κs. search needs) (λ c κs. search needs) (λ c. search needs) (λ c κs. search needs) (λ c. search needs) (λ c. search needs)
-    (λ c. search needs) rebuild-missing-requires (λ c. search needs) (λ c. search needs) returns)
+    (tie.spec (λ c. search needs) (λ c κs. search needs) (λ c κs. search needs) (λ c. search needs) (λ c κs. search needs) (λ c. search needs)
+    (λ c. search needs) (λ c. search needs) rebuild-missing-requires (λ c. search needs) (λ c. search needs) returns)

@@ -1,7 +1,7 @@
 -- `coder::rebuild_member` meets its contract. Assumes nothing.
-use mathlib.Core.Path.{_≡_, refl, sym, ap, ap₂, _∙_}
+use mathlib.Core.Path.{_≡_, ap, ap₂, _∙_}
 use mathlib.Core.List.{List, _++_}
-use Prim.Native.Nat.{ℕ, _+_, _*_, _-_, _≤_, _<_}
+use Prim.Native.Nat.{ℕ, _+_, _*_, _-_, _≤_}
 use native.Mathlib.Omega.{arith}
 use lib.ListN.{length, take, drop}
 use borrow.Author.Needs.{needs}
@@ -29,7 +29,8 @@ cleared c =
     let s = start c .args .members .now in
     let fits : at c + len c ≤ length s = omega (arith, start c .pre .9, c .before .before .place .ensures .0) in
     put-lent s (c .clear .last .0) (at c) (len c)
-    ∙ ap₂ (λ (n : ℕ) (x : List ℕ). splice n (len c) x s) (c .before .before .place .ensures .0) (c .clear .ensures ∙ ap zeros (length-lent s (at c) (len c) fits))
+    ∙ ap₂ (λ (n : ℕ) (x : List ℕ). splice n (len c) x s) (c .before .before .place .ensures .0)
+    (c .clear .ensures ∙ ap zeros (length-lent s (at c) (len c) fits))
 
 weigh-requires : tie.Need-weigh-requires
 weigh-requires c κs =
@@ -49,10 +50,11 @@ returns c =
     let a = start done .args in
     put-lent (members done) (c .before .before .copy .last .0) (at done) (len done)
     ∙ ap (λ (n : ℕ). splice n (len done) (c .before .before .copy .last .0) (members done)) (done .before .before .place .ensures .0)
-    ∙ rewritten (len done) (a .members .now) (a .points .now) (a .m) (a .c) (asked .4) (asked .9) (members done) (cleared done) (done .before .before .before .before .fill-weights .last .0) _
+    ∙ rewritten (len done) (a .members .now) (a .points .now) (a .m) (a .c) (asked .4) (asked .9) (members done) (cleared done)
+    (done .before .before .before .before .fill-weights .last .0) _
     (c .before .before .copy .ensures ∙ c .before .before .before .before .before .before .before .weigh .ensures)
     (weighed-is _ _ _ _ (done .before .before .before .before .fill-weights .ensures) (asked .3) (asked .0) (asked .4) (search needs) (asked .5) _ _
-    (λ i. omega (arith, c .before .before .before .before .before .before .before .before .before .before .before .before .before .before .before .before .before .before .before .before .slice-known .given i)))
+    (λ i. omega (arith, done .before .before .before .before .before .before .before .slice-known .given i)))
 
 pub rebuild-member-spec : {M : Type 1} → statement M
 rebuild-member-spec =

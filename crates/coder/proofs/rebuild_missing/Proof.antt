@@ -1,12 +1,13 @@
 -- `coder::rebuild_missing` meets its contract. Assumes nothing.
 use mathlib.Core.Logic.{⊎-elim}
-use mathlib.Core.Path.{_≡_, refl, sym, ap, _∙_, subst}
-use Prim.Native.Nat.{ℕ, _*_, _-_, _≤_}
+use mathlib.Core.Path.{refl, sym, ap, _∙_, subst}
+use Prim.Native.Nat.{ℕ, _-_, _≤_}
 use native.Mathlib.Omega.{arith}
 use lib.ListN.{length, length-set}
 use borrow.Author.Needs.{needs}
-use borrow.Author.Tests.{ne-eqb}
-use Rattle.coder.proofs.Rebuilding.{Rebuilding, rebuilding-start, members-long, members-whole, member-fits, absent, turn-missing, turn-present, rebuilding-end}
+use Rattle.coder.specs.Segment.{longestMember}
+use Rattle.coder.proofs.Rebuilding.{Rebuilding, rebuilding-start, members-long, members-whole, member-fits, absent}
+use Rattle.coder.proofs.Rebuilding.{turn-missing, turn-present, rebuilding-end}
 use Rattle.coder.proofs.Rebuilding.{points-small, points-distinct, points-away, points-placed}
 use Rattle.coder.proofs.rebuild_missing.Statement.{statement}
 use Rattle.coder.proofs.rebuild_missing.Tie as tie
@@ -25,7 +26,7 @@ rebuild-member-requires c κs =
     let under = c .before .before .before .before .loop-test .taken in
     let lost = absent _ _ _ _ (asked .3) inv under (c .before .before .if1 .taken) in (
       asked .0,
-      subst (λ (n : ℕ). n ≤ 1024) (sym (inv .width)) (asked .1),
+      subst (λ (n : ℕ). n ≤ longestMember) (sym (inv .width)) (asked .1),
       points-placed _ _ _ (asked .0) (asked .2) (asked .4) (asked .5) _ _ (members-whole _ _ _ _ (asked .3) inv),
       points-small _ _ _ (asked .0) (asked .2) (asked .4) (asked .5),
       points-away _ _ _ (asked .0) (asked .2) (asked .4) (asked .5) _ lost,
@@ -38,18 +39,19 @@ rebuild-member-requires c κs =
 
 loop-again : tie.Need-loop-again Inv-loop μ-loop
 loop-again c =
-    let whole = c .before .before .before .before .before .before .before .pre .3 in
+    let asked = c .before .before .before .before .before .before .before .pre in
     let inv = c .before .before .before .loop .inv in
     let under = c .before .before .loop-test .taken in
     ⊎-elim
-    (λ w. turn-missing _ _ _ _ whole inv under _ _ _ (c .before .before .before .before .before .before .before .pre .4) (w .0 .taken) (ap length (w .9) ∙ w .3 .kept .1 .0) (w .8 ∙ w .3 .ensures))
-    (λ w. turn-present _ _ _ _ whole inv under _ _ (w .0 .left) (w .1) (w .2))
+    (λ w. turn-missing _ _ _ _ (asked .3) inv under _ _ _ (asked .4) (w .0 .taken) (ap length (w .9) ∙ w .3 .kept .1 .0) (w .8 ∙ w .3 .ensures))
+    (λ w. turn-present _ _ _ _ (asked .3) inv under _ _ (w .0 .left) (w .1) (w .2))
     (c .if1 .came)
 
 pub rebuild-missing-spec : {M : Type 1} → statement M
 rebuild-missing-spec =
     tie.close
-    (tie.spec Inv-loop μ-loop (λ c. rebuilding-start _ _ _ _ (c .before .before .before .pre .3) _ refl) (λ c. search needs) (λ c. search needs) rebuild-member-requires
-    (λ c. search needs) (λ c. search needs) (λ c. simp length-set (omega (arith, c .before .before .loop-test .taken))) loop-again (λ c. members-long _ _ _ _ (c .before .before .before .before .before .pre .3) (c .before .loop .inv))
+    (tie.spec Inv-loop μ-loop (λ c. rebuilding-start _ _ _ _ (c .before .before .before .pre .3) _ refl) (λ c. search needs) (λ c. search needs)
+    rebuild-member-requires (λ c. search needs) (λ c. search needs) (λ c. simp length-set (omega (arith, c .before .before .loop-test .taken))) loop-again
+    (λ c. members-long _ _ _ _ (c .before .before .before .before .before .pre .3) (c .before .loop .inv))
     (λ c. c .before .loop .inv .filling .long) (λ c. c .before .loop .inv .width)
     (λ c. rebuilding-end _ _ _ _ (c .before .before .before .before .before .pre .3) (c .before .loop .inv) (c .loop-test .left)))

@@ -17,8 +17,9 @@ abbrev μ-loop : tie.MeasureT-loop
 -- the place of the power that a turn reads
 placed : (c : tie.After-wide Inv-loop μ-loop) → (0 < c .wide .result) × Place (c .wide .result - 1) (power (c .before .before .before .loop .i))
 placed c =
-    place-at (c .before .before .before .before .before .args .table .now) (c .before .before .before .before .before .pre .1) (c .before .before .before .loop .i)
-    (c .wide .result) (c .before .before .loop-test .taken) (c .wide .ensures .0)
+    let turn = c .before .before .before in
+    place-at (turn .before .before .args .table .now) (turn .before .before .pre .1) (turn .loop .i) (c .wide .result)
+    (c .before .before .loop-test .taken) (c .wide .ensures .0)
 
 sub-logs : tie.Need-sub-logs Inv-loop μ-loop
 sub-logs c = placed c .0

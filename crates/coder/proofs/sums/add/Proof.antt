@@ -8,7 +8,7 @@ use borrow.Author.Needs.{needs}
 use Rattle.buffer.specs.Bytes.{byte}
 use Rattle.buffer.specs.LoopWrites.{Filling, filling-start, filling-turn, filling-read, filling-end}
 use Rattle.coder.specs.Sums.{fourBytes}
-use Rattle.coder.proofs.Weighing.{inside-at}
+use Rattle.coder.proofs.Adding.{inside-at}
 use Rattle.coder.proofs.sums.add.Statement.{statement}
 use Rattle.coder.proofs.sums.add.Tie as tie
 

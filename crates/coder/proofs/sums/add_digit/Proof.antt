@@ -1,17 +1,11 @@
 -- `coder::sums::add_digit` meets its contract. Assumes nothing.
-use mathlib.Core.Path.{_≡_, refl, sym, ap, _∙_, subst}
-use mathlib.Core.List.{List}
-use Prim.Native.Nat.{ℕ, _-_}
+use mathlib.Core.Path.{_≡_, refl, ap, _∙_}
+use Prim.Native.Nat.{_-_}
 use native.Mathlib.Omega.{arith}
-use lib.Bits.{bitXor}
 use lib.ListN.{length}
 use borrow.Author.Needs.{needs}
-use Rattle.buffer.specs.Bytes.{byte}
-use Rattle.buffer.specs.Loops.{entries}
 use Rattle.buffer.specs.RangeLaws.{length-entries}
-use Rattle.field256.specs.Gf256.{product}
-use Rattle.coder.specs.Sums.{Blank, Inside, digitSum, Picked}
-use Rattle.coder.proofs.Weighing.{Adding, adding-start, adding-turn, adding-end, four-fit}
+use Rattle.coder.proofs.Adding.{Adding, adding-start, adding-turn, adding-end, four-fit}
 use Rattle.coder.proofs.sums.add_digit.Statement.{statement}
 use Rattle.coder.proofs.sums.add_digit.Tie as tie
 
@@ -24,34 +18,48 @@ abbrev μ-loop : tie.MeasureT-loop
 pick-digit-requires : tie.Need-pick-digit-requires Inv-loop μ-loop
 pick-digit-requires c κs = let asked = c .before .before .before .before .pre in (asked .0, asked .1, asked .2, asked .3, asked .4)
 
-double-add-requires : tie.Need-double-add-requires Inv-loop μ-loop
-double-add-requires c κs = four-fit _ _ _ _ _ _ _ _ _ (c .before .before .before .before .before .before .before .pick-digit .ensures) (c .before .before .before .before .before .before .before .before .before .before .before .before .pre .5) _ 0 refl (omega arith)
+-- ---- once the places are picked
+abbrev start : tie.After-pick-digit Inv-loop μ-loop → tie.Start Inv-loop μ-loop
+start c = c .before .before .before .before .before
 
--- the doubled sum is as long as the one lent
-wide : (c : tie.After-slice-known8 Inv-loop μ-loop) → length (c .before .before .double-add .last .0) ≡ length (c .before .before .before .before .before .before .before .before .before .before .before .before .before .before .before .args .acc .now)
-wide c = ap length (c .before .before .double-add .ensures) ∙ length-entries (length (c .before .before .before .before .before .before .before .before .before .before .before .before .before .before .before .args .acc .now)) _
+double-add-requires : tie.Need-double-add-requires Inv-loop μ-loop
+double-add-requires c κs =
+    let picked = c .before .before .before .before .before .before .before in
+    four-fit _ _ _ _ _ _ _ _ _ (picked .pick-digit .ensures) (start picked .pre .5) _ 0 refl (omega arith)
+
+-- ---- once the sum is doubled; it is as long as the one lent
+abbrev picks : tie.After-slice-known8 Inv-loop μ-loop → tie.After-pick-digit Inv-loop μ-loop
+picks c = c .before .before .before .before .before .before .before .before .before .before
+
+wide : (c : tie.After-slice-known8 Inv-loop μ-loop) → length (c .before .before .double-add .last .0) ≡ length (start (picks c) .args .acc .now)
+wide c = ap length (c .before .before .double-add .ensures) ∙ length-entries (length (start (picks c) .args .acc .now)) _
 
 loop-holds : tie.Need-loop-holds Inv-loop μ-loop
 loop-holds c = adding-start _ _ _ _ _ refl
 
 add-requires : tie.Need-add-requires Inv-loop μ-loop
 add-requires c κs =
-    let begun = c .before .before .before .before .before .before .before in
-    four-fit _ _ _ _ _ _ _ _ _ (begun .before .before .before .before .before .before .before .before .before .before .pick-digit .ensures) (begun .before .before .before .before .before .before .before .before .before .before .before .before .before .before .before .pre .5) _ (c .before .before .before .before .before .before .loop .r) (c .before .before .before .before .before .before .loop .inv .long ∙ wide begun)
+    let doubled = c .before .before .before .before .before .before .before in
+    let turn = c .before .before .before .before .before .before .loop in
+    four-fit _ _ _ _ _ _ _ _ _ (picks doubled .pick-digit .ensures) (start (picks doubled) .pre .5) _ (turn .r) (turn .inv .long ∙ wide doubled)
     (omega (arith, c .before .before .before .before .before .loop-test .taken))
 
 loop-again : tie.Need-loop-again Inv-loop μ-loop
-loop-again c = adding-turn _ _ _ _ _ _ _ _ (c .before .before .before .before .before .before .before .before .before .loop .inv) (c .before .before .before .before .before .before .before .before .loop-test .taken) (c .before .before .add .ensures)
+loop-again c =
+    let turn = c .before .before .before .before .before .before .before .before in
+    adding-turn _ _ _ _ _ _ _ _ (turn .before .loop .inv) (turn .loop-test .taken) (c .before .before .add .ensures)
 
 returns : tie.Need-returns Inv-loop μ-loop
 returns c =
-    let begun = c .before .before in
-    adding-end _ _ _ _ _ _ _ _ _ (begun .before .before .before .before .before .before .before .before .before .before .pick-digit .ensures) (begun .before .before .before .before .before .before .before .before .before .before .before .before .before .before .before .pre .5) (begun .before .before .before .before .before .before .before .before .before .before .before .before .before .before .before .args .acc .now) _ _ _ (begun .before .before .double-add .ensures) (c .before .loop .inv)
-    (c .loop-test .left)
+    let doubled = c .before .before in
+    let picked = picks doubled in
+    adding-end _ _ _ _ _ _ _ _ _ (picked .pick-digit .ensures) (start picked .pre .5) (start picked .args .acc .now) _ _ _
+    (doubled .before .before .double-add .ensures) (c .before .loop .inv) (c .loop-test .left)
 
 pub add-digit-spec : {M : Type 1} → statement M
 add-digit-spec =
     tie.close
-    (tie.spec Inv-loop μ-loop pick-digit-requires (λ c. search needs) (λ c. search needs) (λ c. search needs) (λ c. search needs) double-add-requires loop-holds
-    (λ c. search needs) (λ c. search needs) (λ c. search needs) (λ c. search needs) (λ c. search needs) (λ c. search needs) (λ c. search needs) (λ c. search needs)
-    (λ c. search needs) (λ c. search needs) (λ c. search needs) add-requires (λ c. search needs) (λ c. search needs) loop-again (λ c. c .before .loop .inv .long ∙ wide (c .before .before)) (λ c. search needs) returns)
+    (tie.spec Inv-loop μ-loop pick-digit-requires (λ c. search needs) (λ c. search needs) (λ c. search needs) (λ c. search needs) double-add-requires
+    loop-holds (λ c. search needs) (λ c. search needs) (λ c. search needs) (λ c. search needs) (λ c. search needs) (λ c. search needs) (λ c. search needs)
+    (λ c. search needs) (λ c. search needs) (λ c. search needs) (λ c. search needs) add-requires (λ c. search needs) (λ c. search needs) loop-again
+    (λ c. c .before .loop .inv .long ∙ wide (c .before .before)) (λ c. search needs) returns)

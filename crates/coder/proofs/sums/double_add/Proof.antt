@@ -9,7 +9,7 @@ use Rattle.buffer.specs.Bytes.{byte}
 use Rattle.buffer.specs.LoopWrites.{Filling, filling-start, filling-turn, filling-read, filling-end}
 use Rattle.field256.specs.Gf256.{product}
 use Rattle.coder.specs.Sums.{fourBytes}
-use Rattle.coder.proofs.Weighing.{inside-at}
+use Rattle.coder.proofs.Adding.{inside-at}
 use Rattle.coder.proofs.sums.double_add.Statement.{statement}
 use Rattle.coder.proofs.sums.double_add.Tie as tie
 

@@ -1,10 +1,10 @@
 -- `coder::sums::pick_digit` meets its contract. Assumes nothing.
-use mathlib.Core.Path.{_≡_, sym, ap, _∙_}
-use Prim.Native.Nat.{ℕ, _/_, _%_, _^_, _+_, _-_, _<_}
+use mathlib.Core.Path.{sym, _∙_}
+use Prim.Native.Nat.{_+_, _-_, _≤_}
 use native.Mathlib.Omega.{arith}
-use lib.ListN.{length, getD, length-set}
+use lib.ListN.{length, length-set}
 use borrow.Author.Needs.{needs}
-use Rattle.coder.proofs.Weighing.{Picking, picking-start, picking-turn, picking-end}
+use Rattle.coder.proofs.Picking.{Picking, picking-start, picking-room, picking-turn, picking-end}
 use Rattle.coder.proofs.sums.pick_digit.Statement.{statement}
 use Rattle.coder.proofs.sums.pick_digit.Tie as tie
 
@@ -26,14 +26,12 @@ loop-again c =
 
 slice-write-places : tie.Need-slice-write-places Inv-loop μ-loop
 slice-write-places c =
-    let inv = c .before .before .before .loop .inv in
-    omega (arith, inv .long, inv .few, inv .within, c .before .before .loop-test .taken, c .before .before .before .before .before .before .pre .2)
+    let turn = c .before .before .before in
+    omega (arith, picking-room (turn .loop .inv) (turn .before .before .before .pre .2))
 
 -- room for four places more
-room : (c : tie.After-loop Inv-loop μ-loop) → c .before .loop .k + 3 < length (c .before .loop .places)
-room c =
-    let inv = c .before .loop .inv in
-    omega (arith, inv .long, inv .few, inv .within, c .before .before .before .before .pre .2)
+room : (c : tie.After-loop Inv-loop μ-loop) → c .before .loop .k + 4 ≤ length (c .before .loop .places)
+room c = picking-room (c .before .loop .inv) (c .before .before .before .before .pre .2)
 
 same-length : tie.Need-same-length Inv-loop μ-loop
 same-length c = simp length-set (c .before .loop .inv .long ∙ sym (c .before .before .before .before .pre .0))
@@ -44,7 +42,8 @@ returns c = picking-end _ _ _ _ _ _ _ _ _ _ (c .before .loop .inv) (c .loop-test
 pub pick-digit-spec : {M : Type 1} → statement M
 pick-digit-spec =
     tie.close
-    (tie.spec Inv-loop μ-loop loop-holds (λ c. search needs) (λ c κs. search needs) (λ c. search needs) slice-write-places (λ c. search needs) (λ c κs. search needs)
-    (λ c κs. search needs) (λ c. search needs) (λ c. search needs) (λ c. search needs) loop-again (λ c. search needs) (λ c. omega (arith, room c)) (λ c. omega (arith, room c))
-    (λ c. search needs) (λ c. simp length-set (omega (arith, room c))) (λ c. omega (arith, room c)) (λ c. search needs) (λ c. simp length-set (omega (arith, room c)))
+    (tie.spec Inv-loop μ-loop loop-holds (λ c. search needs) (λ c κs. search needs) (λ c. search needs) slice-write-places (λ c. search needs)
+    (λ c κs. search needs) (λ c κs. search needs) (λ c. search needs) (λ c. search needs) (λ c. search needs) loop-again (λ c. search needs)
+    (λ c. omega (arith, room c)) (λ c. omega (arith, room c)) (λ c. search needs) (λ c. simp length-set (omega (arith, room c)))
+    (λ c. omega (arith, room c)) (λ c. search needs) (λ c. simp length-set (omega (arith, room c)))
     (λ c. omega (arith, room c)) (λ c. search needs) (λ c. simp length-set (omega (arith, room c))) same-length returns)
