@@ -8,3 +8,4 @@ pub mod Rebuilding
 pub mod Verdicts
 pub mod Columns
 pub mod Claims
+pub mod Examples

@@ -125,7 +125,7 @@ power-quotient n s h =
     ∙ ap (λ (a : Byte). a .0)
     (fld.quotient gf256 (raise (n + (headroom - s))) (raise s) (raise n) (raise-ne s)
     (below-is 8 (gf256 .mul (raise (n + (headroom - s))) (raise s)) (raise n)
-    (sym (power-add (n + (headroom - s)) s) ∙ ap power back ∙ power-add n headroom ∙ ap (product (power n)) (power-period 33)
+    (sym (power-add (n + (headroom - s)) s) ∙ ap power back ∙ power-add n headroom ∙ ap (product (power n)) (power-period (largestGroup + 1))
     ∙ one tested (power n) (power-low n))))
 
 module _ (ps : List ℕ) (q : ℕ) (few : length ps ≤ largestGroup) (hq : q < 256) (low : Bytes ps) where

@@ -9,6 +9,7 @@ use lib.ListN.{getD}
 use Rattle.buffer.specs.Choice.{pick}
 use Rattle.buffer.specs.Range.{sum}
 use Rattle.field256.specs.Powers.{order, power, logarithm}
+use Rattle.coder.specs.Segment.{largestGroup}
 
 -- the logarithm of the difference of c and p; of equal points there is none, and nothing is added
 unfoldable pub logOther : ℕ → ℕ → ℕ
@@ -18,9 +19,9 @@ logOther c p = pick (eqb p c) 0 (logarithm (bitXor c p))
 unfoldable pub logOthers : ℕ → List ℕ → ℕ → ℕ
 logOthers c ps m = sum m (λ k. logOther c (getD ps k 0))
 
--- a multiple of the order, which is 1 as a power, no less than what is taken off
+-- a multiple of the order, which is 1 as a power, no less than what is taken off: the logarithms of a group's differences and one more
 abbrev pub headroom : ℕ
-headroom = 33 * order
+headroom = (largestGroup + 1) * order
 
 -- the weight of the point c at q
 unfoldable pub weightOf : List ℕ → ℕ → ℕ → ℕ → ℕ

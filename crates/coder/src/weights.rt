@@ -6,8 +6,8 @@ ghost use Rattle.field256.specs.Powers.{powers, logarithms};
 ghost use Rattle.coder.specs.Segment.{largestGroup};
 ghost use Rattle.coder.specs.Weights.{logOthers, Away, Others, Weighed};
 
-// A multiple of the order, no less than the logarithms of the differences of a group and one point more.
-const HEADROOM: usize = 33 * field256::ORDER;
+// A multiple of the order, no less than the logarithms of a group's differences and one more.
+const HEADROOM: usize = (super::LARGEST_GROUP + 1) * field256::ORDER;
 
 // The logarithm of the product of the differences of c and the other points.
 fn log_others(
