@@ -1,11 +1,10 @@
 -- Sums by exclusive or over the numbers 0 to n - 1: sums in a binary field. A reader wants `total` and its laws.
 use mathlib.Core.Path.{_≡_, refl, sym, ap, ap₂, _∙_}
-use Prim.Native.Nat.{ℕ, zero, suc, _+_, _^_, _≤_, _<_}
+use Prim.Native.Nat.{ℕ, zero, suc, _+_, _≤_, _<_}
 use native.Mathlib.Nat.{add-zero, add-suc}
 use native.Mathlib.Numerals.{add-one}
 use native.Mathlib.Omega.{arith}
-use lib.Pow.{pow-pos}
-use lib.Bits.{bitXor, xor-zero-l, xor-zero-r, xor-lt}
+use lib.Bits.{bitXor, xor-zero-l, xor-zero-r}
 use Rattle.algebra.specs.Xor.{xor-assoc}
 
 -- the sum of f 0 to f (n - 1)
@@ -52,9 +51,3 @@ total-zeros n zero f h = ap (λ (k : ℕ). total k f) (add-zero n)
 total-zeros n (suc d) f h =
     ap (λ (k : ℕ). total k f) (add-suc n d) ∙ ap (bitXor (total (n + d) f)) (h (n + d) (omega arith) (omega arith)) ∙ xor-zero-r (total (n + d) f)
     ∙ total-zeros n d f (λ k l m. h k l (omega arith))
-
--- terms below a power of 2
-pub total-low : (w n : ℕ) (f : ℕ → ℕ) → ((k : ℕ) → k < n → f k < 2 ^ w) → total n f < 2 ^ w
-unfolding total
-total-low w zero f h = pow-pos w
-total-low w (suc n) f h = xor-lt w (total n f) (f n) (total-low w n f (λ k l. h k (omega arith))) (h n (omega arith))

@@ -4,11 +4,11 @@ use mathlib.Core.Path.{_≡_, refl, sym, ap, ap₂, _∙_, subst}
 use mathlib.Core.List.{List}
 use Prim.Native.Nat.{ℕ, _+_, _-_, _≤_, _<_}
 use native.Mathlib.Omega.{arith}
-use lib.Bits.{bitXor, xor-self, xor-zero-l, xor-zero-r}
+use lib.Bits.{bitXor, xor-zero-l, xor-zero-r}
 use lib.Dec.{ltb}
 use lib.ListN.{length, getD}
 use borrow.Author.Tests.{ltb-true, ltb-false}
-use Rattle.algebra.specs.Xor.{xor-swap}
+use Rattle.algebra.specs.Xor.{xor-cancel}
 use Rattle.algebra.specs.XorSums.{total, total-none, total-four, total-zeros}
 use Rattle.buffer.specs.ChoiceLaws.{by-test}
 use Rattle.buffer.specs.Bytes.{byte}
@@ -43,9 +43,6 @@ module _ (len : ℕ) (s places : List ℕ) (k : ℕ) where
   pub adding-start : (acc : List ℕ) → length acc ≡ len → Adding acc acc 4
   adding-start acc e = record { within = omega arith; long = e; bytes = λ j h. refl }
 
-  cancel : (x t y : ℕ) → bitXor (bitXor x y) (bitXor t y) ≡ bitXor x t
-  cancel x t y = xor-swap x y t y ∙ ap (bitXor (bitXor x t)) (xor-self y) ∙ xor-zero-r (bitXor x t)
-
   pub adding-turn : (acc₀ acc acc′ : List ℕ) (r : ℕ) → Adding acc₀ acc r → r < k
       → acc′ ≡ entries (length acc) (λ j. bitXor (byte acc j) (four r j)) → Adding acc₀ acc′ (r + 4)
   adding-turn acc₀ acc acc′ r g h e =
@@ -54,7 +51,7 @@ module _ (len : ℕ) (s places : List ℕ) (k : ℕ) where
         within = omega arith;
         long = ap length same ∙ length-entries len _;
         bytes = λ j l. ap₂ bitXor (ap (λ (y : List ℕ). byte y j) same ∙ getD-entries len _ j 0 l) (total-four (from j) r)
-            ∙ cancel (byte acc j) (total r (from j)) (four r j) ∙ g .bytes j l;
+            ∙ xor-cancel (byte acc j) (total r (from j)) (four r j) ∙ g .bytes j l;
       }
 
   module _ (ps ws : List ℕ) (b m none : ℕ) (g : Picked len s ps ws b m none places k) (blank : Blank len s none) where
@@ -89,11 +86,11 @@ module _ (len : ℕ) (s places : List ℕ) (k : ℕ) where
         doubled j l =
             ap₂ bitXor (ap (λ (y : List ℕ). byte y j) e ∙ getD-entries len _ j 0 l) (total-four (from j) 0)
             ∙ ap (λ (x : ℕ). bitXor (bitXor (product 2 (byte old j)) (four 0 j)) (bitXor x (four 0 j))) (total-none (from j))
-            ∙ cancel (product 2 (byte old j)) 0 (four 0 j) ∙ xor-zero-r (product 2 (byte old j))
+            ∙ xor-cancel (product 2 (byte old j)) 0 (four 0 j) ∙ xor-zero-r (product 2 (byte old j))
 
         at : (j : ℕ) → j < len → byte acc j ≡ bitXor (product 2 (byte old j)) (digitSum len s ps ws b m j)
         at j l =
-            sym (cancel (byte acc j) 0 (total r (from j)) ∙ xor-zero-r (byte acc j))
+            sym (xor-cancel (byte acc j) 0 (total r (from j)) ∙ xor-zero-r (byte acc j))
             ∙ ap₂ bitXor (a .bytes j l ∙ doubled j l) (xor-zero-l (total r (from j)) ∙ all-added r j h (a .within) l)
 
 -- the sum was doubled before the first turn, and the four first places were added

@@ -1,5 +1,5 @@
--- The loops that add up logarithms and look up weights. A reader wants `Adding`, what holds while the logarithms of differences are added up, with
--- `adding-self` and `adding-other`; and `weight-read`: what is read from the table of powers is the weight. Assumes nothing.
+-- The loops that add up logarithms and look up weights. A reader wants `LogSumming`, what holds while the logarithms of differences are added up, with
+-- `log-sum-self` and `log-sum-other`; and `weight-read`: what is read from the table of powers is the weight. Assumes nothing.
 use mathlib.Core.Path.{_≡_, sym, _∙_, subst}
 use mathlib.Core.List.{List}
 use Prim.Native.Nat.{ℕ, _+_, _*_, _%_, _-_, _≤_, _<_}
@@ -8,12 +8,13 @@ use native.Mathlib.Omega.{arith}
 use lib.Bits.{bitXor}
 use lib.Dec.{lit<}
 use lib.ListN.{getD}
+use Rattle.algebra.specs.Xor.{xor-ne}
 use Rattle.buffer.specs.LoopTests.{Summing, summing-turn}
 use Rattle.field256.specs.Powers.{order, powers, logarithm}
 use Rattle.field256.specs.PowersLaws.{power-read}
 use Rattle.coder.specs.Segment.{largestGroup}
 use Rattle.coder.specs.Weights.{logOther, logOthers, headroom, weightOf, Others}
-use Rattle.coder.specs.WeightLaws.{xor-ne, log-self, log-apart, others-le}
+use Rattle.coder.specs.WeightLaws.{log-self, log-apart, others-le}
 
 -- two points that differ have a difference that is not 0
 pub apart-pos : (a b : ℕ) → (a ≡ b → ⊥) → 0 < bitXor a b
@@ -24,19 +25,19 @@ pub sum-bounded : (c : ℕ) (ps : List ℕ) (m r : ℕ) → r ≡ logOthers c ps
 sum-bounded c ps m r e = omega (arith, e, others-le c ps m)
 
 -- ---- a loop that adds up the logarithms of the differences of c and the first m points; i of them are passed
-abbrev pub Adding : ℕ → List ℕ → ℕ → ℕ → ℕ → Type 0
-Adding c ps m i s = Summing (λ k. logOther c (getD ps k 0)) m i s
+abbrev pub LogSumming : ℕ → List ℕ → ℕ → ℕ → ℕ → Type 0
+LogSumming c ps m i s = Summing (λ k. logOther c (getD ps k 0)) m i s
 
-module _ (c : ℕ) (ps : List ℕ) {m i s : ℕ} (g : Adding c ps m i s) where
-  pub adding-le : s ≤ order * m
+module _ (c : ℕ) (ps : List ℕ) {m i s : ℕ} (g : LogSumming c ps m i s) where
+  pub log-sum-le : s ≤ order * m
   unfolding logOthers
-  adding-le = omega (arith, g .within, g .summed, others-le c ps i)
+  log-sum-le = omega (arith, g .within, g .summed, others-le c ps i)
 
-  pub adding-self : i < m → getD ps i 0 ≡ c → Adding c ps m (i + 1) s
-  adding-self h e = subst (λ (n : ℕ). Adding c ps m (i + 1) n) (add-zero s) (summing-turn 0 g h (sym (log-self c (getD ps i 0) e)))
+  pub log-sum-self : i < m → getD ps i 0 ≡ c → LogSumming c ps m (i + 1) s
+  log-sum-self h e = subst (λ (n : ℕ). LogSumming c ps m (i + 1) n) (add-zero s) (summing-turn 0 g h (sym (log-self c (getD ps i 0) e)))
 
-  pub adding-other : (v : ℕ) → i < m → (getD ps i 0 ≡ c → ⊥) → v ≡ logarithm (bitXor c (getD ps i 0)) → Adding c ps m (i + 1) (s + v)
-  adding-other v h n e = summing-turn v g h (e ∙ sym (log-apart c (getD ps i 0) n))
+  pub log-sum-other : (v : ℕ) → i < m → (getD ps i 0 ≡ c → ⊥) → v ≡ logarithm (bitXor c (getD ps i 0)) → LogSumming c ps m (i + 1) (s + v)
+  log-sum-other v h n e = summing-turn v g h (e ∙ sym (log-apart c (getD ps i 0) n))
 
 -- ---- the weight of point i, from sums and tables: what is taken off, and the power that is read
 module _ {os ps : List ℕ} {m : ℕ} (i own : ℕ) (o : Others os ps m m) (h : i < m) where

@@ -28,7 +28,7 @@ use Rattle.coder.specs.Sums.{Placed, Blank, Small, weightedSum}
 
 -- ---- members apart
 -- a member replaced leaves the others
-pub other-member : (len c p j : ℕ) (new s : List ℕ) → (c ≡ p → ⊥) → j < len → len * c + len ≤ length s → length new ≡ len
+other-member : (len c p j : ℕ) (new s : List ℕ) → (c ≡ p → ⊥) → j < len → len * c + len ≤ length s → length new ≡ len
     → byte (splice (len * c) len new s) (len * p + j) ≡ byte s (len * p + j)
 other-member len c p j new s n h fits e =
     by-test (λ _. byte (splice (len * c) len new s) (len * p + j) ≡ byte s (len * p + j)) (ltb p c)

@@ -20,7 +20,7 @@ pub small : (x : ℕ) → x < 256 → x % 256 ≡ x
 small x h = omega arith
 
 -- ---- elements
-pub element-is : (a : Byte) → element (a .0) ≡ a
+element-is : (a : Byte) → element (a .0) ≡ a
 element-is a = below-is 8 (element (a .0)) a (small (a .0) (below 8 a))
 
 pub elements-are : (l : List Byte) → map element (map (λ (a : Byte). a .0) l) ≡ l

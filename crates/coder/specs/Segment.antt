@@ -23,7 +23,7 @@ mostMembers = 64
 abbrev pub longestMember : ℕ
 longestMember = 1024
 
--- n members in so many bytes, the length of each, and a group of m
+-- a group of m, and n members in so many bytes: each has bytes / n of them, and none is left over
 unfoldable pub sizesFit : ℕ → ℕ → ℕ → Bool
 sizesFit m n bytes =
     leb 1 m && (leb m largestGroup && (leb m n && (leb n mostMembers && (leb 1 (bytes / n) && (leb (bytes / n) longestMember && eqb (bytes % n) 0)))))

@@ -4,13 +4,13 @@ use mathlib.Core.Path.{_≡_, refl, sym, ap, ap₂, _∙_}
 use mathlib.Core.List.{List, [], _∷_, map}
 use Prim.Native.Nat.{ℕ, _+_, _-_, _*_, _%_, _≤_, _<_}
 use native.Mathlib.Omega.{arith}
-use lib.Bits.{bitXor, xor-self, xor-zero-l, xor-zero-r, xor-lt}
+use lib.Bits.{bitXor, xor-lt}
 use lib.Dec.{eqb, lt→ltb}
 use lib.ListN.{length, getD, take}
 use lib.Seq.{getD-take}
 use borrow.Author.Tests.{eq-eqb, ne-eqb, eqb-true, eqb-false}
 use Rattle.algebra.specs.FieldLaws as fld
-use Rattle.algebra.specs.Xor.{xor-assoc}
+use Rattle.algebra.specs.Xor.{xor-ne}
 use Rattle.algebra.specs.XorSums.{total, total-none, total-front}
 use Rattle.algebra.specs.BinaryLaws.{one, comm}
 use Rattle.algebra.specs.BinaryField.{below-is}
@@ -34,10 +34,6 @@ unfoldable pub Outside : ℕ → List ℕ → Type 0
 Outside q ps = All (λ p. q ≡ p → ⊥) ps
 
 -- ---- differences and their logarithms
-pub xor-ne : (a b : ℕ) → (a ≡ b → ⊥) → bitXor a b ≡ 0 → ⊥
-xor-ne a b n e =
-    n (sym (xor-zero-r a) ∙ ap (bitXor a) (sym (xor-self b)) ∙ sym (xor-assoc a b b) ∙ ap (λ (x : ℕ). bitXor x b) e ∙ xor-zero-l b)
-
 pub log-self : (c p : ℕ) → p ≡ c → logOther c p ≡ 0
 unfolding logOther
 log-self c p e = pick-true (eq-eqb p c e) 0 (logarithm (bitXor c p))

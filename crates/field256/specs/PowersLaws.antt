@@ -47,7 +47,7 @@ length-powers : length powers ≡ order
 unfolding powers
 length-powers = binary.length-doublings 8 285 order 1
 
-pub powers-at : (k : ℕ) → k < order → getD powers k 0 ≡ power k
+powers-at : (k : ℕ) → k < order → getD powers k 0 ≡ power k
 unfolding powers
 powers-at k h = binary.doublings-at 8 285 order k h
 

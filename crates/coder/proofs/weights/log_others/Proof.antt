@@ -6,12 +6,12 @@ use native.Mathlib.Omega.{arith}
 use borrow.Author.Needs.{needs}
 use Rattle.buffer.specs.LoopTests.{summing-start, summing-end}
 use Rattle.coder.specs.Weights.{logOthers}
-use Rattle.coder.proofs.Logs.{apart-pos, Adding, adding-le, adding-self, adding-other}
+use Rattle.coder.proofs.Logs.{apart-pos, LogSumming, log-sum-le, log-sum-self, log-sum-other}
 use Rattle.coder.proofs.weights.log_others.Statement.{statement}
 use Rattle.coder.proofs.weights.log_others.Tie as tie
 
 abbrev Inv-loop : tie.InvT-loop
-Inv-loop logs points m c s₀ i₀ s i = Adding c points m i s
+Inv-loop logs points m c s₀ i₀ s i = LogSumming c points m i s
 
 abbrev μ-loop : tie.MeasureT-loop
 μ-loop logs points m c s₀ i₀ s i = m - i
@@ -22,7 +22,7 @@ log-in-requires c κs = (c .before .before .before .before .pre .0, apart-pos _ 
 add-s : tie.Need-add-s Inv-loop μ-loop
 add-s c =
     let start = c .before .before .before .before .before in
-    omega (arith, adding-le (start .args .c) (start .args .points .now) (c .before .before .before .before .loop .inv), start .pre .1, c .log-in .ensures .1)
+    omega (arith, log-sum-le (start .args .c) (start .args .points .now) (c .before .before .before .before .loop .inv), start .pre .1, c .log-in .ensures .1)
 
 loop-again : tie.Need-loop-again Inv-loop μ-loop
 loop-again c =
@@ -30,8 +30,8 @@ loop-again c =
     let inv = c .before .before .before .loop .inv in
     let under = c .before .before .loop-test .taken in
     ⊎-elim
-    (λ w. rw (w .2) (adding-other (a .c) (a .points .now) inv _ under (w .0 .taken) (w .1 .ensures .0)))
-    (λ w. rw (w .1) (adding-self (a .c) (a .points .now) inv under (w .0 .left)))
+    (λ w. rw (w .2) (log-sum-other (a .c) (a .points .now) inv _ under (w .0 .taken) (w .1 .ensures .0)))
+    (λ w. rw (w .1) (log-sum-self (a .c) (a .points .now) inv under (w .0 .left)))
     (c .if1 .came)
 
 returns : tie.Need-returns Inv-loop μ-loop
