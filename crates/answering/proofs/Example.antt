@@ -13,12 +13,12 @@ use Rattle.model.specs.Perform.{output, reply}
 use Rattle.model.specs.history.Ledger.{empty, opened, home, recordAt, rankOf, placed, isOut, state, outsOf, beyondOf, lost, total, withRecords, granted}
 use Rattle.model.specs.history.Picture.{recordBytes}
 use Rattle.model.specs.history.Table.{refusals, number}
-use Rattle.model.specs.history.Answers.{bodyOf, listing, given, answer, after, final}
+use Rattle.model.specs.history.Answers.{fieldOf, listing, given, answer, after, final}
 use Rattle.model.specs.history.Leaves.{ledgerAfter, followed}
 use Rattle.lines.specs.Digits.{digit, digitOf, hexAt, numberAt, bytesAt, hex, hexBytes}
 use Rattle.lines.specs.Text.{before, linesOf}
-use Rattle.lines.specs.Line.{digitsOf, hasBody, lengthOf, readable, parsed}
-use Rattle.lines.specs.Output.{decimal, numberLine, bodyLine, recordLine}
+use Rattle.lines.specs.Line.{digitsOf, hasField, lengthOf, readable, parsed}
+use Rattle.lines.specs.Output.{decimal, numberLine, fieldLine, recordLine}
 use Rattle.answering.specs.Command.{commandOf}
 use Rattle.answering.specs.Said.{printed, textBytes, joined, hallrun}
 use Rattle.answering.specs.ByLedger.{layoutNumber, historyAfter, answerBy, ledgerLines, linesBy, saidBy}
@@ -27,8 +27,8 @@ use Rattle.answering.proofs.ByLedger.{hallrun-by-ledger}
 
 computed : joined (saidBy none (linesOf (take textBytes exampleInput))) ≡ exampleOutput
 unfolding exampleInput exampleOutput lineOf textOf linesOf before joined saidBy answerBy historyAfter layoutNumber linesBy ledgerLines followed ledgerAfter
-    commandOf parsed readable digitsOf hasBody lengthOf hexAt numberAt bytesAt entries digit printed numberLine decimal bodyLine recordLine hex hexBytes digitOf
-    final after answer reply output given bodyOf listing granted number refusals firstOf lost total beyondOf outsOf state isOut placed recordAt rankOf home
+    commandOf parsed readable digitsOf hasField lengthOf hexAt numberAt bytesAt entries digit printed numberLine decimal fieldLine recordLine hex hexBytes digitOf
+    final after answer reply output given fieldOf listing granted number refusals firstOf lost total beyondOf outsOf state isOut placed recordAt rankOf home
     withRecords opened empty recordBytes bytes32 zeros unitOf address digitSum powerBelow splitPointer tab upd all first count sum pick
 computed = refl
 

@@ -3,7 +3,7 @@ use Prim.Native.Nat.{ℕ, _*_}
 use lib.Dec.{eqb}
 use Rattle.buffer.specs.Choice.{pick}
 use Rattle.buffer.specs.Bytes.{zeros}
-use Rattle.group.specs.Widths.{bodyBytes, slotBytes}
+use Rattle.group.specs.Widths.{fieldBytes, slotBytes}
 use Rattle.model.specs.Numbers.{Call, teach, correct, erase, read, list, unitOut, repair, grow, shrink, raise}
 use Rattle.lines.specs.Line.{Line}
 
@@ -20,10 +20,10 @@ pub data Command : Type 0 where
 unfoldable pub commandOf : Line → Command
 commandOf x =
     pick (eqb (x .letter) 76) (layout (x .number))
-    (pick (eqb (x .letter) 84) (call (teach (x .number) (x .body)))
-    (pick (eqb (x .letter) 67) (call (correct (x .number) (x .body)))
+    (pick (eqb (x .letter) 84) (call (teach (x .number) (x .field)))
+    (pick (eqb (x .letter) 67) (call (correct (x .number) (x .field)))
     (pick (eqb (x .letter) 69) (call (erase (x .number)))
-    (pick (eqb (x .letter) 82) (call (read (x .number) (zeros bodyBytes)))
+    (pick (eqb (x .letter) 82) (call (read (x .number) (zeros fieldBytes)))
     (pick (eqb (x .letter) 79) (call (unitOut (x .number)))
     (pick (eqb (x .letter) 70) (call (repair (x .number)))
     (pick (eqb (x .letter) 71) (call grow)

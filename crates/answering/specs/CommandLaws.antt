@@ -4,14 +4,14 @@ use lib.Dec.{eqb}
 use borrow.Author.Tests.{eqb-true}
 use Rattle.buffer.specs.ChoiceLaws.{by-pick}
 use Rattle.buffer.specs.Bytes.{zeros}
-use Rattle.group.specs.Widths.{bodyBytes}
+use Rattle.group.specs.Widths.{fieldBytes}
 use Rattle.model.specs.Numbers.{teach, correct, erase, read, list, unitOut, repair, grow, shrink, raise}
 use Rattle.lines.specs.Line.{Line}
 use Rattle.answering.specs.Command.{Command, layout, call, unknown, listBytes, commandOf}
 
 -- what holds of the command of each letter, in the order L, T, C, E, R, O, F, G, S, K, P, and of a line that is not readable, holds of every line's
-pub by-letter : (Q : Command → Type 0) (x : Line) → Q (layout (x .number)) → Q (call (teach (x .number) (x .body))) → Q (call (correct (x .number) (x .body)))
-    → Q (call (erase (x .number))) → Q (call (read (x .number) (zeros bodyBytes))) → Q (call (unitOut (x .number))) → Q (call (repair (x .number)))
+pub by-letter : (Q : Command → Type 0) (x : Line) → Q (layout (x .number)) → Q (call (teach (x .number) (x .field))) → Q (call (correct (x .number) (x .field)))
+    → Q (call (erase (x .number))) → Q (call (read (x .number) (zeros fieldBytes))) → Q (call (unitOut (x .number))) → Q (call (repair (x .number)))
     → Q (call grow) → Q (call shrink) → Q (call raise) → (x .letter ≡ 80 → Q (call (list (zeros listBytes)))) → Q unknown → Q (commandOf x)
 unfolding commandOf
 by-letter Q x l t c e r o f g s k p none =

@@ -11,7 +11,7 @@ use Rattle.model.specs.Reads.{listedFill, wholeSlot}
 use Rattle.model.specs.Perform.{Answer, plain, copied, lent, listed, Outcome, outcome, perform, layOut}
 use Rattle.lines.specs.Text.{linesOf}
 use Rattle.lines.specs.Line.{parsed}
-use Rattle.lines.specs.Output.{numberLine, bodyLine, recordLine}
+use Rattle.lines.specs.Output.{numberLine, fieldLine, recordLine}
 use Rattle.answering.specs.Command.{Command, layout, call, unknown, commandOf}
 
 -- what a command ends in: the answer, and the store's bytes; the number of a line that is not readable is 10, before any other
@@ -20,15 +20,15 @@ executed s (layout b) = layOut s b
 executed s (call c) = perform s c
 executed s unknown = outcome (plain 10) s
 
--- what is printed of an answer: its number; behind that of a granted read the body; behind that of a granted list the lines of the records. No line
+-- what is printed of an answer: its number; behind that of a granted read the field; behind that of a granted list the lines of the records. No line
 -- reads in place
 unfoldable pub printed : Answer → List ℕ → List ℕ
 printed (plain n) records = numberLine n
-printed (copied n body) records = pick (eqb n 0) (bodyLine body) (numberLine n)
+printed (copied n field) records = pick (eqb n 0) (fieldLine field) (numberLine n)
 printed (lent x) records = []
 printed (listed n count bytes) records = numberLine n ++ pick (eqb n 0) records []
 
--- a line for each record of a store, by unit and then rank, out units rebuilt: its unit, its rank counted from 1, its key and its body
+-- a line for each record of a store, by unit and then rank, out units rebuilt: its unit, its rank counted from 1, its key and its field
 unfoldable pub recordLines : Store → List ℕ
 recordLines v = tab 16 (λ u. tab (listedFill v u) (λ r. recordLine u (suc r) (wholeSlot v u r)))
 

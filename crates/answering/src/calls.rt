@@ -4,7 +4,7 @@ ghost use mathlib.Core.List.{[]};
 ghost use Prim.Native.Nat.{_≤_};
 ghost use lib.ListN.{length};
 ghost use Rattle.buffer.specs.Bytes.{zeros};
-ghost use Rattle.group.specs.Widths.{bodyBytes};
+ghost use Rattle.group.specs.Widths.{fieldBytes};
 ghost use Rattle.model.specs.Layout.{view};
 ghost use Rattle.model.specs.Reads.{listingIn};
 ghost use Rattle.model.specs.Numbers.{Call, numberIn};
@@ -20,15 +20,15 @@ use lines::line::Line;
 // The call of a line that prints its number alone: of any line but those with R and P. 10 for a line that is not readable.
 pub fn number_of(store: &mut [u8], x: Line) -> u8
     requires { ⌜ (x .letter ≡ 82 → ⊥) × (x .letter ≡ 80 → ⊥) ⌝ }
-    ensures { λ r. ⌜ outcome (plain r) (now (store .exit)) ≡ executed (now (store .entry)) (commandOf (line (x .letter) (x .number) (x .body))) ⌝ }
+    ensures { λ r. ⌜ outcome (plain r) (now (store .exit)) ≡ executed (now (store .entry)) (commandOf (line (x .letter) (x .number) (x .field))) ⌝ }
 {
     let letter = x.letter;
     let number = x.number;
-    let body = x.body;
+    let field = x.field;
     match letter {
         b'L' => store::lay_out::lay_out(store, number),
-        b'T' => writing::teach(store, number, &body),
-        b'C' => writing::correct(store, number, &body),
+        b'T' => writing::teach(store, number, &field),
+        b'C' => writing::correct(store, number, &field),
         b'E' => writing::erase(store, number),
         b'O' => writing::unit_out(store, number),
         b'F' => repairing::repair(store, number),
@@ -39,15 +39,15 @@ pub fn number_of(store: &mut [u8], x: Line) -> u8
     }
 }
 
-// A read prints its number, and where it is granted the body behind it.
+// A read prints its number, and where it is granted the field behind it.
 pub fn answer_read(store: &[u8], key: u32, out: &mut [u8]) -> usize
     requires { ⌜ answerBytes ≤ length (now out) ⌝ }
-    ensures { λ r. ⌜ Put (printed (perform (now (store .entry)) (Call.read key (zeros bodyBytes)) .answer) []) (now (out .entry)) (now (out .exit)) r ⌝ }
+    ensures { λ r. ⌜ Put (printed (perform (now (store .entry)) (Call.read key (zeros fieldBytes)) .answer) []) (now (out .entry)) (now (out .exit)) r ⌝ }
 {
-    let mut body = [0u8; group::BODY];
-    let number = reading::read(store, key, &mut body);
+    let mut field = [0u8; group::FIELD];
+    let number = reading::read(store, key, &mut field);
     if number == 0 {
-        return lines::output::put_body(out, &body);
+        return lines::output::put_field(out, &field);
     }
     lines::output::put_number(out, number)
 }

@@ -13,7 +13,7 @@ use Rattle.buffer.specs.TestLaws.{and-first, and-second, and-ext}
 use Rattle.buffer.specs.Bytes.{byte, splice}
 use Rattle.buffer.specs.SpliceLaws.{splice-next, splice-before}
 use Rattle.buffer.specs.Table.{tab}
-use Rattle.group.specs.Widths.{keyBytes, keysBytes, bodyBytes, checkBytes}
+use Rattle.group.specs.Widths.{keyBytes, keysBytes, fieldBytes, checkBytes}
 use Rattle.group.specs.Parity.{parity}
 use Rattle.group.specs.CheckRecord.{checkRecord}
 use Rattle.model.specs.Layout.{Store, bytes, view, checkAt}
@@ -58,11 +58,11 @@ module _ {s : List ℕ} {c r : ℕ} (h : CheckIn s c r) where
 
   module _ (keys x : List ℕ) (b at : ℕ) (e : keys ++ x ≡ madeRecord (view s) c r) (eb : b ≡ byte s 5) (ea : at ≡ checkAt b c r) where
     -- the keys first, or the parity first
-    pub record-put : length keys ≡ keysBytes → splice (at + keysBytes) bodyBytes x (splice at keysBytes keys s) ≡ bytes (madeAt (atRank r (isUnit c)) (view s))
-    record-put lk = splice-next at keysBytes bodyBytes keys x s (omega (arith, record-room eb ea)) lk ∙ record-whole keys x b at e eb ea
+    pub record-put : length keys ≡ keysBytes → splice (at + keysBytes) fieldBytes x (splice at keysBytes keys s) ≡ bytes (madeAt (atRank r (isUnit c)) (view s))
+    record-put lk = splice-next at keysBytes fieldBytes keys x s (omega (arith, record-room eb ea)) lk ∙ record-whole keys x b at e eb ea
 
-    pub record-put-back : splice at keysBytes keys (splice (at + keysBytes) bodyBytes x s) ≡ bytes (madeAt (atRank r (isUnit c)) (view s))
-    record-put-back = splice-before at keysBytes bodyBytes keys x s (omega (arith, record-room eb ea)) ∙ record-whole keys x b at e eb ea
+    pub record-put-back : splice at keysBytes keys (splice (at + keysBytes) fieldBytes x s) ≡ bytes (madeAt (atRank r (isUnit c)) (view s))
+    record-put-back = splice-before at keysBytes fieldBytes keys x s (omega (arith, record-room eb ea)) ∙ record-whole keys x b at e eb ea
 
   -- the unit is in service
   pub serving-put : {s′ : List ℕ} → byte s (24 + c) ≡ 1 → s′ ≡ bytes (madeAt (atRank r (isUnit c)) (view s))

@@ -9,7 +9,7 @@ use lib.Dec.{eqb}
 use lib.ListN.{length}
 use Rattle.buffer.specs.Choice.{pick}
 use Rattle.buffer.specs.ChoiceLaws.{by-pick, pick-false, pick-or}
-use Rattle.group.specs.Widths.{bodyBytes, checkBytes}
+use Rattle.group.specs.Widths.{fieldBytes, checkBytes}
 use Rattle.group.specs.CheckRecordLaws.{checkRecord-ext, length-checkRecord}
 use Rattle.model.specs.Layout.{Store, bytes, view}
 use Rattle.model.specs.Places.{Long}
@@ -21,7 +21,7 @@ use Rattle.encoding.specs.Holding.{Holds, Change, holds-start, holds-sam
 -- ---- one record
 pub made-long : (t : Store) → Shaped t → (c r : ℕ) → c < 12 → r < t .size → length (madeRecord t c r) ≡ checkBytes
 unfolding madeRecord
-made-long t h c r a b = length-checkRecord bodyBytes (c % 3) (λ p. t .slot (4 * (c / 3) + p) r) (λ p l. h .slot (4 * (c / 3) + p) r (omega arith) b)
+made-long t h c r a b = length-checkRecord fieldBytes (c % 3) (λ p. t .slot (4 * (c / 3) + p) r) (λ p l. h .slot (4 * (c / 3) + p) r (omega arith) b)
 
 pub made-same : (s t : Store) → Same s t → (c r : ℕ) → c < 12 → r < t .size → madeRecord s c r ≡ madeRecord t c r
 unfolding madeRecord

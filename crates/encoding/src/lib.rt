@@ -5,7 +5,7 @@ ghost use Prim.Native.Nat.{_+_, _*_, _≤_, _<_};
 ghost use lib.ListN.{length, take, drop};
 ghost use Rattle.buffer.specs.Bytes.{byte, splice};
 ghost use Rattle.buffer.specs.Table.{tab};
-ghost use Rattle.group.specs.Widths.{keyBytes, keysBytes, bodyBytes};
+ghost use Rattle.group.specs.Widths.{keyBytes, keysBytes, fieldBytes};
 ghost use Rattle.group.specs.Parity.{parity};
 ghost use Rattle.group.specs.ScaledRow.{firstRow, secondRow};
 ghost use Rattle.model.specs.Layout.{bytes, view, slotAt};
@@ -41,7 +41,7 @@ fn fill_parities(
     first: &[u8; 256],
     second: &[u8; 256],
 )
-    requires { ⌜ RankIn (now s) g r × (length (now x) ≡ bodyBytes) × (length (now y) ≡ bodyBytes) × (length (now z) ≡ bodyBytes)
+    requires { ⌜ RankIn (now s) g r × (length (now x) ≡ fieldBytes) × (length (now y) ≡ fieldBytes) × (length (now z) ≡ fieldBytes)
         × (now first ≡ firstRow) × (now second ≡ secondRow) ⌝ }
     ensures { λ _. ⌜ (now (x .exit) ≡ parity 0 (λ p. drop keyBytes (view (now (s .entry)) .slot (4 * g + p) r)))
         × (now (y .exit) ≡ parity 1 (λ p. drop keyBytes (view (now (s .entry)) .slot (4 * g + p) r)))
@@ -66,7 +66,7 @@ fn fill_parities(
 }
 
 // Rank r of check unit c, if the unit is in service, gets its keys and its parity. Both come by value: the compiler copies a whole array at once.
-fn put_serving(s: &mut [u8], c: u8, r: u8, keys: [u8; group::KEYS], parity: [u8; group::BODY])
+fn put_serving(s: &mut [u8], c: u8, r: u8, keys: [u8; group::KEYS], parity: [u8; group::FIELD])
     requires { ⌜ CheckIn (now s) c r × (keys ++ parity ≡ madeRecord (view (now s)) c r) ⌝ }
     ensures { λ _. ⌜ now (s .exit) ≡ bytes (madeAt (atRank r (inState 1 (view (now (s .entry))) (isUnit c))) (view (now (s .entry)))) ⌝ }
 {
@@ -84,9 +84,9 @@ fn make_rank(s: &mut [u8], g: u8, r: u8, first: &[u8; 256], second: &[u8; 256])
 {
     let mut keys = [0u8; group::KEYS];
     copy_keys(&mut keys, s, g, r);
-    let mut x = [0u8; group::BODY];
-    let mut y = [0u8; group::BODY];
-    let mut z = [0u8; group::BODY];
+    let mut x = [0u8; group::FIELD];
+    let mut y = [0u8; group::FIELD];
+    let mut z = [0u8; group::FIELD];
     fill_parities(&mut x, &mut y, &mut z, s, g, r, first, second);
     put_serving(s, 3 * g, r, keys, x);
     put_serving(s, 3 * g + 1, r, keys, y);
@@ -110,11 +110,11 @@ pub fn make_group(s: &mut [u8], g: u8, first: &[u8; 256], second: &[u8; 256])
 }
 
 // ---- one check unit
-// The parity of rank r of group g at check place j, written from `to` on, behind all slots: that of the bodies exchanged by pairs, at check place 0.
+// The parity of rank r of group g at check place j, written from `to` on, behind all slots: that of the fields exchanged by pairs, at check place 0.
 fn write_parity(s: &mut [u8], to: usize, g: u8, j: u8, r: u8, first: &[u8; 256], second: &[u8; 256])
-    requires { ⌜ RankIn (now s) g r × (j < 3) × (slotAt (byte (now s) 5) 16 0 ≤ to) × (to + bodyBytes ≤ length (now s)) × (now first ≡ firstRow)
+    requires { ⌜ RankIn (now s) g r × (j < 3) × (slotAt (byte (now s) 5) 16 0 ≤ to) × (to + fieldBytes ≤ length (now s)) × (now first ≡ firstRow)
         × (now second ≡ secondRow) ⌝ }
-    ensures { λ _. ⌜ now (s .exit) ≡ splice to bodyBytes (parity j (λ p. drop keyBytes (view (now (s .entry)) .slot (4 * g + p) r))) (now (s .entry)) ⌝ }
+    ensures { λ _. ⌜ now (s .exit) ≡ splice to fieldBytes (parity j (λ p. drop keyBytes (view (now (s .entry)) .slot (4 * g + p) r))) (now (s .entry)) ⌝ }
 {
     let size = s[lookup::SIZE_AT];
     let a = lookup::slot_at(size, 4 * g + (0 ^ j), r) + group::KEY;

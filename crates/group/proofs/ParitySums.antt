@@ -14,7 +14,7 @@ use Rattle.algebra.specs.Xor.{xor-assoc}
 use Rattle.code.specs.Scaling.{scale}
 use Rattle.code.specs.ScalingLaws.{scale-add, add-scale, scale-one}
 use Rattle.code.specs.Matrix.{matrix, entry}
-use Rattle.group.specs.Widths.{bodyBytes}
+use Rattle.group.specs.Widths.{fieldBytes}
 use Rattle.group.specs.Body.{scaleBody}
 use Rattle.group.specs.BodyLaws.{length-scale, byte-scale}
 use Rattle.group.specs.Parity.{coefficient, bodyAt, parity}
@@ -60,17 +60,17 @@ row-byte w x h = getD-entries 256 (scale w) x 0 h
 
 -- ---- the parities of four bodies
 -- a byte of the parity at check place 0
-parity-byte : (f : ℕ → List ℕ) → ((p : ℕ) → length (f p) ≡ bodyBytes) → (i : ℕ) → i < bodyBytes → byte (parity 0 f) i ≡ mixture (λ p. byte (f p) i)
+parity-byte : (f : ℕ → List ℕ) → ((p : ℕ) → length (f p) ≡ fieldBytes) → (i : ℕ) → i < fieldBytes → byte (parity 0 f) i ≡ mixture (λ p. byte (f p) i)
 unfolding parity bodyAt coefficient
 parity-byte f long i l =
-    byte-sum4 bodyBytes (λ p. scaleBody (coefficient p 0) (f p)) (λ p k. length-scale (coefficient p 0) (f p) ∙ long p) i
+    byte-sum4 fieldBytes (λ p. scaleBody (coefficient p 0) (f p)) (λ p k. length-scale (coefficient p 0) (f p) ∙ long p) i
     ∙ total-ext
     (λ p. byte (scaleBody (coefficient p 0) (f p)) i)
     (λ p. scale (coefficient p 0) (byte (f p) i))
     (λ p k. byte-scale (coefficient p 0) (f p) i (omega (arith, long p)))
 
-module _ (a b c d : List ℕ) (la : length a ≡ bodyBytes) (lb : length b ≡ bodyBytes) (lc : length c ≡ bodyBytes) (ld : length d ≡ bodyBytes) where
-  four-long : (p : ℕ) → length (fourBodies a b c d p) ≡ bodyBytes
+module _ (a b c d : List ℕ) (la : length a ≡ fieldBytes) (lb : length b ≡ fieldBytes) (lc : length c ≡ fieldBytes) (ld : length d ≡ fieldBytes) where
+  four-long : (p : ℕ) → length (fourBodies a b c d p) ≡ fieldBytes
   unfolding fourBodies
   four-long zero = la
   four-long (suc zero) = lb
@@ -78,7 +78,7 @@ module _ (a b c d : List ℕ) (la : length a ≡ bodyBytes) (lb : length b ≡ b
   four-long (suc (suc (suc p))) = ld
 
   -- a byte of the parity at check place j: the sum by the coefficients of check place 0, the bodies exchanged
-  pub parity-place : (i : ℕ) → i < bodyBytes → (j v : ℕ) → j < 3 → v ≡ mixture (λ p. byte (fourBodies a b c d (exchanged j p)) i)
+  pub parity-place : (i : ℕ) → i < fieldBytes → (j v : ℕ) → j < 3 → v ≡ mixture (λ p. byte (fourBodies a b c d (exchanged j p)) i)
       → v ≡ byte (parity j (fourBodies a b c d)) i
   parity-place i l j v k e =
       e
@@ -86,11 +86,11 @@ module _ (a b c d : List ℕ) (la : length a ≡ bodyBytes) (lb : length b ≡ b
       ∙ ap (λ x. byte x i) (sym (parity-exchanged j k (fourBodies a b c d)))
 
   -- all its bytes
-  pub parity-entries : (j : ℕ) → entries bodyBytes (byte (parity j (fourBodies a b c d))) ≡ parity j (fourBodies a b c d)
-  parity-entries j = sym (entries-of (parity j (fourBodies a b c d)) bodyBytes (byte (parity j (fourBodies a b c d)))
-      (length-parity bodyBytes j (fourBodies a b c d) (λ p _. four-long p)) (λ k l. refl))
+  pub parity-entries : (j : ℕ) → entries fieldBytes (byte (parity j (fourBodies a b c d))) ≡ parity j (fourBodies a b c d)
+  parity-entries j = sym (entries-of (parity j (fourBodies a b c d)) fieldBytes (byte (parity j (fourBodies a b c d)))
+      (length-parity fieldBytes j (fourBodies a b c d) (λ p _. four-long p)) (λ k l. refl))
 
-  pub parity-filled : (j : ℕ) {x₀ x : List ℕ} {i : ℕ} → Filling (byte (parity j (fourBodies a b c d))) x₀ x i → length x₀ ≡ bodyBytes → bodyBytes ≤ i
+  pub parity-filled : (j : ℕ) {x₀ x : List ℕ} {i : ℕ} → Filling (byte (parity j (fourBodies a b c d))) x₀ x i → length x₀ ≡ fieldBytes → fieldBytes ≤ i
       → x ≡ parity j (fourBodies a b c d)
   parity-filled j {x₀} {x} {i} g e h =
       filling-end g (omega (arith, g .long))

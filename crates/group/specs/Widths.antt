@@ -6,16 +6,16 @@ use Prim.Native.Nat.{ℕ, _+_, _*_}
 abbrev pub keyBytes : ℕ
 keyBytes = 4
 
-abbrev pub bodyBytes : ℕ
-bodyBytes = 16
+abbrev pub fieldBytes : ℕ
+fieldBytes = 16
 
 -- a slot: a key and a body
 abbrev pub slotBytes : ℕ
-slotBytes = keyBytes + bodyBytes
+slotBytes = keyBytes + fieldBytes
 
 -- the keys of a check record, one for each place of the group; and the whole record: these and the parity
 abbrev pub keysBytes : ℕ
 keysBytes = 4 * keyBytes
 
 abbrev pub checkBytes : ℕ
-checkBytes = keysBytes + bodyBytes
+checkBytes = keysBytes + fieldBytes

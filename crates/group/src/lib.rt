@@ -23,13 +23,13 @@ ghost use Rattle.group.specs.Four.{fourBodies};
 // and a parity.
 pub const KEY: usize = 4;
 
-pub const BODY: usize = 16;
+pub const FIELD: usize = 16;
 
-pub const SLOT: usize = KEY + BODY;
+pub const SLOT: usize = KEY + FIELD;
 
 pub const KEYS: usize = 4 * KEY;
 
-pub const CHECK: usize = KEYS + BODY;
+pub const CHECK: usize = KEYS + FIELD;
 
 // The table of products, for the layer above; it is taken once and lent.
 pub fn table() -> [u8; 256]
@@ -88,7 +88,7 @@ pub fn follow(
     check: u8,
     place: u8,
     key: [u8; KEY],
-    change: [u8; BODY],
+    change: [u8; FIELD],
     table: &[u8; 256],
 )
     requires { ⌜ (length (now into) ≡ checkBytes) × (check < 3) × (place < 4) × (now table ≡ products) ⌝ }

@@ -7,7 +7,7 @@ ghost use lib.ListN.{length};
 ghost use Rattle.buffer.specs.Bytes.{part, splice};
 ghost use Rattle.code.specs.Scaling.{scale};
 ghost use Rattle.code.specs.Products.{products};
-ghost use Rattle.group.specs.Widths.{bodyBytes};
+ghost use Rattle.group.specs.Widths.{fieldBytes};
 ghost use Rattle.group.specs.Parity.{coefficient, parity};
 ghost use Rattle.group.specs.Four.{fourBodies};
 ghost use Rattle.group.specs.ScaledRow.{scaledRow, firstRow, secondRow};
@@ -69,13 +69,13 @@ pub fn write_first(
     eights: &[u8; 256],
     sevens: &[u8; 256],
 )
-    requires { ⌜ (to + bodyBytes ≤ length (now s)) × (a + bodyBytes ≤ to) × (b + bodyBytes ≤ to) × (c + bodyBytes ≤ to) × (d + bodyBytes ≤ to)
+    requires { ⌜ (to + fieldBytes ≤ length (now s)) × (a + fieldBytes ≤ to) × (b + fieldBytes ≤ to) × (c + fieldBytes ≤ to) × (d + fieldBytes ≤ to)
         × (now eights ≡ firstRow) × (now sevens ≡ secondRow) ⌝ }
-    ensures { λ _. ⌜ now (s .exit) ≡ splice to bodyBytes (parity 0 (fourBodies (part a bodyBytes (now (s .entry))) (part b bodyBytes (now (s .entry)))
-        (part c bodyBytes (now (s .entry))) (part d bodyBytes (now (s .entry))))) (now (s .entry)) ⌝ }
+    ensures { λ _. ⌜ now (s .exit) ≡ splice to fieldBytes (parity 0 (fourBodies (part a fieldBytes (now (s .entry))) (part b fieldBytes (now (s .entry)))
+        (part c fieldBytes (now (s .entry))) (part d fieldBytes (now (s .entry))))) (now (s .entry)) ⌝ }
 {
     let mut i = 0;
-    while i < super::BODY {
+    while i < super::FIELD {
         s[to + i] = mix(eights, sevens, s[a + i], s[b + i], s[c + i], s[d + i]);
         i += 1;
     }
@@ -93,14 +93,14 @@ pub fn fill(
     eights: &[u8; 256],
     sevens: &[u8; 256],
 )
-    requires { ⌜ (length (now x) ≡ bodyBytes) × (length (now y) ≡ bodyBytes) × (length (now z) ≡ bodyBytes) × (length (now a) ≡ bodyBytes)
-        × (length (now b) ≡ bodyBytes) × (length (now c) ≡ bodyBytes) × (length (now d) ≡ bodyBytes) × (now eights ≡ firstRow) × (now sevens ≡ secondRow) ⌝ }
+    requires { ⌜ (length (now x) ≡ fieldBytes) × (length (now y) ≡ fieldBytes) × (length (now z) ≡ fieldBytes) × (length (now a) ≡ fieldBytes)
+        × (length (now b) ≡ fieldBytes) × (length (now c) ≡ fieldBytes) × (length (now d) ≡ fieldBytes) × (now eights ≡ firstRow) × (now sevens ≡ secondRow) ⌝ }
     ensures { λ _. ⌜ (now (x .exit) ≡ parity 0 (fourBodies (now (a .entry)) (now (b .entry)) (now (c .entry)) (now (d .entry))))
         × (now (y .exit) ≡ parity 1 (fourBodies (now (a .entry)) (now (b .entry)) (now (c .entry)) (now (d .entry))))
         × (now (z .exit) ≡ parity 2 (fourBodies (now (a .entry)) (now (b .entry)) (now (c .entry)) (now (d .entry)))) ⌝ }
 {
     let mut i = 0;
-    while i < super::BODY {
+    while i < super::FIELD {
         let e = a[i];
         let f = b[i];
         let g = c[i];

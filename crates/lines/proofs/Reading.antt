@@ -1,4 +1,4 @@
--- What holds at each turn of the loops that read digits: of a number, digit by digit, and of a body, byte by byte. Assumes nothing.
+-- What holds at each turn of the loops that read digits: of a number, digit by digit, and of a field, byte by byte. Assumes nothing.
 use Prim.Native.Nat.{ℕ, _+_, _*_, _^_, _≤_, _<_}
 use mathlib.Core.Path.{_≡_, refl, sym, ap, _∙_}
 use mathlib.Core.Bool.{Bool, true, false, not}
@@ -14,9 +14,9 @@ use Rattle.buffer.specs.Loops.{entries}
 use Rattle.buffer.specs.Bytes.{byte, zeros}
 use Rattle.buffer.specs.LoopTests.{Passing, passing-start, passing-turn, passing-fail, passing-end}
 use Rattle.buffer.specs.LoopWrites.{Filling, filling-start, filling-turn, filling-end}
-use Rattle.group.specs.Widths.{bodyBytes}
-use Rattle.lines.specs.Digits.{bodyDigits, digit, hexAt, numberAt, bytesAt}
-use Rattle.lines.specs.Found.{Numbered, Embodied}
+use Rattle.group.specs.Widths.{fieldBytes}
+use Rattle.lines.specs.Digits.{fieldDigits, digit, hexAt, numberAt, bytesAt}
+use Rattle.lines.specs.Found.{Numbered, FieldFound}
 use Rattle.lines.specs.DigitLaws.{numberAt-more, numberAt-lt, hexAt-pairs}
 
 -- ---- a number: i of its n digits are read
@@ -65,13 +65,13 @@ pub not-ok : {l : List ℕ} {at n v : ℕ} {t : Bool} → Numbered l at n t v �
 not-ok {t = true} r h = not-both h refl
 not-ok {t = false} r h = r
 
--- ---- a body: i of its bytes are read
-pub record Bodying (l : List ℕ) (at : ℕ) (b₀ b : List ℕ) (i : ℕ) : Type 0 where
-  pub passed : Passing (λ k. hexAt l (at + 2 * k) 2) bodyBytes i
+-- ---- a field: i of its bytes are read
+pub record FieldRead (l : List ℕ) (at : ℕ) (b₀ b : List ℕ) (i : ℕ) : Type 0 where
+  pub passed : Passing (λ k. hexAt l (at + 2 * k) 2) fieldBytes i
   pub filled : Filling (λ k. numberAt l (at + 2 * k) 2) b₀ b i
 
-pub bodying-start : {l : List ℕ} {at : ℕ} {b : List ℕ} → Bodying l at b b 0
-bodying-start = record { passed = passing-start; filled = filling-start }
+pub field-read-start : {l : List ℕ} {at : ℕ} {b : List ℕ} → FieldRead l at b b 0
+field-read-start = record { passed = passing-start; filled = filling-start }
 
 -- the two digits of byte i
 pub two-digits : {l : List ℕ} {at v : ℕ} → Numbered l at 2 true v → (v ≡ numberAt l at 2) × (v < 256)
@@ -79,27 +79,27 @@ two-digits {l} {at} {v} r =
     let e : v ≡ numberAt l at 2 = r .found ∙ pick-true (sym (r .tested)) (numberAt l at 2) 0 in
     (e, omega (arith, numberAt-lt l at 2 (sym (r .tested))))
 
-pub bodying-turn : {l : List ℕ} {at : ℕ} {b₀ b : List ℕ} {i v : ℕ} (x : ℕ) → Bodying l at b₀ b i → i < bodyBytes → i < length b
+pub field-read-turn : {l : List ℕ} {at : ℕ} {b₀ b : List ℕ} {i v : ℕ} (x : ℕ) → FieldRead l at b₀ b i → i < fieldBytes → i < length b
     → Numbered l (at + 2 * i) 2 true v
     → x ≡ v
-    → Bodying l at b₀ (set b i x) (i + 1)
-bodying-turn {l} {at} {b₀} {b} {i} {v} x g h k r e =
+    → FieldRead l at b₀ (set b i x) (i + 1)
+field-read-turn {l} {at} {b₀} {b} {i} {v} x g h k r e =
     record { passed = passing-turn (g .passed) h (sym (r .tested)); filled = filling-turn x (g .filled) k (e ∙ two-digits r .0) }
 
-pub bodying-fail : {l : List ℕ} {at : ℕ} {b₀ b : List ℕ} {i v : ℕ} → Bodying l at b₀ b i → i < bodyBytes → Numbered l (at + 2 * i) 2 false v
-    → Embodied l at false (zeros bodyBytes)
-bodying-fail {l} {at} g h r =
-    let is : false ≡ hexAt l at bodyDigits = passing-fail (g .passed) h (sym (r .tested)) ∙ sym (hexAt-pairs l at bodyBytes) in
-    record { tested = is; found = sym (pick-false (sym is) (bytesAt l at bodyBytes) (zeros bodyBytes)) }
+pub field-read-fail : {l : List ℕ} {at : ℕ} {b₀ b : List ℕ} {i v : ℕ} → FieldRead l at b₀ b i → i < fieldBytes → Numbered l (at + 2 * i) 2 false v
+    → FieldFound l at false (zeros fieldBytes)
+field-read-fail {l} {at} g h r =
+    let is : false ≡ hexAt l at fieldDigits = passing-fail (g .passed) h (sym (r .tested)) ∙ sym (hexAt-pairs l at fieldBytes) in
+    record { tested = is; found = sym (pick-false (sym is) (bytesAt l at fieldBytes) (zeros fieldBytes)) }
 
-pub bodying-end : {l : List ℕ} {at : ℕ} {b₀ b : List ℕ} {i : ℕ} → Bodying l at b₀ b i → length b₀ ≡ bodyBytes → bodyBytes ≤ i → Embodied l at true b
+pub field-read-end : {l : List ℕ} {at : ℕ} {b₀ b : List ℕ} {i : ℕ} → FieldRead l at b₀ b i → length b₀ ≡ fieldBytes → fieldBytes ≤ i → FieldFound l at true b
 unfolding bytesAt
-bodying-end {l} {at} {b₀} {b} {i} g e h =
-    let is : true ≡ hexAt l at bodyDigits = passing-end (g .passed) h ∙ sym (hexAt-pairs l at bodyBytes) in
+field-read-end {l} {at} {b₀} {b} {i} g e h =
+    let is : true ≡ hexAt l at fieldDigits = passing-end (g .passed) h ∙ sym (hexAt-pairs l at fieldBytes) in
     record {
       tested = is;
       found =
           filling-end (g .filled) (omega (arith, g .filled .long))
           ∙ ap (λ n. entries n (λ k. numberAt l (at + 2 * k) 2)) e
-          ∙ sym (pick-true (sym is) (bytesAt l at bodyBytes) (zeros bodyBytes));
+          ∙ sym (pick-true (sym is) (bytesAt l at fieldBytes) (zeros fieldBytes));
     }

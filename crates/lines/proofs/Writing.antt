@@ -8,11 +8,11 @@ use lib.Seq.{take-all, take-at, drop-at, drop-drop, length-take-le}
 use Rattle.buffer.specs.Bytes.{splice}
 use Rattle.buffer.specs.SpliceLaws.{splice-next, set-splice}
 use Rattle.buffer.specs.TableLaws.{tab-one}
-use Rattle.group.specs.Widths.{keyBytes, bodyBytes, slotBytes}
+use Rattle.group.specs.Widths.{keyBytes, fieldBytes, slotBytes}
 use Rattle.lines.specs.Digits.{hexBytes}
 use Rattle.lines.specs.DigitLaws.{length-hexBytes}
-use Rattle.lines.specs.Output.{bodyLine, recordLine}
-use Rattle.lines.specs.Put.{bodyLineBytes, recordLineBytes, argumentPut, Put}
+use Rattle.lines.specs.Output.{fieldLine, recordLine}
+use Rattle.lines.specs.Put.{fieldLineBytes, recordLineBytes, argumentPut, Put}
 
 -- the digits of x, then the byte behind them
 pub argument-put : (l x h : List ℕ) (at m end behind : ℕ) → m ≡ 2 * length x → end ≡ at + 2 * length x → h ≡ hexBytes (length x) x
@@ -57,24 +57,24 @@ put-argument {k = k} y behind g e q =
     rw (q, e) (rw long at (put-piece (argument k y behind) g))
 
 -- ---- the lines
-pub body-line : {old new new′ : List ℕ} (body : List ℕ) → Put (48 ∷ 32 ∷ []) old new 2 → length body ≡ bodyBytes → new′ ≡ argumentPut new 2 body 10
-    → Put (bodyLine body) old new′ bodyLineBytes
-unfolding bodyLine argument
-body-line body g e q = put-argument body 10 g e q
+pub field-line : {old new new′ : List ℕ} (field : List ℕ) → Put (48 ∷ 32 ∷ []) old new 2 → length field ≡ fieldBytes → new′ ≡ argumentPut new 2 field 10
+    → Put (fieldLine field) old new′ fieldLineBytes
+unfolding fieldLine argument
+field-line field g e q = put-argument field 10 g e q
 
 pub record-line : (l l₁ l₂ l₃ l₄ x : List ℕ) (u r : ℕ) → length l ≡ recordLineBytes → length x ≡ slotBytes
     → l₁ ≡ argumentPut l 0 (u ∷ []) 32 → l₂ ≡ argumentPut l₁ 3 (r ∷ []) 32 → l₃ ≡ argumentPut l₂ 6 (take keyBytes x) 32
-    → l₄ ≡ argumentPut l₃ 15 (take bodyBytes (drop keyBytes x)) 10
+    → l₄ ≡ argumentPut l₃ 15 (take fieldBytes (drop keyBytes x)) 10
     → l₄ ≡ recordLine u r x
 record-line l l₁ l₂ l₃ l₄ x u r el ex e₁ e₂ e₃ e₄ =
     let ek : length (take keyBytes x) ≡ keyBytes = length-take-le keyBytes x (omega arith) in
-    let eb : length (drop keyBytes x) ≡ bodyBytes = simp length-drop (omega arith) in
-    let whole : take bodyBytes (drop keyBytes x) ≡ drop keyBytes x = take-all bodyBytes (drop keyBytes x) (omega arith) in
+    let eb : length (drop keyBytes x) ≡ fieldBytes = simp length-drop (omega arith) in
+    let whole : take fieldBytes (drop keyBytes x) ≡ drop keyBytes x = take-all fieldBytes (drop keyBytes x) (omega arith) in
     let g = put-argument (drop keyBytes x) 10 (put-argument (take keyBytes x) 32 (put-argument (r ∷ []) 32 (put-argument (u ∷ []) 32 (put-none l)
     refl e₁) refl e₂) ek e₃) eb (e₄ ∙ ap (λ y. argumentPut l₃ 15 y 10) whole) in
     g .bytes ∙ rw (← g .long, drop-of-length-le l {i = recordLineBytes} (omega arith)) (append-nil _) ∙ joined u r x
   where
     joined : (u r : ℕ) (x : List ℕ)
-        → ((argument 1 (u ∷ []) 32 ++ argument 1 (r ∷ []) 32) ++ argument keyBytes (take keyBytes x) 32) ++ argument bodyBytes (drop keyBytes x) 10
+        → ((argument 1 (u ∷ []) 32 ++ argument 1 (r ∷ []) 32) ++ argument keyBytes (take keyBytes x) 32) ++ argument fieldBytes (drop keyBytes x) 10
         ≡ recordLine u r x
     joined u r x = unfold argument recordLine hexBytes in rw (tab-one, tab-one) (simp append-assoc)

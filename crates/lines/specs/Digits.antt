@@ -8,7 +8,7 @@ use Rattle.buffer.specs.Range.{all}
 use Rattle.buffer.specs.Loops.{entries}
 use Rattle.buffer.specs.Bytes.{byte}
 use Rattle.buffer.specs.Table.{tab}
-use Rattle.group.specs.Widths.{bodyBytes}
+use Rattle.group.specs.Widths.{fieldBytes}
 
 -- the value of a digit, 0 to 9 and A to F; 16 for any other byte
 unfoldable pub digit : ℕ → ℕ
@@ -39,6 +39,6 @@ hex (suc n) x = hex n (x / 16) ++ (digitOf (x % 16) ∷ [])
 unfoldable pub hexBytes : ℕ → List ℕ → List ℕ
 hexBytes n s = tab n (λ i. hex 2 (byte s i))
 
--- the digits of a body
-abbrev pub bodyDigits : ℕ
-bodyDigits = 2 * bodyBytes
+-- the digits of a field
+abbrev pub fieldDigits : ℕ
+fieldDigits = 2 * fieldBytes

@@ -7,7 +7,7 @@ use lib.ListN.{length, take, drop, length-append, length-drop, drop-of-length-le
 use lib.Seq.{take-all, take-at, drop-at, drop-drop}
 use borrow.Author.Tests.{lt-ltb}
 use Rattle.buffer.specs.Choice.{pick}
-use Rattle.group.specs.Widths.{keyBytes, bodyBytes}
+use Rattle.group.specs.Widths.{keyBytes, fieldBytes}
 use Rattle.lines.specs.DigitLaws.{length-hex, length-hexBytes}
 use Rattle.lines.specs.Output.{decimal, numberLine, recordLine}
 use Rattle.lines.specs.Put.{recordLineBytes, Put}
@@ -20,7 +20,7 @@ pub length-recordLine : (u r : ℕ) (x : List ℕ) → length (recordLine u r x)
 unfolding recordLine
 length-recordLine u r x =
     simp length-append
-    (omega (arith, length-hex 2 u, length-hex 2 r, length-hexBytes keyBytes (take keyBytes x), length-hexBytes bodyBytes (drop keyBytes x)))
+    (omega (arith, length-hex 2 u, length-hex 2 r, length-hexBytes keyBytes (take keyBytes x), length-hexBytes fieldBytes (drop keyBytes x)))
 
 -- a buffer whose part behind the text x was lent, and came back with the text y at its front
 pub put-behind : {x y o₀ o₁ o₂ : List ℕ} {n k : ℕ} → Put x o₀ o₁ n → n ≤ length o₁ → Put y (take (length o₁ - n) (drop n o₁)) o₂ k

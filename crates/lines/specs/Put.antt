@@ -4,16 +4,16 @@ use mathlib.Core.Path.{_≡_}
 use mathlib.Core.List.{List, [], _∷_, _++_}
 use lib.ListN.{length, drop}
 use Rattle.buffer.specs.Bytes.{splice}
-use Rattle.group.specs.Widths.{bodyBytes, slotBytes}
+use Rattle.group.specs.Widths.{fieldBytes, slotBytes}
 use Rattle.lines.specs.Digits.{hexBytes}
 
 -- the longest line of a number below 100
 abbrev pub numberBytes : ℕ
 numberBytes = 3
 
--- the line of a granted read: the digits of a body, with two bytes before them and one behind
-abbrev pub bodyLineBytes : ℕ
-bodyLineBytes = 3 + 2 * bodyBytes
+-- the line of a granted read: the digits of a field, with two bytes before them and one behind
+abbrev pub fieldLineBytes : ℕ
+fieldLineBytes = 3 + 2 * fieldBytes
 
 -- the line of a record: four arguments of two digits a byte, each with a byte behind it
 abbrev pub recordLineBytes : ℕ

@@ -2,8 +2,8 @@
 ghost use mathlib.Core.Path.{_≡_};
 ghost use Prim.Native.Nat.{_+_, _*_, _≤_, _<_};
 ghost use lib.ListN.{length};
-ghost use Rattle.lines.specs.Digits.{bodyDigits, digit, digitOf, hex, hexBytes};
-ghost use Rattle.lines.specs.Found.{Numbered, Embodied};
+ghost use Rattle.lines.specs.Digits.{fieldDigits, digit, digitOf, hex, hexBytes};
+ghost use Rattle.lines.specs.Found.{Numbered, FieldFound};
 
 // The value of a digit, or 16.
 pub fn digit_value(c: u8) -> u8
@@ -58,30 +58,30 @@ pub fn number(l: &[u8], at: usize, n: usize) -> Digits
     Digits { ok: true, value }
 }
 
-pub struct Body {
+pub struct Field {
     pub ok: bool,
-    pub bytes: [u8; group::BODY],
+    pub bytes: [u8; group::FIELD],
 }
 
-// The body that digits write, two for each byte; zeros, and not ok, where not all of them are digits.
-pub fn read_body(l: &[u8], at: usize) -> Body
-    requires { ⌜ at + bodyDigits ≤ length (now l) ⌝ }
-    ensures { λ r. ⌜ Embodied (now (l .entry)) at (r .ok) (r .bytes) ⌝ }
+// The field that digits write, two for each byte; zeros, and not ok, where not all of them are digits.
+pub fn read_field(l: &[u8], at: usize) -> Field
+    requires { ⌜ at + fieldDigits ≤ length (now l) ⌝ }
+    ensures { λ r. ⌜ FieldFound (now (l .entry)) at (r .ok) (r .bytes) ⌝ }
 {
-    let mut bytes = [0u8; group::BODY];
+    let mut bytes = [0u8; group::FIELD];
     let mut i = 0;
-    while i < group::BODY {
+    while i < group::FIELD {
         let d = number(l, at + 2 * i, 2);
         if !d.ok {
-            return Body {
+            return Field {
                 ok: false,
-                bytes: [0u8; group::BODY],
+                bytes: [0u8; group::FIELD],
             };
         }
         bytes[i] = buffer::narrow(d.value);
         i += 1;
     }
-    Body { ok: true, bytes }
+    Field { ok: true, bytes }
 }
 
 // The two digits of a byte.

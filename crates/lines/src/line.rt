@@ -2,23 +2,23 @@
 ghost use mathlib.Core.Path.{_≡_};
 ghost use Prim.Native.Nat.{_≤_};
 ghost use Rattle.buffer.specs.Bytes.{zeros};
-ghost use Rattle.group.specs.Widths.{bodyBytes};
-ghost use Rattle.lines.specs.Line.{line, parsed, unreadable, digitsOf, hasBody, lengthOf};
+ghost use Rattle.group.specs.Widths.{fieldBytes};
+ghost use Rattle.lines.specs.Line.{line, parsed, unreadable, digitsOf, hasField, lengthOf};
 use crate::digits::number;
-use crate::digits::read_body;
+use crate::digits::read_field;
 
-// Where the space before a body and the body's digits stand, behind the letter and a key, and how long the space and the digits are.
+// Where the space before a field and the field's digits stand, behind the letter and a key, and how long the space and the digits are.
 const SPACE_AT: usize = 2 + 2 * group::KEY;
 
-const BODY_AT: usize = SPACE_AT + 1;
+const FIELD_AT: usize = SPACE_AT + 1;
 
-const BODY_LENGTH: usize = 1 + 2 * group::BODY;
+const FIELD_LENGTH: usize = 1 + 2 * group::FIELD;
 
-// What a line says. The letter is 0 where the line is not readable; where a letter has no number or no body, they are zero.
+// What a line says. The letter is 0 where the line is not readable; where a letter has no number or no field, they are zero.
 pub struct Line {
     pub letter: u8,
     pub number: u32,
-    pub body: [u8; group::BODY],
+    pub field: [u8; group::FIELD],
 }
 
 // The digits of a letter's first argument, or 9 where no line starts with the letter.
@@ -33,8 +33,8 @@ fn digits_of(c: u8) -> usize
     }
 }
 
-fn has_body(c: u8) -> bool
-    ensures { λ r. ⌜ r ≡ hasBody c ⌝ }
+fn has_field(c: u8) -> bool
+    ensures { λ r. ⌜ r ≡ hasField c ⌝ }
 {
     c == b'T' || c == b'C'
 }
@@ -47,33 +47,33 @@ fn length_of(c: u8) -> usize
     if n == 0 {
         return 1;
     }
-    if has_body(c) {
-        2 + n + BODY_LENGTH
+    if has_field(c) {
+        2 + n + FIELD_LENGTH
     } else {
         2 + n
     }
 }
 
-// A line without a body.
-fn bodiless(letter: u8, number: u32) -> Line
-    ensures { λ r. ⌜ line (r .letter) (r .number) (r .body) ≡ line letter number (zeros bodyBytes) ⌝ }
+// A line without a field.
+fn without_field(letter: u8, number: u32) -> Line
+    ensures { λ r. ⌜ line (r .letter) (r .number) (r .field) ≡ line letter number (zeros fieldBytes) ⌝ }
 {
     Line {
         letter,
         number,
-        body: [0u8; group::BODY],
+        field: [0u8; group::FIELD],
     }
 }
 
 fn unread() -> Line
-    ensures { λ r. ⌜ line (r .letter) (r .number) (r .body) ≡ unreadable ⌝ }
+    ensures { λ r. ⌜ line (r .letter) (r .number) (r .field) ≡ unreadable ⌝ }
 {
-    bodiless(0, 0)
+    without_field(0, 0)
 }
 
 // Reads a line; its end is not part of it.
 pub fn parse(l: &[u8]) -> Line
-    ensures { λ r. ⌜ line (r .letter) (r .number) (r .body) ≡ parsed (now (l .entry)) ⌝ }
+    ensures { λ r. ⌜ line (r .letter) (r .number) (r .field) ≡ parsed (now (l .entry)) ⌝ }
 {
     let letter = buffer::byte_at(l, 0);
     let n = digits_of(letter);
@@ -84,7 +84,7 @@ pub fn parse(l: &[u8]) -> Line
         return unread();
     }
     if n == 0 {
-        return bodiless(letter, 0);
+        return without_field(letter, 0);
     }
     if l[1] != 32 {
         return unread();
@@ -93,20 +93,20 @@ pub fn parse(l: &[u8]) -> Line
     if !d.ok {
         return unread();
     }
-    if !has_body(letter) {
-        return bodiless(letter, d.value);
+    if !has_field(letter) {
+        return without_field(letter, d.value);
     }
     if l[SPACE_AT] != 32 {
         return unread();
     }
-    let b = read_body(l, BODY_AT);
+    let b = read_field(l, FIELD_AT);
     if !b.ok {
         return unread();
     }
-    let body = b.bytes;
+    let field = b.bytes;
     Line {
         letter,
         number: d.value,
-        body,
+        field,
     }
 }

@@ -3,19 +3,19 @@ ghost use mathlib.Core.Path.{_≡_};
 ghost use Prim.Native.Nat.{_+_, _*_, _≤_};
 ghost use lib.ListN.{length};
 ghost use Rattle.group.specs.Widths.{slotBytes};
-ghost use Rattle.lines.specs.Output.{numberLine, bodyLine, recordLine};
-ghost use Rattle.lines.specs.Put.{numberBytes, bodyLineBytes, recordLineBytes, argumentPut, Put};
+ghost use Rattle.lines.specs.Output.{numberLine, fieldLine, recordLine};
+ghost use Rattle.lines.specs.Put.{numberBytes, fieldLineBytes, recordLineBytes, argumentPut, Put};
 use crate::digits::put_byte;
 use crate::digits::put_bytes;
 
-// The line of a granted read, and of a record: unit, rank, key and body, two digits for each byte, with a byte behind each.
-const BODY_LINE: usize = 3 + 2 * group::BODY;
+// The line of a granted read, and of a record: unit, rank, key and field, two digits for each byte, with a byte behind each.
+const FIELD_LINE: usize = 3 + 2 * group::FIELD;
 
 const KEY_AT: usize = 6;
 
-const BODY_AT: usize = KEY_AT + 2 * group::KEY + 1;
+const FIELD_AT: usize = KEY_AT + 2 * group::KEY + 1;
 
-pub const RECORD_LINE: usize = BODY_AT + 2 * group::BODY + 1;
+pub const RECORD_LINE: usize = FIELD_AT + 2 * group::FIELD + 1;
 
 // The line of a number, at the front of a buffer; how long it is.
 pub fn put_number(out: &mut [u8], n: u8) -> usize
@@ -44,14 +44,14 @@ fn put_argument(line: &mut [u8], at: usize, from: &[u8], behind: u8)
 }
 
 // The line of a granted read, at the front of a buffer; how long it is.
-pub fn put_body(out: &mut [u8], body: &[u8; group::BODY]) -> usize
-    requires { ⌜ bodyLineBytes ≤ length (now out) ⌝ }
-    ensures { λ r. ⌜ Put (bodyLine (now (body .entry))) (now (out .entry)) (now (out .exit)) r ⌝ }
+pub fn put_field(out: &mut [u8], field: &[u8; group::FIELD]) -> usize
+    requires { ⌜ fieldLineBytes ≤ length (now out) ⌝ }
+    ensures { λ r. ⌜ Put (fieldLine (now (field .entry))) (now (out .entry)) (now (out .exit)) r ⌝ }
 {
     out[0] = 48;
     out[1] = 32;
-    put_argument(out, 2, body, 10);
-    BODY_LINE
+    put_argument(out, 2, field, 10);
+    FIELD_LINE
 }
 
 // The line of a record in a granted list.
@@ -62,7 +62,7 @@ fn put_record(line: &mut [u8], unit: u8, rank: u8, slot: &[u8])
     put_argument(line, 0, &[unit], 32);
     put_argument(line, 3, &[rank], 32);
     put_argument(line, KEY_AT, &slot[0..group::KEY], 32);
-    put_argument(line, BODY_AT, &slot[group::KEY..group::SLOT], 10);
+    put_argument(line, FIELD_AT, &slot[group::KEY..group::SLOT], 10);
 }
 
 pub fn record_line(unit: u8, rank: u8, slot: &[u8]) -> [u8; RECORD_LINE]

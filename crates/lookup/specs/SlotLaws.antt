@@ -16,7 +16,7 @@ use Rattle.buffer.specs.SpliceLaws.{length-part, part-part}
 use Rattle.buffer.specs.ByteLaws.{be32-left, length-zeros}
 use Rattle.buffer.specs.Table.{tab}
 use Rattle.buffer.specs.TableLaws.{tab-ext, tab-parts}
-use Rattle.group.specs.Widths.{keyBytes, keysBytes, bodyBytes, slotBytes, checkBytes}
+use Rattle.group.specs.Widths.{keyBytes, keysBytes, fieldBytes, slotBytes, checkBytes}
 use Rattle.group.specs.Members.{firstFour}
 use Rattle.group.specs.MembersLaws.{Members}
 use Rattle.group.specs.Rebuilding.{weighed, rebuilt}
@@ -40,37 +40,37 @@ drop-part at k n s =
     sym (take-all n (drop k (part at (k + n) s)) (simp length-drop (omega arith)))
     ∙ unfold part in part-part at (k + n) k n s (omega arith)
 
-pub held-part : (s : List ℕ) (g r m : ℕ) → holds (view s) g r m ≡ part (heldAt (byte s 5) g r m) bodyBytes s
+pub held-part : (s : List ℕ) (g r m : ℕ) → holds (view s) g r m ≡ part (heldAt (byte s 5) g r m) fieldBytes s
 unfolding holds heldAt view
 held-part s g r m =
     by-pick
-    (λ x. x ≡ part (pick (ltb m 4) (slotAt (byte s 5) (4 * g + m) r + keyBytes) (checkAt (byte s 5) (3 * g + (m - 4)) r + keysBytes)) bodyBytes s)
+    (λ x. x ≡ part (pick (ltb m 4) (slotAt (byte s 5) (4 * g + m) r + keyBytes) (checkAt (byte s 5) (3 * g + (m - 4)) r + keysBytes)) fieldBytes s)
     (ltb m 4)
     _
     _
-    (λ t. drop-part (slotAt (byte s 5) (4 * g + m) r) keyBytes bodyBytes s ∙ ap (λ i. part i bodyBytes s) (sym (pick-true t _ _)))
-    (λ t. drop-part (checkAt (byte s 5) (3 * g + (m - 4)) r) keysBytes bodyBytes s ∙ ap (λ i. part i bodyBytes s) (sym (pick-false t _ _)))
+    (λ t. drop-part (slotAt (byte s 5) (4 * g + m) r) keyBytes fieldBytes s ∙ ap (λ i. part i fieldBytes s) (sym (pick-true t _ _)))
+    (λ t. drop-part (checkAt (byte s 5) (3 * g + (m - 4)) r) keysBytes fieldBytes s ∙ ap (λ i. part i fieldBytes s) (sym (pick-false t _ _)))
 
-pub held-fits : {s : List ℕ} → Sized s → (g r m : ℕ) → g < 4 → r < byte s 5 → m < 7 → heldAt (byte s 5) g r m + bodyBytes ≤ length s
+pub held-fits : {s : List ℕ} → Sized s → (g r m : ℕ) → g < 4 → r < byte s 5 → m < 7 → heldAt (byte s 5) g r m + fieldBytes ≤ length s
 unfolding heldAt
 held-fits {s} h g r m l k q =
     by-pick
-    (λ at. at + bodyBytes ≤ length s)
+    (λ at. at + fieldBytes ≤ length s)
     (ltb m 4)
     _
     _
     (λ t. let z = ltb-true m 4 t in omega (arith, slot-fits h (4 * g + m) r (omega arith) k))
     (λ t. let z = ltb-false m 4 t in omega (arith, check-fits h (3 * g + (m - 4)) r (omega arith) k))
 
-pub length-holds : {s : List ℕ} → Sized s → (g r m : ℕ) → g < 4 → r < byte s 5 → m < 7 → length (holds (view s) g r m) ≡ bodyBytes
-length-holds {s} h g r m l k q = ap length (held-part s g r m) ∙ length-part (heldAt (byte s 5) g r m) bodyBytes s (held-fits h g r m l k q)
+pub length-holds : {s : List ℕ} → Sized s → (g r m : ℕ) → g < 4 → r < byte s 5 → m < 7 → length (holds (view s) g r m) ≡ fieldBytes
+length-holds {s} h g r m l k q = ap length (held-part s g r m) ∙ length-part (heldAt (byte s 5) g r m) fieldBytes s (held-fits h g r m l k q)
 
 -- the first four members in service are four different columns below 7
 pub recipe-members : {s : List ℕ} {u : ℕ} {members : List ℕ} → Recoverable s u → byte s (8 + u) ≡ 2 → members ≡ firstFour (servesIn (view s) (u / 4))
     → Members (servesIn (view s) (u / 4)) members
 recipe-members {s} {u} h e f = rw f (group-four (h .sized) (u / 4) (let q = h .unit in omega arith) (h .whole e))
 
--- four bodies that were read one by one
+-- four fields that were read one by one
 pub weighed-held : (ws a b c d : List ℕ) (f : ℕ → List ℕ) → a ≡ f 0 → b ≡ f 1 → c ≡ f 2 → d ≡ f 3 → weighed ws (fourBodies a b c d) ≡ weighed ws f
 unfolding fourBodies
 weighed-held ws a b c d f p q r t = weighed-ext ws (fourBodies a b c d) f (below-four (λ i. fourBodies a b c d i ≡ f i) p q r t)
@@ -80,16 +80,16 @@ module _ {s : List ℕ} {u : ℕ} {members weights : List ℕ} (recipe : Recipe 
   pub recipe-keys : {keys : ℕ} → keys ≡ keysAt s u → Lists s u keys checkBytes
   recipe-keys {keys} e = lists-out (recoverable-known (recipe .unit)) keys (recipe .out) e
 
-  pub body-rebuilt : (r : ℕ) (bodies : ℕ → List ℕ) → ((i : ℕ) → i < 4 → bodies i ≡ holds (view s) (u / 4) r (getD members i 0))
-      → weighed weights bodies ≡ rebuilt (servesIn (view s) (u / 4)) (holds (view s) (u / 4) r) (u % 4)
+  pub field-rebuilt : (r : ℕ) (fields : ℕ → List ℕ) → ((i : ℕ) → i < 4 → fields i ≡ holds (view s) (u / 4) r (getD members i 0))
+      → weighed weights fields ≡ rebuilt (servesIn (view s) (u / 4)) (holds (view s) (u / 4) r) (u % 4)
   unfolding rebuilt
-  body-rebuilt r bodies h = weighed-ext weights _ _ h ∙ rw (recipe .weigh, recipe .four)
+  field-rebuilt r fields h = weighed-ext weights _ _ h ∙ rw (recipe .weigh, recipe .four)
 
-  pub slot-rebuilt : (r : ℕ) (body : List ℕ) → (keyOf (listedKey (view s) u r) ≡ 0 → ⊥)
-      → body ≡ rebuilt (servesIn (view s) (u / 4)) (holds (view s) (u / 4) r) (u % 4)
-      → listedKey (view s) u r ++ body ≡ wholeSlot (view s) u r
+  pub slot-rebuilt : (r : ℕ) (field : List ℕ) → (keyOf (listedKey (view s) u r) ≡ 0 → ⊥)
+      → field ≡ rebuilt (servesIn (view s) (u / 4)) (holds (view s) (u / 4) r) (u % 4)
+      → listedKey (view s) u r ++ field ≡ wholeSlot (view s) u r
   unfolding wholeSlot
-  slot-rebuilt r body h e =
+  slot-rebuilt r field h e =
       ap (λ x. listedKey (view s) u r ++ x) e
       ∙ sym (pick-true (eq-eqb _ 2 out) _ _ ∙ pick-false (ne-eqb _ 0 h) _ _)
     where
@@ -125,13 +125,13 @@ module _ {s : List ℕ} {u : ℕ} (unit : Recoverable s u) (r : ℕ) (l : r < by
       ap length (pick-true (eq-eqb (byte s (8 + u)) 2 e) _ _ ∙ part-part (checkAt (byte s 5) c r) checkBytes (keyBytes * (u % 4)) keyBytes s (omega arith))
       ∙ length-part (checkAt (byte s 5) c r + keyBytes * (u % 4)) keyBytes s (omega (arith, check-fits (unit .sized) c r k l))
 
-  rebuilt-long : byte s (8 + u) ≡ 2 → length (rebuilt (servesIn (view s) (u / 4)) (holds (view s) (u / 4) r) (u % 4)) ≡ bodyBytes
+  rebuilt-long : byte s (8 + u) ≡ 2 → length (rebuilt (servesIn (view s) (u / 4)) (holds (view s) (u / 4) r) (u % 4)) ≡ fieldBytes
   unfolding rebuilt
   rebuilt-long e =
       let g : ℕ = u / 4 in
       let small : g < 4 = (let q = unit .unit in omega arith) in
       let four = group-four (unit .sized) g small (unit .whole e) in
-      length-weighed bodyBytes _ _ (λ i q. length-holds (unit .sized) g r _ small l (four .low i q))
+      length-weighed fieldBytes _ _ (λ i q. length-holds (unit .sized) g r _ small l (four .low i q))
 
   pub length-whole : length (wholeSlot (view s) u r) ≡ slotBytes
   unfolding wholeSlot
@@ -179,12 +179,12 @@ own-slots s u n h l =
     let place : at + slotBytes * r ≡ slotAt (byte s 5) u r = omega arith in
     part-part at (slotBytes * n) (slotBytes * r) slotBytes s inside ∙ ap (λ i. part i slotBytes s) place ∙ slot-part s u r ∙ slot-own s u r h)
 
--- ---- the body of a whole slot
-pub body-own : (s : List ℕ) (u r : ℕ) → (byte s (8 + u) ≡ 2 → ⊥) → part (slotAt (byte s 5) u r + keyBytes) bodyBytes s ≡ drop keyBytes (wholeSlot (view s) u r)
-body-own s u r h = sym (drop-part (slotAt (byte s 5) u r) keyBytes bodyBytes s) ∙ ap (drop keyBytes) (slot-part s u r ∙ slot-own s u r h)
+-- ---- the field of a whole slot
+pub field-own : (s : List ℕ) (u r : ℕ) → (byte s (8 + u) ≡ 2 → ⊥) → part (slotAt (byte s 5) u r + keyBytes) fieldBytes s ≡ drop keyBytes (wholeSlot (view s) u r)
+field-own s u r h = sym (drop-part (slotAt (byte s 5) u r) keyBytes fieldBytes s) ∙ ap (drop keyBytes) (slot-part s u r ∙ slot-own s u r h)
 
-pub body-out : {s : List ℕ} {u : ℕ} {members weights : List ℕ} → Recipe s u members weights → (r : ℕ) (body : List ℕ) → r < byte s 5 → r < listedFill (view s) u
-    → body ≡ weighed weights (λ i. holds (view s) (u / 4) r (getD members i 0)) → body ≡ drop keyBytes (wholeSlot (view s) u r)
-body-out {s} {u} recipe r body l k e =
-    sym (drop-at (listedKey (view s) u r) body keyBytes (out-key-long (recipe .unit) r l (recipe .out)))
-    ∙ ap (drop keyBytes) (slot-rebuilt recipe r body (listed-some (view s) u r k) (e ∙ body-rebuilt recipe r _ (λ i q. refl)))
+pub field-out : {s : List ℕ} {u : ℕ} {members weights : List ℕ} → Recipe s u members weights → (r : ℕ) (field : List ℕ) → r < byte s 5 → r < listedFill (view s) u
+    → field ≡ weighed weights (λ i. holds (view s) (u / 4) r (getD members i 0)) → field ≡ drop keyBytes (wholeSlot (view s) u r)
+field-out {s} {u} recipe r field l k e =
+    sym (drop-at (listedKey (view s) u r) field keyBytes (out-key-long (recipe .unit) r l (recipe .out)))
+    ∙ ap (drop keyBytes) (slot-rebuilt recipe r field (listed-some (view s) u r k) (e ∙ field-rebuilt recipe r _ (λ i q. refl)))

@@ -1,4 +1,4 @@
--- Where the members of a group hold bodies and parity, and what the rebuilding of a unit's slots goes by. Assumes nothing.
+-- Where the members of a group hold fields and parity, and what the rebuilding of a unit's slots goes by. Assumes nothing.
 use Prim.Native.Nat.{ℕ, _+_, _*_, _-_, _/_, _%_, _<_}
 use mathlib.Core.Path.{_≡_}
 use mathlib.Core.Bool.{true}
@@ -15,7 +15,7 @@ use Rattle.model.specs.Layout.{view, slotAt, checkAt}
 use Rattle.model.specs.Reads.{servesIn}
 use Rattle.lookup.specs.Groups.{Recoverable}
 
--- where a member of group g holds the body or the parity of rank r
+-- where a member of group g holds the field or the parity of rank r
 unfoldable pub heldAt : ℕ → ℕ → ℕ → ℕ → ℕ
 heldAt b g r m = pick (ltb m 4) (slotAt b (4 * g + m) r + keyBytes) (checkAt b (3 * g + (m - 4)) r + keysBytes)
 

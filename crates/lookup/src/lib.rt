@@ -11,7 +11,7 @@ ghost use Rattle.buffer.specs.Bytes.{byte, part};
 ghost use Rattle.buffer.specs.Range.{first};
 ghost use Rattle.group.specs.Products.{products};
 ghost use Rattle.code.specs.Matrix.{within};
-ghost use Rattle.group.specs.Widths.{bodyBytes, slotBytes};
+ghost use Rattle.group.specs.Widths.{fieldBytes, slotBytes};
 ghost use Rattle.group.specs.Members.{firstFour};
 ghost use Rattle.group.specs.Rebuilding.{weighed};
 ghost use Rattle.model.specs.Units.{powerBelow, splitPointer, unitOf};
@@ -265,7 +265,7 @@ pub fn lost(s: &[u8], outs: [u8; 4]) -> bool
     false
 }
 
-// Where member m of group g holds the body or the parity of rank r.
+// Where member m of group g holds the field or the parity of rank r.
 fn held_at(b: u8, g: u8, r: u8, m: u8) -> usize
     requires { ⌜ (g < 4) × (m < 7) ⌝ }
     ensures { λ at. ⌜ (at ≡ heldAt b g r m) × (at < 4000000) ⌝ }
@@ -276,14 +276,14 @@ fn held_at(b: u8, g: u8, r: u8, m: u8) -> usize
     check_at(b, 3 * g + (m - 4), r) + group::KEYS
 }
 
-// The body or the parity that member m of group g holds at rank r.
+// The field or the parity that member m of group g holds at rank r.
 pub fn held(s: &[u8], g: u8, r: u8, m: u8) -> &[u8]
     requires { ⌜ Sized (now s) × (g < 4) × (r < byte (now s) 5) × (m < 7) ⌝ }
     ensures bytes { λ x. ⌜ now x ≡ holds (view (now (s .entry))) g r m ⌝ }
     ensures start { λ x. ⌜ ptr x ≡ (ptr (s .entry) .0, ptr (s .entry) .1 + heldAt (byte (now (s .entry)) 5) g r m) ⌝ }
 {
     let at = held_at(s[SIZE_AT], g, r, m);
-    &s[at..at + group::BODY]
+    &s[at..at + group::FIELD]
 }
 
 // The weights with which the slots of data unit u, which is out, are rebuilt from the first four members in service: the same for every rank.
@@ -294,8 +294,8 @@ pub fn weights(s: &[u8], u: u8, members: [u8; 4], table: &[u8; 256]) -> [u8; 4]
     code::weights(table, members, u % 4)
 }
 
-// Rebuilds a body of rank r from what four members of group g hold, each times its weight.
-pub fn rebuild_body(
+// Rebuilds a field of rank r from what four members of group g hold, each times its weight.
+pub fn rebuild_field(
     out: &mut [u8],
     s: &[u8],
     g: u8,
@@ -304,7 +304,7 @@ pub fn rebuild_body(
     weights: [u8; 4],
     table: &[u8; 256],
 )
-    requires { ⌜ (length (now out) ≡ bodyBytes) × Sized (now s) × (g < 4) × (r < byte (now s) 5) × ((i : ℕ) → i < 4 → getD members i 0 < 7)
+    requires { ⌜ (length (now out) ≡ fieldBytes) × Sized (now s) × (g < 4) × (r < byte (now s) 5) × ((i : ℕ) → i < 4 → getD members i 0 < 7)
         × (within 15 weights ≡ true) × (now table ≡ products) ⌝ }
     ensures { λ _. ⌜ now (out .exit) ≡ weighed weights (λ i. holds (view (now (s .entry))) g r (getD members i 0)) ⌝ }
 {
@@ -335,7 +335,7 @@ pub fn rebuild_slot(
         buffer::clear(out);
     } else {
         buffer::copy(&mut out[0..group::KEY], &s[at..at + group::KEY]);
-        rebuild_body(
+        rebuild_field(
             &mut out[group::KEY..group::SLOT],
             s,
             u / 4,

@@ -1,4 +1,4 @@
--- Demand 1 for reading in place: the part is the 16 bytes of a body inside the store, the one that read, given a buffer that fits, hands back, or it
+-- Demand 1 for reading in place: the part is the 16 bytes of a field inside the store, the one that read, given a buffer that fits, hands back, or it
 -- is empty, exactly where that read would refuse or the key's unit is out. Assumes nothing.
 use Prim.Native.Nat.{ℕ, suc, _+_, _*_, _≤_, _<_}
 use mathlib.Core.Path.{_≡_, refl, sym, ap, _∙_}
@@ -16,12 +16,12 @@ use Rattle.buffer.specs.TestLaws.{and-true, and-first, and-second}
 use Rattle.buffer.specs.Bytes.{byte, zeros, part}
 use Rattle.buffer.specs.ByteLaws.{length-zeros}
 use Rattle.buffer.specs.SpliceLaws.{length-part, part-part}
-use Rattle.group.specs.Widths.{keyBytes, bodyBytes, slotBytes}
+use Rattle.group.specs.Widths.{keyBytes, fieldBytes, slotBytes}
 use Rattle.group.specs.CheckRecordLaws.{length-body}
 use Rattle.model.specs.UnitLaws.{unit-below}
 use Rattle.model.specs.Layout.{Store, view, slotAt, unitsIn}
 use Rattle.model.specs.LayoutLaws.{view-shaped}
-use Rattle.model.specs.Reads.{homeIn, rankIn, listedFill, listedRank, wholeSlot, bodyIn}
+use Rattle.model.specs.Reads.{homeIn, rankIn, listedFill, listedRank, wholeSlot, fieldIn}
 use Rattle.model.specs.ReadLaws.{fill-le, own-fill, own-rank}
 use Rattle.model.specs.Sound.{sound}
 use Rattle.model.specs.SoundSays.{ranged, units-some, units-few}
@@ -36,10 +36,10 @@ same-length : (s : List ℕ) (k : ℕ) (x y : List ℕ) → length x ≡ length 
 unfolding numberIn refusalsIn
 same-length s k x y e = rw e
 
--- the body in a slot of a store's bytes
-pub slot-body : (x : List ℕ) (u r : ℕ) → part (slotAt (view x .size) u r + keyBytes) bodyBytes x ≡ part keyBytes bodyBytes (view x .slot u r)
+-- the field in a slot of a store's bytes
+pub slot-field : (x : List ℕ) (u r : ℕ) → part (slotAt (view x .size) u r + keyBytes) fieldBytes x ≡ part keyBytes fieldBytes (view x .slot u r)
 unfolding view
-slot-body x u r = sym (part-part (slotAt (view x .size) u r) slotBytes keyBytes bodyBytes x (omega arith))
+slot-field x u r = sym (part-part (slotAt (view x .size) u r) slotBytes keyBytes fieldBytes x (omega arith))
 
 -- ---- what soundness says of the bytes
 
@@ -48,8 +48,8 @@ module _ (s : List ℕ) (ok : sound s ≡ true) where
   unfolding homeIn
   home-low k = omega (arith, unit-below (unitsIn (view s)) k (units-some s ok), units-few s ok)
 
-  -- the body of a slot lies inside the store
-  inside : (u r : ℕ) → u < 16 → r < view s .size → slotAt (view s .size) u r + keyBytes + bodyBytes ≤ length s
+  -- the field of a slot lies inside the store
+  inside : (u r : ℕ) → u < 16 → r < view s .size → slotAt (view s .size) u r + keyBytes + fieldBytes ≤ length s
   unfolding view
   inside u r a b =
       let p : suc u * byte s 5 ≤ 16 * byte s 5 = mul-le-mul-right (byte s 5) a in
@@ -57,10 +57,10 @@ module _ (s : List ℕ) (ok : sound s ≡ true) where
 
 -- ---- a granted read, of a unit that is not out
 
-module _ (s : List ℕ) (k : ℕ) (zero : numberIn s (read k (zeros bodyBytes)) ≡ 0) where
-  free : Free (refusalsIn (sound s) (view s) (read k (zeros bodyBytes)))
+module _ (s : List ℕ) (k : ℕ) (zero : numberIn s (read k (zeros fieldBytes)) ≡ 0) where
+  free : Free (refusalsIn (sound s) (view s) (read k (zeros fieldBytes)))
   unfolding numberIn refusalsIn
-  free = first-free (refusalsIn (sound s) (view s) (read k (zeros bodyBytes))) (refl, (refl, (refl, (refl, (refl, tt))))) zero
+  free = first-free (refusalsIn (sound s) (view s) (read k (zeros fieldBytes))) (refl, (refl, (refl, (refl, (refl, tt))))) zero
 
   is-sound : sound s ≡ true
   unfolding refusalsIn
@@ -80,17 +80,17 @@ module _ (s : List ℕ) (k : ℕ) (zero : numberIn s (read k (zeros bodyBytes)) 
     in-unit : rankIn v u k < v .size
     in-unit = omega (arith, found, own-rank v u kept k, own-fill v u kept, fill-le v u)
 
-    body-length : length (part (slotAt (v .size) u (rankIn v u k) + keyBytes) bodyBytes s) ≡ bodyBytes
-    body-length = length-part (slotAt (v .size) u (rankIn v u k) + keyBytes) bodyBytes s (inside s is-sound u (rankIn v u k) (home-low s is-sound k) in-unit)
+    field-length : length (part (slotAt (v .size) u (rankIn v u k) + keyBytes) fieldBytes s) ≡ fieldBytes
+    field-length = length-part (slotAt (v .size) u (rankIn v u k) + keyBytes) fieldBytes s (inside s is-sound u (rankIn v u k) (home-low s is-sound k) in-unit)
 
-    -- it is the key's body
-    body-there : part (slotAt (v .size) u (rankIn v u k) + keyBytes) bodyBytes s ≡ bodyIn v k
-    unfolding bodyIn wholeSlot part
-    body-there =
+    -- it is the key's field
+    field-there : part (slotAt (v .size) u (rankIn v u k) + keyBytes) fieldBytes s ≡ fieldIn v k
+    unfolding fieldIn wholeSlot part
+    field-there =
         let slot : List ℕ = v .slot u (rankIn v u k) in
         let long : length slot ≡ slotBytes = view-shaped s (ranged s is-sound .long) .slot u (rankIn v u k) (home-low s is-sound k) in-unit in
-        slot-body s u (rankIn v u k)
-        ∙ take-all bodyBytes (drop keyBytes slot) (omega (arith, length-body bodyBytes slot long))
+        slot-field s u (rankIn v u k)
+        ∙ take-all fieldBytes (drop keyBytes slot) (omega (arith, length-body fieldBytes slot long))
         ∙ sym (ap (λ (r : ℕ). drop keyBytes (wholeSlot v u r)) (own-rank v u kept k) ∙ ap (drop keyBytes) (pick-false kept _ slot))
 
 -- ---- the part
@@ -98,33 +98,33 @@ module _ (s : List ℕ) (k : ℕ) (zero : numberIn s (read k (zeros bodyBytes)) 
 module _ (s : List ℕ) (k : ℕ) where
   -- read is granted, and the unit is not out
   abbrev grants : Bool
-  grants = eqb (numberIn s (read k (zeros bodyBytes))) 0
+  grants = eqb (numberIn s (read k (zeros fieldBytes))) 0
 
   abbrev serves : Bool
   serves = not (eqb (view s .dstate (homeIn (view s) k)) 2)
 
-  pub place-given : (eqb (numberIn s (read k (zeros bodyBytes))) 0 && not (eqb (view s .dstate (homeIn (view s) k)) 2)) ≡ true
-      → givenIn s (readInPlace k) ≡ part (slotAt (view s .size) (homeIn (view s) k) (rankIn (view s) (homeIn (view s) k) k) + keyBytes) bodyBytes s
+  pub place-given : (eqb (numberIn s (read k (zeros fieldBytes))) 0 && not (eqb (view s .dstate (homeIn (view s) k)) 2)) ≡ true
+      → givenIn s (readInPlace k) ≡ part (slotAt (view s .size) (homeIn (view s) k) (rankIn (view s) (homeIn (view s) k) k) + keyBytes) fieldBytes s
   unfolding givenIn placeIn
   place-given e = ap (λ (p : Place). part (p .at) (p .size) s) (pick-true e _ _)
 
-  pub place-none : (eqb (numberIn s (read k (zeros bodyBytes))) 0 && not (eqb (view s .dstate (homeIn (view s) k)) 2)) ≡ false → givenIn s (readInPlace k) ≡ []
+  pub place-none : (eqb (numberIn s (read k (zeros fieldBytes))) 0 && not (eqb (view s .dstate (homeIn (view s) k)) 2)) ≡ false → givenIn s (readInPlace k) ≡ []
   unfolding givenIn placeIn
   place-none e = ap (λ (p : Place). part (p .at) (p .size) s) (pick-false e _ _) ∙ part-none s
 
-  part-length : length (givenIn s (readInPlace k)) ≡ pick (grants && serves) bodyBytes 0
+  part-length : length (givenIn s (readInPlace k)) ≡ pick (grants && serves) fieldBytes 0
   part-length =
-      by-pick (λ (n : ℕ). length (givenIn s (readInPlace k)) ≡ n) (grants && serves) bodyBytes 0
+      by-pick (λ (n : ℕ). length (givenIn s (readInPlace k)) ≡ n) (grants && serves) fieldBytes 0
       (λ e.
-      let zero : numberIn s (read k (zeros bodyBytes)) ≡ 0 = eqb-true (numberIn s (read k (zeros bodyBytes))) 0 (and-first grants serves e) in
-      ap length (place-given e) ∙ body-length s k zero (not-true (eqb (view s .dstate (homeIn (view s) k)) 2) (and-second grants serves e)))
+      let zero : numberIn s (read k (zeros fieldBytes)) ≡ 0 = eqb-true (numberIn s (read k (zeros fieldBytes))) 0 (and-first grants serves e) in
+      ap length (place-given e) ∙ field-length s k zero (not-true (eqb (view s .dstate (homeIn (view s) k)) 2) (and-second grants serves e)))
       (λ e. ap length (place-none e))
 
   -- read into any buffer that fits
-  as-zeros : (out : List ℕ) → length out ≡ bodyBytes → numberIn s (read k out) ≡ numberIn s (read k (zeros bodyBytes))
-  as-zeros out fits = same-length s k out (zeros bodyBytes) (fits ∙ sym (length-zeros bodyBytes))
+  as-zeros : (out : List ℕ) → length out ≡ fieldBytes → numberIn s (read k out) ≡ numberIn s (read k (zeros fieldBytes))
+  as-zeros out fits = same-length s k out (zeros fieldBytes) (fits ∙ sym (length-zeros fieldBytes))
 
-  read-gives : (out : List ℕ) → givenIn s (read k out) ≡ bodyIn (view s) k
+  read-gives : (out : List ℕ) → givenIn s (read k out) ≡ fieldIn (view s) k
   unfolding givenIn
   read-gives out = refl
 
@@ -133,7 +133,7 @@ module _ (s : List ℕ) (k : ℕ) where
     untouched = in-place-store s k;
     exactly = λ out fits. rw (as-zeros out fits) part-length;
     same = λ out fits zero kept.
-        let granted : numberIn s (read k (zeros bodyBytes)) ≡ 0 = sym (as-zeros out fits) ∙ zero in
+        let granted : numberIn s (read k (zeros fieldBytes)) ≡ 0 = sym (as-zeros out fits) ∙ zero in
         let stays : eqb (view s .dstate (homeIn (view s) k)) 2 ≡ false = ne-eqb (view s .dstate (homeIn (view s) k)) 2 kept in
-        place-given (and-true (eq-eqb _ 0 granted) (ap not stays)) ∙ body-there s k granted stays ∙ sym (read-gives out);
+        place-given (and-true (eq-eqb _ 0 granted) (ap not stays)) ∙ field-there s k granted stays ∙ sym (read-gives out);
   }

@@ -1,5 +1,5 @@
--- The slots of a group that is not beyond recovery, in any sound store: the rebuilt bodies have, by the matrix, what the four members used hold
--- (`bodies-held`), and a slot is its own or its listed key and its body (`whole-slot`). Assumes that the store holds bytes.
+-- The slots of a group that is not beyond recovery, in any sound store: the rebuilt fields have, by the matrix, what the four members used hold
+-- (`fields-held`), and a slot is its own or its listed key and its field (`whole-slot`). Assumes that the store holds bytes.
 use Prim.Native.Nat.{ℕ, _+_, _*_, _-_, _/_, _%_, _≤_, _<_}
 use mathlib.Core.Path.{_≡_, refl, sym, ap, ap₂, _∙_}
 use mathlib.Core.List.{List, _++_}
@@ -15,7 +15,7 @@ use Rattle.buffer.specs.TestLaws.{and-false-second}
 use Rattle.buffer.specs.Range.{count, first}
 use Rattle.buffer.specs.Bytes.{byte, zeros, part}
 use Rattle.buffer.specs.SpliceLaws.{length-part}
-use Rattle.group.specs.Widths.{keyBytes, bodyBytes, slotBytes, keysBytes, checkBytes}
+use Rattle.group.specs.Widths.{keyBytes, fieldBytes, slotBytes, keysBytes, checkBytes}
 use Rattle.group.specs.Body.{IsBody}
 use Rattle.group.specs.Members.{firstFour}
 use Rattle.group.specs.MembersLaws.{enough, first-four, serves-data, check-serves}
@@ -25,15 +25,15 @@ use Rattle.model.specs.Layout.{Store, view, slotAt, checkAt, keyOf}
 use Rattle.model.specs.Reads.{beyondIn, servesIn, holds, firstCheck, listedKey, listedFill, wholeSlot}
 use Rattle.model.specs.ReadLaws.{listed-some}
 use Rattle.model.specs.Sound.{sound}
-use Rattle.model.specs.Recovered.{HeldBodies}
+use Rattle.model.specs.Recovered.{HeldFields}
 use Rattle.model.specs.history.Typed.{Bytes}
 use Rattle.model.proofs.history.alike.LedgerOf.{bytes-part}
 use Rattle.model.specs.SoundSays.{states-low}
 use Rattle.model.proofs.Left.{shaped}
 
--- what stands behind the first k bytes is a body
-body-is : (n k : ℕ) (x : List ℕ) → length x ≡ k + n → Bytes x → IsBody n (drop k x)
-body-is n k x e b = record { size = simp length-drop (omega arith); bytes = λ i. rw (getD-drop k x i 0) (b (k + i)) }
+-- what stands behind the first k bytes is a field
+field-is : (n k : ℕ) (x : List ℕ) → length x ≡ k + n → Bytes x → IsBody n (drop k x)
+field-is n k x e b = record { size = simp length-drop (omega arith); bytes = λ i. rw (getD-drop k x i 0) (b (k + i)) }
 
 -- ---- a group that is not beyond recovery
 
@@ -54,33 +54,33 @@ module _ {s : List ℕ} {g r : ℕ} (h : Rebuildable s g r) where
   four-serve =
       enough (λ p. v .dstate (4 * g + p)) (λ j. v .cstate (3 * g + j)) (λ j l. states-low s (h .ok) (3 * g + j) (omega (arith, h .group))) (h .near)
 
-  holds-is : (m : ℕ) → m < 7 → IsBody bodyBytes (holds v g r m)
+  holds-is : (m : ℕ) → m < 7 → IsBody fieldBytes (holds v g r m)
   unfolding holds view
   holds-is m l =
       let u : ℕ = 4 * g + m in
       let c : ℕ = 3 * g + (m - 4) in
-      by-pick (IsBody bodyBytes) (ltb m 4) (drop keyBytes (v .slot u r)) (drop keysBytes (v .check c r))
+      by-pick (IsBody fieldBytes) (ltb m 4) (drop keyBytes (v .slot u r)) (drop keysBytes (v .check c r))
       (λ e.
-      body-is bodyBytes keyBytes (v .slot u r) (shaped s (h .ok) .slot u r (omega (arith, h .group, ltb-true m 4 e)) (h .rank))
+      field-is fieldBytes keyBytes (v .slot u r) (shaped s (h .ok) .slot u r (omega (arith, h .group, ltb-true m 4 e)) (h .rank))
       (bytes-part (slotAt (byte s 5) u r) slotBytes s (h .bytes)))
       (λ e.
-      body-is bodyBytes keysBytes (v .check c r) (shaped s (h .ok) .check c r (omega (arith, h .group, ltb-false m 4 e)) (h .rank))
+      field-is fieldBytes keysBytes (v .check c r) (shaped s (h .ok) .check c r (omega (arith, h .group, ltb-false m 4 e)) (h .rank))
       (bytes-part (checkAt (byte s 5) c r) checkBytes s (h .bytes)))
 
-  used-is : (i : ℕ) → i < 4 → IsBody bodyBytes (holds v g r (getD (firstFour (servesIn v g)) i 0))
+  used-is : (i : ℕ) → i < 4 → IsBody fieldBytes (holds v g r (getD (firstFour (servesIn v g)) i 0))
   used-is i l = holds-is (getD (firstFour (servesIn v g)) i 0) (first-four (servesIn v g) four-serve .low i l)
 
-  -- the rebuilt bodies
-  pub bodies-held : HeldBodies v g r (rebuilt (servesIn v g) (holds v g r))
-  bodies-held = record {
-    bodies = rebuilt-is bodyBytes (servesIn v g) (holds v g r) four-serve used-is;
-    held = rebuilt-has bodyBytes (servesIn v g) (holds v g r) four-serve used-is;
+  -- the rebuilt fields
+  pub fields-held : HeldFields v g r (rebuilt (servesIn v g) (holds v g r))
+  fields-held = record {
+    fields = rebuilt-is fieldBytes (servesIn v g) (holds v g r) four-serve used-is;
+    held = rebuilt-has fieldBytes (servesIn v g) (holds v g r) four-serve used-is;
   }
 
-  body-own : (p : ℕ) → p < 4 → eqb (v .dstate (4 * g + p)) 2 ≡ false → rebuilt (servesIn v g) (holds v g r) p ≡ drop keyBytes (v .slot (4 * g + p) r)
+  field-own : (p : ℕ) → p < 4 → eqb (v .dstate (4 * g + p)) 2 ≡ false → rebuilt (servesIn v g) (holds v g r) p ≡ drop keyBytes (v .slot (4 * g + p) r)
   unfolding servesIn holds
-  body-own p l e =
-      rebuilt-own bodyBytes (servesIn v g) (holds v g r) four-serve used-is p l
+  field-own p l e =
+      rebuilt-own fieldBytes (servesIn v g) (holds v g r) four-serve used-is p l
       (serves-data (λ p. v .dstate (4 * g + p)) (λ j. v .cstate (3 * g + j)) p l ∙ ap not e)
       ∙ pick-true (lt-ltb p 4 l) (drop keyBytes (v .slot (4 * g + p) r)) (drop keysBytes (v .check (3 * g + (p - 4)) r))
 
@@ -93,28 +93,28 @@ module _ {s : List ℕ} {r : ℕ} (u : ℕ) (h : Rebuildable s (u / 4) r) where
   abbrev pub key : List ℕ
   key = listedKey (view s) u r
 
-  abbrev pub body : List ℕ
-  body = rebuilt (servesIn (view s) (u / 4)) (holds (view s) (u / 4) r) (u % 4)
+  abbrev pub field : List ℕ
+  field = rebuilt (servesIn (view s) (u / 4)) (holds (view s) (u / 4) r) (u % 4)
 
   place : 4 * (u / 4) + u % 4 ≡ u
   place = omega arith
 
-  -- as it stands it is its key and its body
-  slot-own : eqb (w .dstate u) 2 ≡ false → w .slot u r ≡ key ++ body
+  -- as it stands it is its key and its field
+  slot-own : eqb (w .dstate u) 2 ≡ false → w .slot u r ≡ key ++ field
   unfolding listedKey
   slot-own e =
       sym (ap₂ (λ (x y : List ℕ). x ++ y) (pick-false e _ (take keyBytes (w .slot u r)))
-      (body-own h (u % 4) (omega arith) (ap (λ n. eqb (w .dstate n) 2) place ∙ e) ∙ ap (λ n. drop keyBytes (w .slot n r)) place)
+      (field-own h (u % 4) (omega arith) (ap (λ n. eqb (w .dstate n) 2) place ∙ e) ∙ ap (λ n. drop keyBytes (w .slot n r)) place)
       ∙ take-append-drop keyBytes (w .slot u r))
 
-  pub whole-slot : wholeSlot w u r ≡ pick (eqb (w .dstate u) 2 && eqb (keyOf key) 0) (zeros slotBytes) (key ++ body)
+  pub whole-slot : wholeSlot w u r ≡ pick (eqb (w .dstate u) 2 && eqb (keyOf key) 0) (zeros slotBytes) (key ++ field)
   unfolding wholeSlot
   whole-slot =
       by-test (λ t. eqb (w .dstate u) 2 ≡ t
-      → pick t (pick (eqb (keyOf key) 0) (zeros slotBytes) (key ++ body)) (w .slot u r) ≡ pick (t && eqb (keyOf key) 0) (zeros slotBytes) (key ++ body))
+      → pick t (pick (eqb (keyOf key) 0) (zeros slotBytes) (key ++ field)) (w .slot u r) ≡ pick (t && eqb (keyOf key) 0) (zeros slotBytes) (key ++ field))
       (eqb (w .dstate u) 2)
       (λ _ e. pick-true refl _ (w .slot u r))
-      (λ _ e. pick-false refl _ (w .slot u r) ∙ slot-own e ∙ sym (pick-false refl (zeros slotBytes) (key ++ body)))
+      (λ _ e. pick-false refl _ (w .slot u r) ∙ slot-own e ∙ sym (pick-false refl (zeros slotBytes) (key ++ field)))
       refl
 
   -- a record of a unit out: the key is listed by a check unit in service
@@ -129,11 +129,11 @@ module _ {s : List ℕ} {r : ℕ} (u : ℕ) (h : Rebuildable s (u / 4) r) where
         ap length (pick-true (eq-eqb (w .dstate u) 2 out) (part (keyBytes * (u % 4)) keyBytes (w .check c r)) (take keyBytes (w .slot u r)))
         ∙ length-part (keyBytes * (u % 4)) keyBytes (w .check c r) (omega (arith, shaped s (h .ok) .check c r (omega (arith, h .group)) (h .rank)))
 
-    pub body-long : length body ≡ bodyBytes
-    body-long = bodies-held h .bodies (u % 4) (omega arith) .size
+    pub field-long : length field ≡ fieldBytes
+    field-long = fields-held h .fields (u % 4) (omega arith) .size
 
-    pub whole-out : wholeSlot w u r ≡ key ++ body
-    whole-out = whole-slot ∙ pick-false (and-false-second (eqb (w .dstate u) 2) (ne-eqb _ 0 (listed-some w u r l))) (zeros slotBytes) (key ++ body)
+    pub whole-out : wholeSlot w u r ≡ key ++ field
+    whole-out = whole-slot ∙ pick-false (and-false-second (eqb (w .dstate u) 2) (ne-eqb _ 0 (listed-some w u r l))) (zeros slotBytes) (key ++ field)
 
     pub whole-long : length (wholeSlot w u r) ≡ slotBytes
-    whole-long = ap length whole-out ∙ length-append key body ∙ omega (arith, key-long, body-long)
+    whole-long = ap length whole-out ∙ length-append key field ∙ omega (arith, key-long, field-long)

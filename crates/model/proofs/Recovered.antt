@@ -1,4 +1,4 @@
--- What repair, read and list give of units that are out are the bodies that have, by the matrix, what the four members used hold. Assumes that the
+-- What repair, read and list give of units that are out are the fields that have, by the matrix, what the four members used hold. Assumes that the
 -- store holds bytes.
 use Prim.Native.Nat.{ℕ, _+_, _*_, _/_, _%_, _≤_, _<_}
 use mathlib.Core.Path.{_≡_, refl, ap, ap₂, _∙_}
@@ -14,11 +14,11 @@ use Rattle.buffer.specs.ChoiceLaws.{by-test, pick-true}
 use Rattle.buffer.specs.Range.{count}
 use Rattle.buffer.specs.RangeLaws.{count-zero}
 use Rattle.buffer.specs.Bytes.{zeros}
-use Rattle.group.specs.Widths.{keyBytes, bodyBytes, slotBytes}
+use Rattle.group.specs.Widths.{keyBytes, fieldBytes, slotBytes}
 use Rattle.group.specs.Rebuilding.{rebuilt}
 use Rattle.model.specs.Layout.{Store, view, keyOf}
 use Rattle.model.specs.Reads.{homeIn, beyondIn, servesIn, holds, listedKey, listedFill, listedRank}
-use Rattle.model.specs.Reads.{wholeSlot, bodyIn, lostIn, totalIn, listingIn}
+use Rattle.model.specs.Reads.{wholeSlot, fieldIn, lostIn, totalIn, listingIn}
 use Rattle.model.specs.ReadLaws.{listed-le, whole-own, listing-long, record-at}
 use Rattle.model.specs.Sound.{sound}
 use Rattle.model.specs.Changes.{repaired}
@@ -29,7 +29,7 @@ use Rattle.model.specs.Recovered.{Listing, Recovered}
 use Rattle.model.specs.history.Typed.{Bytes}
 use Rattle.model.proofs.InPlace.{home-low}
 use Rattle.model.proofs.Left.{shaped, free, repair-group, repair-sound, repair-near, repair-left}
-use Rattle.model.proofs.RebuiltSlots.{Rebuildable, bodies-held, key, body, whole-slot, key-long, body-long, whole-out, whole-long}
+use Rattle.model.proofs.RebuiltSlots.{Rebuildable, fields-held, key, field, whole-slot, key-long, field-long, whole-out, whole-long}
 
 -- ---- a granted repair
 
@@ -59,9 +59,9 @@ module _ (s : List ℕ) (b : Bytes s) (k : ℕ) (out : List ℕ) (zero : numberI
   abbrev at : ℕ
   at = listedRank (view s) (homeIn (view s) k) k
 
-  fits : length out ≡ bodyBytes
+  fits : length out ≡ fieldBytes
   unfolding refusalsIn
-  fits = eqb-true (length out) bodyBytes (not-false (eqb (length out) bodyBytes) (free s (read k out) zero .1 .0))
+  fits = eqb-true (length out) fieldBytes (not-false (eqb (length out) fieldBytes) (free s (read k out) zero .1 .0))
 
   present : at < listedFill (view s) home
   unfolding refusalsIn
@@ -80,18 +80,18 @@ module _ (s : List ℕ) (b : Bytes s) (k : ℕ) (out : List ℕ) (zero : numberI
         rank = omega (arith, present, listed-le (view s) home);
       }
 
-  body-read : bodyIn (view s) k ≡ body home read-rebuildable
-  unfolding bodyIn
-  body-read =
+  field-read : fieldIn (view s) k ≡ field home read-rebuildable
+  unfolding fieldIn
+  field-read =
       ap (drop keyBytes) (whole-out home read-rebuildable lost present)
-      ∙ drop-at (key home read-rebuildable) (body home read-rebuildable) keyBytes (key-long home read-rebuildable lost present)
+      ∙ drop-at (key home read-rebuildable) (field home read-rebuildable) keyBytes (key-long home read-rebuildable lost present)
 
-  read-answer : perform s (read k out) .answer ≡ copied 0 (body home read-rebuildable)
+  read-answer : perform s (read k out) .answer ≡ copied 0 (field home read-rebuildable)
   unfolding perform answerIn reply givenIn output
   read-answer =
-      let filled : drop (length (body home read-rebuildable)) out ≡ [] =
-      drop-of-length-le out {i = length (body home read-rebuildable)} (omega (arith, fits, body-long home read-rebuildable lost present)) in
-      rw (zero, body-read, filled) (ap (copied 0) (pick-true refl _ out ∙ append-nil _))
+      let filled : drop (length (field home read-rebuildable)) out ≡ [] =
+      drop-of-length-le out {i = length (field home read-rebuildable)} (omega (arith, fits, field-long home read-rebuildable lost present)) in
+      rw (zero, field-read, filled) (ap (copied 0) (pick-true refl _ out ∙ append-nil _))
 
 -- ---- a granted list
 
@@ -144,14 +144,14 @@ module _ (s : List ℕ) (b : Bytes s) (out : List ℕ) (zero : numberIn s (list 
     long = length-append (listingIn t) rest ∙ simp length-drop (omega (arith, all-long, room));
     own = λ u r l m e. record-at t slot-long rest u r l m ∙ whole-own t u (ne-eqb (t .dstate u) 2 e) r;
     rebuilt = λ u r l m e.
-        let h : Rebuildable s (u / 4) r = list-rebuildable u r l m e in (_, bodies-held h, record-at t slot-long rest u r l m ∙ whole-out u h e m);
+        let h : Rebuildable s (u / 4) r = list-rebuildable u r l m e in (_, fields-held h, record-at t slot-long rest u r l m ∙ whole-out u h e m);
     behind = drop-at (listingIn t) rest (slotBytes * totalIn t) all-long;
   }
 
 -- EVERY SOUND STORE
 pub recovered : (s : List ℕ) → Bytes s → Recovered s
 recovered s b = record {
-  by-repair = λ g z r hr. (_, bodies-held (repair-rebuildable s b g z r hr), repaired-slot s b g z r hr);
-  by-read = λ k out z lost. (_, bodies-held (read-rebuildable s b k out z lost), read-answer s b k out z lost);
+  by-repair = λ g z r hr. (_, fields-held (repair-rebuildable s b g z r hr), repaired-slot s b g z r hr);
+  by-read = λ k out z lost. (_, fields-held (read-rebuildable s b k out z lost), read-answer s b k out z lost);
   by-list = listing s b;
 }

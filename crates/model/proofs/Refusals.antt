@@ -11,7 +11,7 @@ use borrow.Author.Tests.{eq-eqb, ne-eqb, lt-ltb, le-ltb, le-leb}
 use Rattle.buffer.specs.ChoiceLaws.{pick-true, pick-false}
 use Rattle.buffer.specs.TestLaws.{and-false-first}
 use Rattle.buffer.specs.Bytes.{zeros, part}
-use Rattle.group.specs.Widths.{bodyBytes}
+use Rattle.group.specs.Widths.{fieldBytes}
 use Rattle.model.specs.Layout.{view, storeBytes}
 use Rattle.model.specs.Reads.{totalIn}
 use Rattle.model.specs.Sound.{sound}
@@ -63,10 +63,10 @@ pub in-place-store : (s : List ℕ) (k : ℕ) → perform s (readInPlace k) .sto
 unfolding perform afterIn numberIn refusalsIn firstOf grantedIn
 in-place-store s k = pick-true refl s s
 
-in-place-none : (s : List ℕ) (k : ℕ) → numberIn s (read k (zeros bodyBytes)) ≢ 0 → (n : ℕ) → perform s (readInPlace k) ≡ outcome (refusal (readInPlace k) n) s
+in-place-none : (s : List ℕ) (k : ℕ) → numberIn s (read k (zeros fieldBytes)) ≢ 0 → (n : ℕ) → perform s (readInPlace k) ≡ outcome (refusal (readInPlace k) n) s
 unfolding perform answerIn reply givenIn placeIn refusal
 in-place-none s k z n =
-    ap₂ outcome (ap lent (rw (and-false-first (ne-eqb (numberIn s (read k (zeros bodyBytes))) 0 z)) (rw (pick-false refl) (part-none s)))) (in-place-store s k)
+    ap₂ outcome (ap lent (rw (and-false-first (ne-eqb (numberIn s (read k (zeros fieldBytes))) 0 z)) (rw (pick-false refl) (part-none s)))) (in-place-store s k)
 
 -- ---- a damaged store
 
@@ -87,16 +87,16 @@ module _ (s : List ℕ) where
   read-damaged : (k : ℕ) (out : List ℕ) → sound s ≡ false → numberIn s (read k out) ≢ 0
   unfolding numberIn refusalsIn
   read-damaged k out d q =
-      let one : numberIn s (read k out) ≡ 1 = two-rows (eqb k 0) (not (eqb (length out) bodyBytes)) _ (λ e. absurd (omega (arith, sym q ∙ e))) d in
+      let one : numberIn s (read k out) ≡ 1 = two-rows (eqb k 0) (not (eqb (length out) fieldBytes)) _ (λ e. absurd (omega (arith, sym q ∙ e))) d in
       absurd (omega (arith, sym q ∙ one))
 
   damaged : (c : Call) → sound s ≡ false → numberIn s c ≢ 2 → perform s c ≡ outcome (refusal c 1) s
   unfolding numberIn refusalsIn
-  damaged (teach k x) d z = refused-as s (teach k x) 1 (two-rows (eqb k 0) (not (eqb (length x) bodyBytes)) _ z d) (omega arith)
-  damaged (correct k x) d z = refused-as s (correct k x) 1 (two-rows (eqb k 0) (not (eqb (length x) bodyBytes)) _ z d) (omega arith)
+  damaged (teach k x) d z = refused-as s (teach k x) 1 (two-rows (eqb k 0) (not (eqb (length x) fieldBytes)) _ z d) (omega arith)
+  damaged (correct k x) d z = refused-as s (correct k x) 1 (two-rows (eqb k 0) (not (eqb (length x) fieldBytes)) _ z d) (omega arith)
   damaged (erase k) d z = refused-as s (erase k) 1 (one-row (eqb k 0) _ z d) (omega arith)
-  damaged (read k out) d z = refused-as s (read k out) 1 (two-rows (eqb k 0) (not (eqb (length out) bodyBytes)) _ z d) (omega arith)
-  damaged (readInPlace k) d z = in-place-none s k (read-damaged k (zeros bodyBytes) d) 1
+  damaged (read k out) d z = refused-as s (read k out) 1 (two-rows (eqb k 0) (not (eqb (length out) fieldBytes)) _ z d) (omega arith)
+  damaged (readInPlace k) d z = in-place-none s k (read-damaged k (zeros fieldBytes) d) 1
   damaged (list out) d z = refused-as s (list out) 1 (row-holds _ _ (ap not d)) (omega arith)
   damaged (unitOut w) d z = refused-as s (unitOut w) 1 (one-row (ltb 27 w) _ z d) (omega arith)
   damaged (repair g) d z = refused-as s (repair g) 1 (one-row (ltb 3 g) _ z d) (omega arith)
@@ -109,7 +109,7 @@ module _ (s : List ℕ) where
 
   -- ---- the arguments that demand 1 names
 
-  -- a body or an output of the wrong length: the second of two rows
+  -- a field or an output of the wrong length: the second of two rows
   second : (a : Bool) {b : Bool} (n : ℕ) (ts : List (Bool × ℕ)) → b ≡ true → firstOf ((a, n) ∷ (b, n) ∷ ts) ≡ n
   second true n ts e = row-holds n _ refl
   second false n ts e = row-fails n _ refl ∙ row-holds n ts e
@@ -120,7 +120,7 @@ module _ (s : List ℕ) where
   in-place-0 : perform s (readInPlace 0) ≡ outcome (refusal (readInPlace 0) 2) s
   in-place-0 = in-place-none s 0 (λ q. absurd (omega (arith, sym q ∙ read-0))) 2
     where
-      read-0 : numberIn s (read 0 (zeros bodyBytes)) ≡ 2
+      read-0 : numberIn s (read 0 (zeros fieldBytes)) ≡ 2
       read-0 = unfold numberIn refusalsIn in row-holds _ _ refl
 
   pub misuses : Misused s
@@ -131,7 +131,7 @@ module _ (s : List ℕ) where
         let c = by-2 (correct 0 x) (row-holds _ _ refl) in
         (t, (c, (by-2 (erase 0) (row-holds _ _ refl), (by-2 (read 0 x) (row-holds _ _ refl), (in-place-0, tt)))));
     wrong-length = λ k x z.
-        let e = ap not (ne-eqb (length x) bodyBytes z) in
+        let e = ap not (ne-eqb (length x) fieldBytes z) in
         (by-2 (teach k x) (second (eqb k 0) 2 _ e), (by-2 (correct k x) (second (eqb k 0) 2 _ e), (by-2 (read k x) (second (eqb k 0) 2 _ e), tt)));
     no-unit = λ w l. (by-2 (unitOut w) (row-holds _ _ (lt-ltb 27 w l)), tt);
     no-group = λ g l. (by-2 (repair g) (row-holds _ _ (lt-ltb 3 g l)), tt);

@@ -7,7 +7,7 @@ use native.Mathlib.Omega.{arith}
 use lib.Dec.{eqb}
 use lib.ListN.{length, take, drop}
 use Rattle.buffer.specs.ChoiceLaws.{by-pick}
-use Rattle.group.specs.Widths.{keyBytes, bodyBytes, slotBytes, checkBytes}
+use Rattle.group.specs.Widths.{keyBytes, fieldBytes, slotBytes, checkBytes}
 use Rattle.group.specs.Body.{addBody}
 use Rattle.group.specs.BodyLaws.{length-add}
 use Rattle.group.specs.CheckRecord.{patched}
@@ -21,14 +21,14 @@ pub on-bytes : (f : Store → Store) (t : Store) (s : List ℕ) → Shaped t →
     → bytes (f (view s)) ≡ bytes (f t)
 on-bytes f t s h e k = ap (λ x. bytes (f (view x))) e ∙ bytes-ext (f (view (bytes t))) (f t) (k (view-bytes t h))
 
--- ---- a slot x written over a slot s: the change of its body, and a check record c that follows it
-pub length-change : (s x : List ℕ) → length s ≡ slotBytes → length x ≡ slotBytes → length (addBody (drop keyBytes s) (drop keyBytes x)) ≡ bodyBytes
-length-change s x hs hx = length-add bodyBytes (drop keyBytes s) (drop keyBytes x) (length-body bodyBytes s hs) (length-body bodyBytes x hx)
+-- ---- a slot x written over a slot s: the change of its field, and a check record c that follows it
+pub length-change : (s x : List ℕ) → length s ≡ slotBytes → length x ≡ slotBytes → length (addBody (drop keyBytes s) (drop keyBytes x)) ≡ fieldBytes
+length-change s x hs hx = length-add fieldBytes (drop keyBytes s) (drop keyBytes x) (length-body fieldBytes s hs) (length-body fieldBytes x hx)
 
 pub length-follow : (j p : ℕ) (s x c : List ℕ) → p < 4 → length s ≡ slotBytes → length x ≡ slotBytes → length c ≡ checkBytes
     → length (patched j p (take keyBytes x) (addBody (drop keyBytes s) (drop keyBytes x)) c) ≡ checkBytes
 length-follow j p s x c hp hs hx hc =
-    length-patched bodyBytes j p (take keyBytes x) (addBody (drop keyBytes s) (drop keyBytes x)) c hp (length-key bodyBytes x hx) (length-change s x hs hx) hc
+    length-patched fieldBytes j p (take keyBytes x) (addBody (drop keyBytes s) (drop keyBytes x)) c hp (length-key fieldBytes x hx) (length-change s x hs hx) hc
 
 module _ (s : Store) (u r : ℕ) (x : List ℕ) where
   pub written-size : written s u r x .size ≡ s .size

@@ -15,7 +15,7 @@ use Rattle.model.specs.Layout.{Store, changed, unitsIn, levelIn, keyOf}
 use Rattle.model.specs.Reads.{fillIn, wholeSlot}
 
 -- Teach, correct and erase write a slot at a time: slot (u, r) becomes x, and each check unit in service of u's group gets its key, and the
--- change of its body times the coefficient, at that rank.
+-- change of its field times the coefficient, at that rank.
 unfoldable pub written : Store → ℕ → ℕ → List ℕ → Store
 written s u r x =
     changed s (s .front) (s .dstate) (s .cstate)

@@ -9,7 +9,7 @@ use mathlib.Core.Bool.{true, false, not, _&&_, _||_}
 use lib.Dec.{eqb, ltb}
 use lib.ListN.{length}
 use Rattle.buffer.specs.Choice.{pick}
-use Rattle.group.specs.Widths.{bodyBytes, slotBytes}
+use Rattle.group.specs.Widths.{fieldBytes, slotBytes}
 use Rattle.model.specs.Layout.{view, storeBytes, unitsIn}
 use Rattle.model.specs.Reads.{homeIn, stateIn, lostIn, totalIn}
 use Rattle.model.specs.Sound.{sound}
@@ -30,20 +30,20 @@ RefusedWith s n (c ∷ cs) = (perform s c ≡ outcome (refusal c n) s) × Refuse
 -- the arguments that demand 1 names, on any bytes
 pub record Misused (s : List ℕ) : Type 0 where
   pub key-0 : (x : List ℕ) → RefusedWith s 2 (teach 0 x ∷ correct 0 x ∷ erase 0 ∷ read 0 x ∷ readInPlace 0 ∷ [])
-  pub wrong-length : (k : ℕ) (x : List ℕ) → length x ≢ bodyBytes → RefusedWith s 2 (teach k x ∷ correct k x ∷ read k x ∷ [])
+  pub wrong-length : (k : ℕ) (x : List ℕ) → length x ≢ fieldBytes → RefusedWith s 2 (teach k x ∷ correct k x ∷ read k x ∷ [])
   pub no-unit : (w : ℕ) → 27 < w → RefusedWith s 2 (unitOut w ∷ [])
   pub no-group : (g : ℕ) → 3 < g → RefusedWith s 2 (repair g ∷ [])
   pub unit-not-in-place : (w : ℕ) → w ≤ 27 → sound s ≡ true → stateIn (view s) w ≡ 0 → RefusedWith s 3 (unitOut w ∷ [])
   pub group-not-in-place : (g : ℕ) → g ≤ 3 → sound s ≡ true → unitsIn (view s) ≤ 4 * g → RefusedWith s 3 (repair g ∷ [])
   pub short : (x : List ℕ) → sound s ≡ true → lostIn (view s) ≡ false → length x < slotBytes * totalIn (view s) → RefusedWith s 7 (list x ∷ [])
 
--- reading in place, in any bytes: the store is as it was, and the part is the 16 bytes of a body, the one that read, given a buffer that fits, hands
+-- reading in place, in any bytes: the store is as it was, and the part is the 16 bytes of a field, the one that read, given a buffer that fits, hands
 -- back, or it is empty, exactly where that read would refuse or the key's unit is out
 pub record InPlace (s : List ℕ) (k : ℕ) : Type 0 where
   pub untouched : perform s (readInPlace k) .store ≡ s
-  pub exactly : (out : List ℕ) → length out ≡ bodyBytes
-      → length (givenIn s (readInPlace k)) ≡ pick (eqb (numberIn s (read k out)) 0 && not (eqb (view s .dstate (homeIn (view s) k)) 2)) bodyBytes 0
-  pub same : (out : List ℕ) → length out ≡ bodyBytes → numberIn s (read k out) ≡ 0 → view s .dstate (homeIn (view s) k) ≢ 2
+  pub exactly : (out : List ℕ) → length out ≡ fieldBytes
+      → length (givenIn s (readInPlace k)) ≡ pick (eqb (numberIn s (read k out)) 0 && not (eqb (view s .dstate (homeIn (view s) k)) 2)) fieldBytes 0
+  pub same : (out : List ℕ) → length out ≡ fieldBytes → numberIn s (read k out) ≡ 0 → view s .dstate (homeIn (view s) k) ≢ 2
       → givenIn s (readInPlace k) ≡ givenIn s (read k out)
 
 -- lay out, of any bytes and any number: refused as the table says, and else granted

@@ -37,10 +37,10 @@ pub record UnitsReached (m : ℕ) : Type 0 where
   pub sixteens : (u : ℕ) → u < m → unitOf m (16 * u) ≡ u
   pub has-key : (u : ℕ) → u < m → (k : ℕ) × (1 ≤ k) × (k < 4294967296) × (unitOf m k ≡ u)
 
--- each check unit in service holds, at each rank, the four keys of the ledger's records of its group, and their bodies at column 4 + j
+-- each check unit in service holds, at each rank, the four keys of the ledger's records of its group, and their fields at column 4 + j
 abbrev pub HoldsLedger : Store → Ledger → Type 0
 HoldsLedger v l = (g j r : ℕ) → g < 4 → j < 3 → r < v .size → v .cstate (3 * g + j) ≡ 1
-    → v .check (3 * g + j) r ≡ tab 4 (λ p. bytes32 (recordAt l (4 * g + p) r .key)) ++ bodyAt (4 + j) (λ p. recordAt l (4 * g + p) r .body)
+    → v .check (3 * g + j) r ≡ tab 4 (λ p. bytes32 (recordAt l (4 * g + p) r .key)) ++ bodyAt (4 + j) (λ p. recordAt l (4 * g + p) r .field)
 
 -- symbols at four columns
 pub record SymbolsFixed (cs : List ℕ) : Type 0 where
@@ -69,7 +69,7 @@ pub record Demand2 : Type 0 where
   -- "Check records are the group's records times the paper's matrix": in every history, and of every check unit that a call makes anew
   pub in-histories : (s : List ℕ) (b : ℕ) → layOutNumber s b ≡ 0 → (cs : List Call) → AllTyped cs → HoldsLedger (view (left s b cs)) (final (opened b) cs)
   pub made-anew : (s : List ℕ) → MadeAnew s
-  -- "Four members under any four different columns fix the data, and rebuilding returns just that data": of symbols and of bodies
+  -- "Four members under any four different columns fix the data, and rebuilding returns just that data": of symbols and of bodies of any width
   pub symbols : (cs : List ℕ) → FourColumns cs → SymbolsFixed cs
   pub bodies : (n : ℕ) (cs : List ℕ) → FourColumns cs → BodiesFixed n cs
   -- rebuilding of symbols has an answer for any columns and symbols, and only one

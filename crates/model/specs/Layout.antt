@@ -24,7 +24,7 @@ pub record Store : Type 0 where
   pub dstate : ℕ → ℕ  -- data unit → its state: 0 not in place, 1 in service, 2 out
   pub cstate : ℕ → ℕ  -- check unit → its state; check unit j of group g is 3g + j
   pub size : ℕ  -- b, the ranks of a unit
-  pub slot : ℕ → ℕ → List ℕ  -- data unit, rank → the slot: key and body
+  pub slot : ℕ → ℕ → List ℕ  -- data unit, rank → the slot: key and field
   pub check : ℕ → ℕ → List ℕ  -- check unit, rank → the check record: four keys by place in the group, parity
   pub rest : List ℕ  -- what the slice has behind the store
 
@@ -59,9 +59,9 @@ unitsIn v = byte (v .front) 6
 unfoldable pub levelIn : Store → ℕ
 levelIn v = byte (v .front) 7
 
--- a slot's bytes: a key and a body; and the key of a slot, or of the first bytes of a list
+-- a slot's bytes: a key and a field; and the key of a slot, or of the first bytes of a list
 unfoldable pub slotOf : ℕ → List ℕ → List ℕ
-slotOf k body = bytes32 k ++ body
+slotOf k field = bytes32 k ++ field
 
 unfoldable pub keyOf : List ℕ → ℕ
 keyOf x = be32 x 0

@@ -6,13 +6,13 @@ use mathlib.Core.Bool.{Bool, not, _&&_}
 use lib.Dec.{eqb, ltb, leb}
 use lib.ListN.{length}
 use Rattle.buffer.specs.Choice.{pick}
-use Rattle.group.specs.Widths.{bodyBytes, slotBytes}
+use Rattle.group.specs.Widths.{fieldBytes, slotBytes}
 use Rattle.model.specs.Units.{splitPointer}
 use Rattle.model.specs.Layout.{Store, view, unitsIn, levelIn}
 use Rattle.model.specs.Reads.{homeIn, fillIn, rankIn, outsIn, unitsOutIn, stateIn, beyondIn, listedFill, listedRank, lostIn, totalIn}
 use Rattle.model.specs.Sound.{sound}
 
--- the calls, each with its arguments: keys, bodies, unit and group numbers, and output buffers as they are lent
+-- the calls, each with its arguments: keys, fields, unit and group numbers, and output buffers as they are lent
 pub data Call : Type 0 where
   teach : ℕ → List ℕ → Call
   correct : ℕ → List ℕ → Call
@@ -26,7 +26,7 @@ pub data Call : Type 0 where
   shrink : Call
   raise : Call
 
--- a choice by the kind of a call: a key's body is written (teach, correct), a key erased, a body copied (read) or lent (read in place), all records
+-- a choice by the kind of a call: a key's field is written (teach, correct), a key erased, a field copied (read) or lent (read in place), all records
 -- listed, units marked (unit out, repair), or none of these (grow, shrink, raise)
 abbrev pub byKind {ℓ} : {A : Type ℓ} → Call → (ℕ → List ℕ → A) → (ℕ → A) → (ℕ → List ℕ → A) → (ℕ → A) → (List ℕ → A) → A → A → A
 byKind (teach k x) written erased copied lent listed marked other = written k x
@@ -49,15 +49,15 @@ firstOf (t ∷ ts) = pick (t .0) (t .1) (firstOf ts)
 -- The rows of each call, for a store with the parts v, whose bytes are sound or not. Read in place returns no number and has no rows.
 unfoldable pub refusalsIn : Bool → Store → Call → List (Bool × ℕ)
 refusalsIn ok v (teach k x) =
-    (eqb k 0, 2) ∷ (not (eqb (length x) bodyBytes), 2) ∷ (not ok, 1) ∷ (ltb 0 (outsIn v (homeIn v k / 4)), 4)
+    (eqb k 0, 2) ∷ (not (eqb (length x) fieldBytes), 2) ∷ (not ok, 1) ∷ (ltb 0 (outsIn v (homeIn v k / 4)), 4)
     ∷ (ltb (rankIn v (homeIn v k) k) (fillIn v (homeIn v k)), 5) ∷ (leb (v .size) (fillIn v (homeIn v k)), 7) ∷ []
 refusalsIn ok v (correct k x) =
-    (eqb k 0, 2) ∷ (not (eqb (length x) bodyBytes), 2) ∷ (not ok, 1) ∷ (ltb 0 (outsIn v (homeIn v k / 4)), 4)
+    (eqb k 0, 2) ∷ (not (eqb (length x) fieldBytes), 2) ∷ (not ok, 1) ∷ (ltb 0 (outsIn v (homeIn v k / 4)), 4)
     ∷ (leb (fillIn v (homeIn v k)) (rankIn v (homeIn v k) k), 6) ∷ []
 refusalsIn ok v (erase k) =
     (eqb k 0, 2) ∷ (not ok, 1) ∷ (ltb 0 (outsIn v (homeIn v k / 4)), 4) ∷ (leb (fillIn v (homeIn v k)) (rankIn v (homeIn v k) k), 6) ∷ []
 refusalsIn ok v (read k x) =
-    (eqb k 0, 2) ∷ (not (eqb (length x) bodyBytes), 2) ∷ (not ok, 1) ∷ (eqb (v .dstate (homeIn v k)) 2 && beyondIn v (homeIn v k / 4), 8)
+    (eqb k 0, 2) ∷ (not (eqb (length x) fieldBytes), 2) ∷ (not ok, 1) ∷ (eqb (v .dstate (homeIn v k)) 2 && beyondIn v (homeIn v k / 4), 8)
     ∷ (leb (listedFill v (homeIn v k)) (listedRank v (homeIn v k) k), 6) ∷ []
 refusalsIn ok v (readInPlace k) = []
 refusalsIn ok v (list x) = (not ok, 1) ∷ (lostIn v, 8) ∷ (ltb (length x) (slotBytes * totalIn v), 7) ∷ []

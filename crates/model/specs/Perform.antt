@@ -6,9 +6,9 @@ use lib.Dec.{eqb, ltb}
 use lib.ListN.{length, drop}
 use Rattle.buffer.specs.Choice.{pick}
 use Rattle.buffer.specs.Bytes.{zeros, part}
-use Rattle.group.specs.Widths.{keyBytes, bodyBytes, slotBytes, checkBytes}
+use Rattle.group.specs.Widths.{keyBytes, fieldBytes, slotBytes, checkBytes}
 use Rattle.model.specs.Layout.{Store, bytes, view, storeBytes, frontOf, slotAt, slotOf, unitsIn}
-use Rattle.model.specs.Reads.{homeIn, fillIn, rankIn, bodyIn, totalIn, listingIn}
+use Rattle.model.specs.Reads.{homeIn, fillIn, rankIn, fieldIn, totalIn, listingIn}
 use Rattle.model.specs.Numbers.{Call, teach, correct, erase, read, readInPlace, list, unitOut, repair, grow, shrink, raise, byKind, firstOf, numberIn}
 use Rattle.model.specs.Changes.{written, erased, unitLost, repaired, grown, shrunk, raised}
 
@@ -42,19 +42,19 @@ pub record Place : Type 0 where
   pub at : ℕ
   pub size : ℕ
 
--- where the body of a key stands; the part is empty exactly where read, given a buffer that fits, would refuse or the key's unit is out
+-- where the field of a key stands; the part is empty exactly where read, given a buffer that fits, would refuse or the key's unit is out
 unfoldable pub placeIn : List ℕ → ℕ → Place
 placeIn s k =
     let v : Store = view s in
-    pick (eqb (numberIn s (read k (zeros bodyBytes))) 0 && not (eqb (v .dstate (homeIn v k)) 2))
-    (record { at = slotAt (v .size) (homeIn v k) (rankIn v (homeIn v k) k) + keyBytes; size = bodyBytes }) (record { at = 0; size = 0 })
+    pick (eqb (numberIn s (read k (zeros fieldBytes))) 0 && not (eqb (v .dstate (homeIn v k)) 2))
+    (record { at = slotAt (v .size) (homeIn v k) (rankIn v (homeIn v k) k) + keyBytes; size = fieldBytes }) (record { at = 0; size = 0 })
 
 -- ---- what a granted call hands back, and the store that it leaves
 
 -- the bytes that a granted call hands back; of a refused one nothing is used
 unfoldable pub givenIn : List ℕ → Call → List ℕ
 givenIn s c =
-    byKind c (λ k x. []) (λ k. []) (λ k out. bodyIn (view s) k) (λ k. part (placeIn s k .at) (placeIn s k .size) s) (λ out. listingIn (view s)) [] []
+    byKind c (λ k x. []) (λ k. []) (λ k out. fieldIn (view s) k) (λ k. part (placeIn s k .at) (placeIn s k .size) s) (λ out. listingIn (view s)) [] []
 
 -- the bytes of the store after a granted call
 unfoldable pub grantedIn : List ℕ → Call → List ℕ

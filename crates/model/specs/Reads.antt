@@ -44,7 +44,7 @@ checksIn v g = checks (λ j. v .cstate (3 * g + j))
 unfoldable pub unitsOutIn : Store → ℕ
 unitsOutIn v = count 28 (λ w. eqb (stateIn v w) 2)
 
--- the members of a group in service, and the body or parity that each holds at a rank
+-- the members of a group in service, and the field or parity that each holds at a rank
 unfoldable pub servesIn : Store → ℕ → ℕ → Bool
 servesIn v g m = serves (λ p. v .dstate (4 * g + p)) (λ j. v .cstate (3 * g + j)) m
 
@@ -74,9 +74,9 @@ wholeSlot v u r =
     (pick (eqb (keyOf (listedKey v u r)) 0) (zeros slotBytes) (listedKey v u r ++ rebuilt (servesIn v (u / 4)) (holds v (u / 4) r) (u % 4)))
     (v .slot u r)
 
--- the body of a key
-unfoldable pub bodyIn : Store → ℕ → List ℕ
-bodyIn v k = drop keyBytes (wholeSlot v (homeIn v k) (listedRank v (homeIn v k) k))
+-- the field of a key
+unfoldable pub fieldIn : Store → ℕ → List ℕ
+fieldIn v k = drop keyBytes (wholeSlot v (homeIn v k) (listedRank v (homeIn v k) k))
 
 -- a data unit is out in a group beyond recovery
 unfoldable pub lostIn : Store → Bool

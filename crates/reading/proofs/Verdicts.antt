@@ -11,7 +11,7 @@ use Rattle.buffer.specs.ChoiceLaws.{pick-false}
 use Rattle.buffer.specs.Range.{sum}
 use Rattle.buffer.specs.RangeLaws.{sum-ext}
 use Rattle.buffer.specs.Bytes.{byte}
-use Rattle.group.specs.Widths.{bodyBytes, slotBytes}
+use Rattle.group.specs.Widths.{fieldBytes, slotBytes}
 use Rattle.model.specs.Layout.{view}
 use Rattle.model.specs.Reads.{homeIn, listedFill, listedRank, lostIn, totalIn}
 use Rattle.model.specs.Numbers.{firstOf}
@@ -37,20 +37,20 @@ module _ (s : List ℕ) (ok : Bool) (k n : ℕ) where
   unfolding readNumber firstOf pick
   no-key h = rw (eq-eqb k 0 h)
 
-  pub no-room : (k ≡ 0 → ⊥) → (n ≡ bodyBytes → ⊥) → 2 ≡ readNumber ok (view s) k n
+  pub no-room : (k ≡ 0 → ⊥) → (n ≡ fieldBytes → ⊥) → 2 ≡ readNumber ok (view s) k n
   unfolding readNumber firstOf pick
-  no-room key h = rw (ne-eqb k 0 key, ne-eqb n bodyBytes h)
+  no-room key h = rw (ne-eqb k 0 key, ne-eqb n fieldBytes h)
 
-  pub unsound : (k ≡ 0 → ⊥) → n ≡ bodyBytes → ok ≡ false → 1 ≡ readNumber ok (view s) k n
+  pub unsound : (k ≡ 0 → ⊥) → n ≡ fieldBytes → ok ≡ false → 1 ≡ readNumber ok (view s) k n
   unfolding readNumber firstOf pick
-  unsound key room h = rw (ne-eqb k 0 key, eq-eqb n bodyBytes room, h)
+  unsound key room h = rw (ne-eqb k 0 key, eq-eqb n fieldBytes room, h)
 
 -- key k is sought in its unit u of a sound store, for n bytes that fit
 pub record Sought (s : List ℕ) (ok : Bool) (fills firstChecks outs : List ℕ) (k n u : ℕ) : Type 0 where
   pub surveyed : Surveyed s ok fills firstChecks outs
   pub good : ok ≡ true
   pub key : k ≡ 0 → ⊥
-  pub room : n ≡ bodyBytes
+  pub room : n ≡ fieldBytes
   pub home : u ≡ homeIn (view s) k
   pub low : u < 16
 
@@ -60,7 +60,7 @@ module _ {s : List ℕ} {ok : Bool} {fills firstChecks outs : List ℕ} {k n u :
 
   pub lost : goneIn (view s) u ≡ true → 8 ≡ readNumber ok (view s) k n
   unfolding readNumber firstOf pick
-  lost e = rw (ne-eqb k 0 (h .key), eq-eqb n bodyBytes (h .room), h .good, ← h .home, e)
+  lost e = rw (ne-eqb k 0 (h .key), eq-eqb n fieldBytes (h .room), h .good, ← h .home, e)
 
   module _ (safe : goneIn (view s) u ≡ false) where
     pub there : Recoverable s u
@@ -76,7 +76,7 @@ module _ {s : List ℕ} {ok : Bool} {fills firstChecks outs : List ℕ} {k n u :
       unfolding readNumber firstOf pick
       absent e =
           let l : listedFill (view s) u ≤ listedRank (view s) u k = rw (← fill .0, ← rank) e in
-          rw (ne-eqb k 0 (h .key), eq-eqb n bodyBytes (h .room), h .good, ← h .home, safe, le-leb (listedFill (view s) u) (listedRank (view s) u k) l)
+          rw (ne-eqb k 0 (h .key), eq-eqb n fieldBytes (h .room), h .good, ← h .home, safe, le-leb (listedFill (view s) u) (listedRank (view s) u k) l)
 
       pub present : r < m → Verdict s ok k n 0 u r
       unfolding readNumber firstOf pick
@@ -84,7 +84,7 @@ module _ {s : List ℕ} {ok : Bool} {fills firstChecks outs : List ℕ} {k n u :
           let l : r < listedFill (view s) u = rw (fill .0) at e in
           let hit = lt-leb (listedFill (view s) u) (listedRank (view s) u k) (rw rank at l) in
           record {
-            given = rw (ne-eqb k 0 (h .key), eq-eqb n bodyBytes (h .room), h .good, ← h .home, safe, hit);
+            given = rw (ne-eqb k 0 (h .key), eq-eqb n fieldBytes (h .room), h .good, ← h .home, safe, hit);
             placed = λ z. record { there = there; home = h .home; found = rank; listed = l; small = omega (arith, fill .1) };
             room = λ z. h .room;
             nowhere = λ z. absurd (z refl);

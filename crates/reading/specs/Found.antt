@@ -4,7 +4,7 @@ use mathlib.Core.Path.{_≡_}
 use mathlib.Core.Bool.{Bool}
 use mathlib.Core.List.{List}
 use Rattle.buffer.specs.Bytes.{byte}
-use Rattle.group.specs.Widths.{bodyBytes}
+use Rattle.group.specs.Widths.{fieldBytes}
 use Rattle.model.specs.Layout.{view}
 use Rattle.model.specs.Reads.{homeIn, listedFill, listedRank}
 use Rattle.lookup.specs.Groups.{Recoverable}
@@ -21,5 +21,5 @@ pub record Placed (s : List ℕ) (k unit rank : ℕ) : Type 0 where
 pub record Verdict (s : List ℕ) (ok : Bool) (k n number unit rank : ℕ) : Type 0 where
   pub given : number ≡ readNumber ok (view s) k n
   pub placed : number ≡ 0 → Placed s k unit rank
-  pub room : number ≡ 0 → n ≡ bodyBytes
+  pub room : number ≡ 0 → n ≡ fieldBytes
   pub nowhere : (number ≡ 0 → ⊥) → (unit ≡ 0) × (rank ≡ 0)

@@ -5,7 +5,7 @@ use mathlib.Core.Bool.{Bool, not}
 use mathlib.Core.List.{List, [], _∷_}
 use lib.Dec.{eqb, ltb, leb}
 use lib.ListN.{length}
-use Rattle.group.specs.Widths.{bodyBytes, slotBytes}
+use Rattle.group.specs.Widths.{fieldBytes, slotBytes}
 use Rattle.model.specs.Layout.{Store, view}
 use Rattle.model.specs.Reads.{homeIn, listedFill, listedRank, lostIn, totalIn}
 use Rattle.lookup.specs.Groups.{goneIn}
@@ -17,7 +17,7 @@ unfoldable pub readNumber : Bool → Store → ℕ → ℕ → ℕ
 readNumber ok v k n =
     firstOf (
     (eqb k 0, 2)
-    ∷ (not (eqb n bodyBytes), 2)
+    ∷ (not (eqb n fieldBytes), 2)
     ∷ (not ok, 1)
     ∷ (goneIn v (homeIn v k), 8)
     ∷ (leb (listedFill v (homeIn v k)) (listedRank v (homeIn v k) k), 6)

@@ -8,7 +8,7 @@ ghost use Rattle.buffer.specs.Bytes.{byte, part};
 ghost use Rattle.buffer.specs.Range.{sum};
 ghost use Rattle.buffer.specs.Table.{tab};
 ghost use Rattle.group.specs.Products.{products};
-ghost use Rattle.group.specs.Widths.{keyBytes, bodyBytes, slotBytes};
+ghost use Rattle.group.specs.Widths.{keyBytes, fieldBytes, slotBytes};
 ghost use Rattle.model.specs.Layout.{view};
 ghost use Rattle.model.specs.Reads.{firstCheck, listedFill, wholeSlot, totalIn, listingIn};
 ghost use Rattle.soundness.specs.Survey.{Surveyed};
@@ -43,7 +43,7 @@ fn look_up(s: &[u8], survey: soundness::Survey, key: u32, len: usize) -> Found
     if key == 0 {
         return refused(2);
     }
-    if len != group::BODY {
+    if len != group::FIELD {
         return refused(2);
     }
     if !survey.sound {
@@ -69,23 +69,23 @@ fn look_up(s: &[u8], survey: soundness::Survey, key: u32, len: usize) -> Found
     }
 }
 
-// Copies the body of rank r of data unit u, rebuilt where the unit is out.
-fn copy_body(s: &[u8], u: u8, r: u8, out: &mut [u8])
-    requires { ⌜ Recoverable (now s) u × (r < byte (now s) 5) × (r < listedFill (view (now s)) u) × (length (now out) ≡ bodyBytes) ⌝ }
+// Copies the field of rank r of data unit u, rebuilt where the unit is out.
+fn copy_field(s: &[u8], u: u8, r: u8, out: &mut [u8])
+    requires { ⌜ Recoverable (now s) u × (r < byte (now s) 5) × (r < listedFill (view (now s)) u) × (length (now out) ≡ fieldBytes) ⌝ }
     ensures { λ _. ⌜ now (out .exit) ≡ drop keyBytes (wholeSlot (view (now (s .entry))) u r) ⌝ }
 {
     if lookup::state(s, u) == 2 {
         let table = group::table();
         let members = lookup::members(s, u / 4);
         let weights = lookup::weights(s, u, members, &table);
-        lookup::rebuild_body(out, s, u / 4, r, members, weights, &table);
+        lookup::rebuild_field(out, s, u / 4, r, members, weights, &table);
     } else {
         let at = lookup::slot_at(s[lookup::SIZE_AT], u, r) + group::KEY;
-        buffer::copy(out, &s[at..at + group::BODY]);
+        buffer::copy(out, &s[at..at + group::FIELD]);
     }
 }
 
-// Reads the body of a key into a buffer of 16 bytes.
+// Reads the field of a key into a buffer of 16 bytes.
 pub fn read(s: &[u8], key: u32, out: &mut [u8]) -> u8
     ensures { λ r. ⌜ outcome (copied r (now (out .exit))) (now (s .entry)) ≡ perform (now (s .entry)) (Call.read key (now (out .entry))) ⌝ }
 {
@@ -93,19 +93,19 @@ pub fn read(s: &[u8], key: u32, out: &mut [u8]) -> u8
     if found.number != 0 {
         return found.number;
     }
-    copy_body(s, found.unit, found.rank, out);
+    copy_field(s, found.unit, found.rank, out);
     0
 }
 
-// The body of a key as the part of the store that holds it; empty where a read is refused or the key's unit is out.
-// A pointer is a block and a place in it: `start` says that a body is handed back where it stands in the store, not another stretch of equal bytes.
+// The field of a key as the part of the store that holds it; empty where a read is refused or the key's unit is out.
+// A pointer is a block and a place in it: `start` says that a field is handed back where it stands in the store, not another stretch of equal bytes.
 pub fn read_in_place(s: &[u8], key: u32) -> &[u8]
     ensures answer { λ r. ⌜ outcome (lent (now r)) (now (s .entry)) ≡ perform (now (s .entry)) (Call.readInPlace key) ⌝ }
     ensures place { λ r. ⌜ now r ≡ part (placeIn (now (s .entry)) key .at) (placeIn (now (s .entry)) key .size) (now (s .entry)) ⌝ }
-    ensures start { λ r. ⌜ (placeIn (now (s .entry)) key .size ≡ bodyBytes
+    ensures start { λ r. ⌜ (placeIn (now (s .entry)) key .size ≡ fieldBytes
         → ptr r ≡ (ptr (s .entry) .0, ptr (s .entry) .1 + placeIn (now (s .entry)) key .at)) ⌝ }
 {
-    let place = look_up(s, soundness::survey_of(s), key, group::BODY);
+    let place = look_up(s, soundness::survey_of(s), key, group::FIELD);
     if place.number != 0 {
         return &s[0..0];
     }
@@ -229,7 +229,7 @@ fn write_records(
     }
 }
 
-// Writes key and body of every record, 20 bytes each, by unit and then rank; bytes behind are not written.
+// Writes key and field of every record, 20 bytes each, by unit and then rank; bytes behind are not written.
 pub fn list(s: &[u8], out: &mut [u8]) -> Listing
     ensures { λ r. ⌜ outcome (listed (r .number) (r .count) (now (out .exit))) (now (s .entry)) ≡ perform (now (s .entry)) (Call.list (now (out .entry))) ⌝ }
 {

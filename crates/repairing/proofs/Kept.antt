@@ -30,7 +30,7 @@ use Rattle.lookup.specs.Sized.{Sized}
 use Rattle.lookup.specs.Keys.{keysAt}
 use Rattle.lookup.specs.GroupLaws.{beyond-states, four-states, group-four, recoverable-known}
 use Rattle.lookup.specs.Slots.{Recipe}
-use Rattle.lookup.specs.SlotLaws.{body-rebuilt}
+use Rattle.lookup.specs.SlotLaws.{field-rebuilt}
 
 -- ---- the header of a store
 header-read : (t : Store) → Shaped t → part 0 headerBytes (bytes t) ≡ header t
@@ -154,13 +154,13 @@ module _ {s₀ s : List ℕ} {f : ℕ → ℕ → List ℕ} (w : Rewritten s₀ 
           ap (λ x. servesIn (view s₀) (u / 4) (getD x i 0)) (recipe .four)
           ∙ group-four (recipe .unit .sized) (u / 4) (omega arith) (recipe .unit .whole (recipe .out)) .serving i l
 
-      body-kept : rebuilt (servesIn (view s) (u / 4)) (holds (view s) (u / 4) r) (u % 4) ≡ rebuilt
+      field-kept : rebuilt (servesIn (view s) (u / 4)) (holds (view s) (u / 4) r) (u % 4) ≡ rebuilt
           (servesIn (view s₀) (u / 4)) (holds (view s₀) (u / 4) r) (u % 4)
-      body-kept =
+      field-kept =
           let k = low in
-          let bodies : ℕ → List ℕ = λ i. holds (view s₀) (u / 4) r (getD members i 0) in
-          sym (body-rebuilt recipe-kept r bodies (λ i l. sym (held-kept (u / 4) r (getD members i 0) (omega arith) rank (recipe .low i l) (serving i l))))
-          ∙ body-rebuilt recipe r bodies (λ i l. refl)
+          let fields : ℕ → List ℕ = λ i. holds (view s₀) (u / 4) r (getD members i 0) in
+          sym (field-rebuilt recipe-kept r fields (λ i l. sym (held-kept (u / 4) r (getD members i 0) (omega arith) rank (recipe .low i l) (serving i l))))
+          ∙ field-rebuilt recipe r fields (λ i l. refl)
 
       key-kept : listedKey (view s) u r ≡ listedKey (view s₀) u r
       unfolding listedKey
@@ -176,5 +176,5 @@ module _ {s₀ s : List ℕ} {f : ℕ → ℕ → List ℕ} (w : Rewritten s₀ 
       unfolding wholeSlot
       whole-kept =
           pick-true (eq-eqb (view s .dstate u) 2 (unfold view in out)) _ _
-          ∙ ap₂ (λ key body. pick (eqb (keyOf key) 0) (zeros slotBytes) (key ++ body)) key-kept body-kept
+          ∙ ap₂ (λ key field. pick (eqb (keyOf key) 0) (zeros slotBytes) (key ++ field)) key-kept field-kept
           ∙ sym (pick-true (eq-eqb (view s₀ .dstate u) 2 (unfold view in recipe .out)) _ _)

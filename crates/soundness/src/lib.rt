@@ -1,4 +1,4 @@
-// The soundness test: document 01, "Sound means", over bytes of any length. One pass over the keys of each unit; the body of a record is never
+// The soundness test: document 01, "Sound means", over bytes of any length. One pass over the keys of each unit; the field of a record is never
 // read. What the pass counts is handed on with the verdict, so that no call counts again.
 mod checks;
 mod keys;

@@ -14,17 +14,17 @@ pub extern "C" fn lhrs_lay_out(store: &mut [u8], b: u32) -> u8
 }
 
 #[no_mangle]
-pub extern "C" fn lhrs_teach(store: &mut [u8], key: u32, body: &[u8]) -> u8
-    ensures { λ r. ⌜ outcome (plain r) (now (store .exit)) ≡ perform (now (store .entry)) (Call.teach key (now (body .entry))) ⌝ }
+pub extern "C" fn lhrs_teach(store: &mut [u8], key: u32, field: &[u8]) -> u8
+    ensures { λ r. ⌜ outcome (plain r) (now (store .exit)) ≡ perform (now (store .entry)) (Call.teach key (now (field .entry))) ⌝ }
 {
-    writing::teach(store, key, body)
+    writing::teach(store, key, field)
 }
 
 #[no_mangle]
-pub extern "C" fn lhrs_correct(store: &mut [u8], key: u32, body: &[u8]) -> u8
-    ensures { λ r. ⌜ outcome (plain r) (now (store .exit)) ≡ perform (now (store .entry)) (Call.correct key (now (body .entry))) ⌝ }
+pub extern "C" fn lhrs_correct(store: &mut [u8], key: u32, field: &[u8]) -> u8
+    ensures { λ r. ⌜ outcome (plain r) (now (store .exit)) ≡ perform (now (store .entry)) (Call.correct key (now (field .entry))) ⌝ }
 {
-    writing::correct(store, key, body)
+    writing::correct(store, key, field)
 }
 
 #[no_mangle]

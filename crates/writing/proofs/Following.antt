@@ -14,7 +14,7 @@ use Rattle.buffer.specs.Choice.{pick}
 use Rattle.buffer.specs.ChoiceLaws.{by-pick, pick-true, pick-false}
 use Rattle.buffer.specs.TestLaws.{and-true, and-first, and-second, and-false-second, and-ext, ltb-suc, by-both}
 use Rattle.buffer.specs.Bytes.{byte, part, splice}
-use Rattle.group.specs.Widths.{keyBytes, bodyBytes, slotBytes, checkBytes}
+use Rattle.group.specs.Widths.{keyBytes, fieldBytes, slotBytes, checkBytes}
 use Rattle.group.specs.Body.{addBody}
 use Rattle.group.specs.CheckRecord.{patched}
 use Rattle.group.specs.CheckRecordLaws.{length-key, length-patched}
@@ -93,7 +93,7 @@ module _ (s : Store) (u r : ℕ) (key change : List ℕ) where
       let d : 3 * (u / 4) + n ≡ c = omega arith in
       e (ap (λ k. s .cstate k) d ∙ eqb-true (s .cstate c) 1 (and-second (eqb (c / 3) (u / 4) && eqb q r) (eqb (s .cstate c) 1) t)))
 
-  followed-long : (n c q : ℕ) → length key ≡ keyBytes → length change ≡ bodyBytes → length (s .check c q) ≡ checkBytes
+  followed-long : (n c q : ℕ) → length key ≡ keyBytes → length change ≡ fieldBytes → length (s .check c q) ≡ checkBytes
       → length (followed n s u r key change c q) ≡ checkBytes
   unfolding followed
   followed-long n c q a b h =
@@ -102,7 +102,7 @@ module _ (s : Store) (u r : ℕ) (key change : List ℕ) where
       (due c q && ltb (c % 3) n)
       (patched (c % 3) (u % 4) key change (s .check c q))
       (s .check c q)
-      (λ _. length-patched bodyBytes (c % 3) (u % 4) key change (s .check c q) (omega arith) a b h)
+      (λ _. length-patched fieldBytes (c % 3) (u % 4) key change (s .check c q) (omega arith) a b h)
       (λ _. h)
 
 -- ---- the loop: j check units have followed
@@ -114,7 +114,7 @@ pub record Following (s₀ : List ℕ) (u r : ℕ) (key change s : List ℕ) (j 
   pub long : length s ≡ length s₀
   pub state : s ≡ bytes (withChecks (view s₀) (followed j (view s₀) u r key change))
 
-module _ (s₀ : List ℕ) (u r : ℕ) (key change : List ℕ) (slot : SlotIn s₀ u r) (hk : length key ≡ keyBytes) (hc : length change ≡ bodyBytes) where
+module _ (s₀ : List ℕ) (u r : ℕ) (key change : List ℕ) (slot : SlotIn s₀ u r) (hk : length key ≡ keyBytes) (hc : length change ≡ fieldBytes) where
   abbrev v : Store
   v = view s₀
 
@@ -208,8 +208,8 @@ pub followed-written : (s₀ s s′ x key change : List ℕ) (u r b at : ℕ) �
     → s ≡ bytes (withChecks (view s₀) (followed 3 (view s₀) u r key change)) → s′ ≡ splice at slotBytes x s → s′ ≡ bytes (written (view s₀) u r x)
 followed-written s₀ s s′ x key change u r b at slot hx eb ea ek ec e es =
     let hr : r < view s₀ .size = rw (← size-of s₀) (slot .rank) in
-    let lk : length key ≡ keyBytes = ap length ek ∙ length-key bodyBytes x hx in
-    let lc : length change ≡ bodyBytes = ap length ec ∙ length-change (view s₀ .slot u r) x (view-shaped s₀ (slot .long) .slot u r (slot .unit) hr) hx in
+    let lk : length key ≡ keyBytes = ap length ek ∙ length-key fieldBytes x hx in
+    let lc : length change ≡ fieldBytes = ap length ec ∙ length-change (view s₀ .slot u r) x (view-shaped s₀ (slot .long) .slot u r (slot .unit) hr) hx in
     chunk-put data-units (after s₀ u r key change 3) (after-shaped s₀ u r key change slot lk lc 3) s e b
     (eb ∙ size-of s₀ ∙ sym (after-size s₀ u r key change slot lk lc 3)) s′ x at u r ea (slot .unit) (rw eb (slot .rank)) es
     ∙ ap₂ (λ k d. bytes (withSlots (after s₀ u r k d 3) (upd2 (after s₀ u r k d 3 .slot) u r x))) ek ec

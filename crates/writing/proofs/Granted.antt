@@ -9,7 +9,7 @@ use lib.ListN.{length}
 use borrow.Author.Tests.{ltb-false, leb-false, not-false}
 use Rattle.buffer.specs.Choice.{pick}
 use Rattle.buffer.specs.Bytes.{byte}
-use Rattle.group.specs.Widths.{bodyBytes}
+use Rattle.group.specs.Widths.{fieldBytes}
 use Rattle.model.specs.Layout.{bytes, view, slotOf}
 use Rattle.model.specs.Places.{SlotIn}
 use Rattle.model.specs.Reads.{homeIn, fillIn, rankIn}
@@ -51,11 +51,11 @@ pub record Opens (s : List ℕ) (k : ℕ) (fits : Bool) (c : Call) (own : ℕ �
   pub rows : firstOf (refusalsIn (sound s) (view s) c) ≡ firstOf
       (openingRows s k fits ++ own (fillIn (view s) (homeIn (view s) k)) (rankIn (view s) (homeIn (view s) k) k))
 
-pub of-teaching : (s : List ℕ) (k : ℕ) (x : List ℕ) → Opens s k (eqb (length x) bodyBytes) (Call.teach k x) (λ n r. (ltb r n, 5) ∷ (leb (byte s 5) n, 7) ∷ [])
+pub of-teaching : (s : List ℕ) (k : ℕ) (x : List ℕ) → Opens s k (eqb (length x) fieldBytes) (Call.teach k x) (λ n r. (ltb r n, 5) ∷ (leb (byte s 5) n, 7) ∷ [])
 unfolding refusalsIn openingRows
 of-teaching s k x = record { alone = of-teach; rows = rw (size-of s) refl }
 
-pub of-correcting : (s : List ℕ) (k : ℕ) (x : List ℕ) → Opens s k (eqb (length x) bodyBytes) (Call.correct k x) (λ n r. (leb n r, 6) ∷ [])
+pub of-correcting : (s : List ℕ) (k : ℕ) (x : List ℕ) → Opens s k (eqb (length x) fieldBytes) (Call.correct k x) (λ n r. (leb n r, 6) ∷ [])
 unfolding refusalsIn openingRows
 of-correcting s k x = record { alone = of-correct; rows = refl }
 

@@ -30,7 +30,7 @@ homeless e f =
       nowhere = λ _. (e .1, e .2, e .3);
     }
 
--- ---- key k of a call whose body fits belongs to unit u of a sound store
+-- ---- key k of a call whose field fits belongs to unit u of a sound store
 pub record Belongs (s : List ℕ) (k : ℕ) (fits : Bool) (u : ℕ) : Type 0 where
   pub key : eqb k 0 ≡ false
   pub fitting : fits ≡ true

@@ -7,7 +7,7 @@ use lib.ListN.{length, drop, length-drop}
 use lib.Seq.{take-all}
 use Rattle.buffer.specs.Bytes.{byte, zeros, part}
 use Rattle.buffer.specs.SpliceLaws.{part-part}
-use Rattle.group.specs.Widths.{keyBytes, bodyBytes, slotBytes}
+use Rattle.group.specs.Widths.{keyBytes, fieldBytes, slotBytes}
 use Rattle.group.specs.Body.{addBody}
 use Rattle.model.specs.Layout.{bytes, view, slotAt}
 use Rattle.model.specs.Places.{SlotIn}
@@ -21,20 +21,20 @@ part-rest : (o n : ℕ) (x : List ℕ) → length x ≤ o + n → part o n x ≡
 unfolding part
 part-rest o n x h = take-all n (drop o x) (simp length-drop (omega arith))
 
--- the change of body, from the two parts that are lent
+-- the change of field, from the two parts that are lent
 pub slot-change : (s x : List ℕ) (u r b at : ℕ) → SlotIn s u r → length x ≡ slotBytes → b ≡ byte s 5 → at ≡ slotAt b u r
-    → addBody (part (at + keyBytes) (at + slotBytes - (at + keyBytes)) s) (part keyBytes bodyBytes x) ≡ addBody
+    → addBody (part (at + keyBytes) (at + slotBytes - (at + keyBytes)) s) (part keyBytes fieldBytes x) ≡ addBody
     (drop keyBytes (view s .slot u r)) (drop keyBytes x)
 slot-change s x u r b at p hx eb ea =
-    let width : at + slotBytes - (at + keyBytes) ≡ bodyBytes = omega arith in
+    let width : at + slotBytes - (at + keyBytes) ≡ fieldBytes = omega arith in
     let long : length (view s .slot u r) ≡ slotBytes = view-shaped s (p .long) .slot u r (p .unit) (rw (← size-of s) (p .rank)) in
     ap₂
     addBody
     (ap (λ n. part (at + keyBytes) n s) width
-    ∙ sym (part-part at slotBytes keyBytes bodyBytes s (omega arith))
-    ∙ ap (part keyBytes bodyBytes) (slot-lent s b at u r eb ea)
-    ∙ part-rest keyBytes bodyBytes (view s .slot u r) (omega arith))
-    (part-rest keyBytes bodyBytes x (omega arith))
+    ∙ sym (part-part at slotBytes keyBytes fieldBytes s (omega arith))
+    ∙ ap (part keyBytes fieldBytes) (slot-lent s b at u r eb ea)
+    ∙ part-rest keyBytes fieldBytes (view s .slot u r) (omega arith))
+    (part-rest keyBytes fieldBytes x (omega arith))
 
 module _ (s₀ s x : List ℕ) (u r : ℕ) (p : SlotIn s₀ u r) (hx : length x ≡ slotBytes) (e : s ≡ bytes (written (view s₀) u r x)) where
   rank : r < view s₀ .size

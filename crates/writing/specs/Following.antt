@@ -7,7 +7,7 @@ use Rattle.buffer.specs.Choice.{pick}
 use Rattle.group.specs.CheckRecord.{patched}
 use Rattle.model.specs.Layout.{Store}
 
--- the record of unit u at rank r gets this key, and its body this change; the first n check units of u's group, those in service, have followed
+-- the record of unit u at rank r gets this key, and its field this change; the first n check units of u's group, those in service, have followed
 unfoldable pub followed : ℕ → Store → ℕ → ℕ → List ℕ → List ℕ → ℕ → ℕ → List ℕ
 followed n s u r key change c q =
     pick (eqb (c / 3) (u / 4) && eqb q r && eqb (s .cstate c) 1 && ltb (c % 3) n)

@@ -11,7 +11,7 @@ use Rattle.model.specs.Numbers.{firstOf}
 use Rattle.model.specs.Sound.{sound}
 use Rattle.lookup.specs.Sized.{Sized}
 
--- the rows: no key, a body that does not fit, bytes that are not sound, a unit of the key's group out
+-- the rows: no key, a field that does not fit, bytes that are not sound, a unit of the key's group out
 unfoldable pub openingRows : List ℕ → ℕ → Bool → List (Bool × ℕ)
 openingRows s k fits = (eqb k 0, 2) ∷ (not fits, 2) ∷ (not (sound s), 1) ∷ (ltb 0 (outsIn (view s) (homeIn (view s) k / 4)), 4) ∷ []
 
@@ -24,7 +24,7 @@ pub record Located (s : List ℕ) (k u n r : ℕ) : Type 0 where
   pub below : u < 16
   pub most : n ≤ byte s 5
 
--- what is found of key k in a call whose body fits or not: the number of these rows, and where it is 0 the key's place, else 0, 0 and 0
+-- what is found of key k in a call whose field fits or not: the number of these rows, and where it is 0 the key's place, else 0, 0 and 0
 pub record Homed (s : List ℕ) (k : ℕ) (fits : Bool) (number u n r : ℕ) : Type 0 where
   pub found : number ≡ firstOf (openingRows s k fits)
   pub fitting : number ≡ 0 → fits ≡ true

@@ -3,7 +3,7 @@ ghost use mathlib.Core.Path.{_≡_};
 ghost use Prim.Native.Nat.{_+_, _*_, _-_, _<_};
 ghost use lib.ListN.{length, take};
 ghost use Rattle.group.specs.Products.{products};
-ghost use Rattle.group.specs.Widths.{keyBytes, bodyBytes, slotBytes};
+ghost use Rattle.group.specs.Widths.{keyBytes, fieldBytes, slotBytes};
 ghost use Rattle.group.specs.Body.{addBody};
 ghost use Rattle.model.specs.Layout.{bytes, view, slotOf};
 ghost use Rattle.model.specs.Places.{SlotIn, Long};
@@ -15,13 +15,13 @@ ghost use Rattle.writing.specs.Following.{followed};
 ghost use Rattle.writing.specs.Homes.{Homed};
 ghost use Rattle.writing.specs.Places.{unitAt};
 
-// Each check unit in service of u's group follows, at rank r, the new key and the change of body of the record there.
+// Each check unit in service of u's group follows, at rank r, the new key and the change of field of the record there.
 fn follow_checks(
     s: &mut [u8],
     u: u8,
     r: u8,
     key: [u8; group::KEY],
-    change: [u8; group::BODY],
+    change: [u8; group::FIELD],
     table: &[u8; 256],
 )
     requires { ⌜ SlotIn (now s) u r × (now table ≡ products) ⌝ }
@@ -41,12 +41,12 @@ fn follow_checks(
     }
 }
 
-// The sum of two bodies, which is the change from one to the other.
-fn change_of(old: &[u8], new: &[u8]) -> [u8; group::BODY]
-    requires { ⌜ (length (now old) ≡ bodyBytes) × (length (now new) ≡ bodyBytes) ⌝ }
+// The sum of two fields, which is the change from one to the other.
+fn change_of(old: &[u8], new: &[u8]) -> [u8; group::FIELD]
+    requires { ⌜ (length (now old) ≡ fieldBytes) × (length (now new) ≡ fieldBytes) ⌝ }
     ensures { λ r. ⌜ r ≡ addBody (now (old .entry)) (now (new .entry)) ⌝ }
 {
-    let mut change = [0u8; group::BODY];
+    let mut change = [0u8; group::FIELD];
     buffer::copy(&mut change, old);
     group::add(&mut change, new);
     change
@@ -90,32 +90,32 @@ fn erase_at(s: &mut [u8], u: u8, r: u8, last: u8, table: &[u8; 256])
     write_slot(s, u, last, empty, table);
 }
 
-// A slot becomes a key and a body.
-fn put_record(slot: &mut [u8], key: u32, body: &[u8])
-    requires { ⌜ (length (now slot) ≡ slotBytes) × (length (now body) ≡ bodyBytes) ⌝ }
-    ensures { λ _. ⌜ now (slot .exit) ≡ slotOf key (now (body .entry)) ⌝ }
+// A slot becomes a key and a field.
+fn put_record(slot: &mut [u8], key: u32, field: &[u8])
+    requires { ⌜ (length (now slot) ≡ slotBytes) × (length (now field) ≡ fieldBytes) ⌝ }
+    ensures { λ _. ⌜ now (slot .exit) ≡ slotOf key (now (field .entry)) ⌝ }
 {
     buffer::put32(&mut slot[0..group::KEY], key);
-    buffer::copy(&mut slot[group::KEY..group::SLOT], body);
+    buffer::copy(&mut slot[group::KEY..group::SLOT], field);
 }
 
-// The bytes of a slot with a key and a body.
-fn slot_of(key: u32, body: &[u8]) -> [u8; group::SLOT]
-    requires { ⌜ length (now body) ≡ bodyBytes ⌝ }
-    ensures { λ r. ⌜ r ≡ slotOf key (now (body .entry)) ⌝ }
+// The bytes of a slot with a key and a field.
+fn slot_of(key: u32, field: &[u8]) -> [u8; group::SLOT]
+    requires { ⌜ length (now field) ≡ fieldBytes ⌝ }
+    ensures { λ r. ⌜ r ≡ slotOf key (now (field .entry)) ⌝ }
 {
     let mut slot = [0u8; group::SLOT];
-    put_record(&mut slot, key, body);
+    put_record(&mut slot, key, field);
     slot
 }
 
-// Slot r of unit u becomes a key and a body, and each check unit in service of its group follows.
-fn write_record(s: &mut [u8], u: u8, r: u8, key: u32, body: &[u8])
-    requires { ⌜ SlotIn (now s) u r × (length (now body) ≡ bodyBytes) ⌝ }
-    ensures { λ _. ⌜ now (s .exit) ≡ bytes (written (view (now (s .entry))) u r (slotOf key (now (body .entry)))) ⌝ }
+// Slot r of unit u becomes a key and a field, and each check unit in service of its group follows.
+fn write_record(s: &mut [u8], u: u8, r: u8, key: u32, field: &[u8])
+    requires { ⌜ SlotIn (now s) u r × (length (now field) ≡ fieldBytes) ⌝ }
+    ensures { λ _. ⌜ now (s .exit) ≡ bytes (written (view (now (s .entry))) u r (slotOf key (now (field .entry)))) ⌝ }
 {
     let table = group::table();
-    write_slot(s, u, r, slot_of(key, body), &table);
+    write_slot(s, u, r, slot_of(key, field), &table);
 }
 
 // Where the bytes of unit w start: 0 to 15 data, 16 + 3g + j check. They end where those of the next one start.
@@ -161,7 +161,7 @@ fn refusal(number: u8) -> Home
     }
 }
 
-// The home of a key, for a call with a body that fits or not.
+// The home of a key, for a call with a field that fits or not.
 fn home_of(s: &[u8], key: u32, fits: bool) -> Home
     ensures { λ h. ⌜ Homed (now (s .entry)) key fits (h .number) (h .unit) (h .fill) (h .rank) ⌝ }
 {
@@ -217,10 +217,10 @@ fn out_number(s: &[u8], ok: bool, unit: u32) -> u8
 }
 
 // Teaches a new key.
-pub fn teach(s: &mut [u8], key: u32, body: &[u8]) -> u8
-    ensures { λ r. ⌜ outcome (plain r) (now (s .exit)) ≡ perform (now (s .entry)) (Call.teach key (now (body .entry))) ⌝ }
+pub fn teach(s: &mut [u8], key: u32, field: &[u8]) -> u8
+    ensures { λ r. ⌜ outcome (plain r) (now (s .exit)) ≡ perform (now (s .entry)) (Call.teach key (now (field .entry))) ⌝ }
 {
-    let home = home_of(s, key, body.len() == group::BODY);
+    let home = home_of(s, key, field.len() == group::FIELD);
     if home.number != 0 {
         return home.number;
     }
@@ -232,15 +232,15 @@ pub fn teach(s: &mut [u8], key: u32, body: &[u8]) -> u8
     if full {
         return 7;
     }
-    write_record(s, home.unit, home.fill, key, body);
+    write_record(s, home.unit, home.fill, key, field);
     0
 }
 
-// Gives a key a new body.
-pub fn correct(s: &mut [u8], key: u32, body: &[u8]) -> u8
-    ensures { λ r. ⌜ outcome (plain r) (now (s .exit)) ≡ perform (now (s .entry)) (Call.correct key (now (body .entry))) ⌝ }
+// Gives a key a new field.
+pub fn correct(s: &mut [u8], key: u32, field: &[u8]) -> u8
+    ensures { λ r. ⌜ outcome (plain r) (now (s .exit)) ≡ perform (now (s .entry)) (Call.correct key (now (field .entry))) ⌝ }
 {
-    let home = home_of(s, key, body.len() == group::BODY);
+    let home = home_of(s, key, field.len() == group::FIELD);
     if home.number != 0 {
         return home.number;
     }
@@ -248,7 +248,7 @@ pub fn correct(s: &mut [u8], key: u32, body: &[u8]) -> u8
     if missing {
         return 6;
     }
-    write_record(s, home.unit, home.rank, key, body);
+    write_record(s, home.unit, home.rank, key, field);
     0
 }
 

@@ -8,7 +8,7 @@ use Prim.Native.Nat.{ℕ, _+_, _*_}
 use Rattle.buffer.specs.Bytes.{byte, part}
 use Rattle.group.specs.Widths.{keyBytes}
 use Rattle.model.specs.Layout.{view, slotAt}
-use Rattle.encoding.proofs.Ranks.{slot-parts, rank-first, rank-slot, body-lent, parity-four}
+use Rattle.encoding.proofs.Ranks.{slot-parts, rank-first, rank-slot, field-lent, parity-four}
 use Rattle.encoding.proofs.fill_parities.Statement.{statement}
 use Rattle.encoding.proofs.fill_parities.Tie as tie
 
@@ -45,10 +45,10 @@ fill-requires c κs =
       e .pre .1,
       e .pre .2,
       e .pre .3,
-      body-lent s (d .before .before .before .slot-at .result) (omega (arith, rank-first (e .pre .0), d .before .before .before .slot-at .ensures .0)),
-      body-lent s (d .before .before .slot-at2 .result) (omega (arith, rank-slot (e .pre .0) 1 (omega arith), d .before .before .slot-at2 .ensures .0)),
-      body-lent s (d .before .slot-at3 .result) (omega (arith, rank-slot (e .pre .0) 2 (omega arith), d .before .slot-at3 .ensures .0)),
-      body-lent s (d .slot-at4 .result) (omega (arith, rank-slot (e .pre .0) 3 (omega arith), d .slot-at4 .ensures .0)),
+      field-lent s (d .before .before .before .slot-at .result) (omega (arith, rank-first (e .pre .0), d .before .before .before .slot-at .ensures .0)),
+      field-lent s (d .before .before .slot-at2 .result) (omega (arith, rank-slot (e .pre .0) 1 (omega arith), d .before .before .slot-at2 .ensures .0)),
+      field-lent s (d .before .slot-at3 .result) (omega (arith, rank-slot (e .pre .0) 2 (omega arith), d .before .slot-at3 .ensures .0)),
+      field-lent s (d .slot-at4 .result) (omega (arith, rank-slot (e .pre .0) 3 (omega arith), d .slot-at4 .ensures .0)),
       e .pre .4,
       e .pre .5,
     )

@@ -4,7 +4,7 @@ use Prim.Native.Nat.{_+_, _-_}
 use mathlib.Core.Path.{_≡_, refl, sym, ap, _∙_}
 use native.Mathlib.Omega.{arith}
 use Rattle.buffer.specs.Bytes.{byte, splice}
-use Rattle.group.specs.Widths.{keysBytes, bodyBytes, checkBytes}
+use Rattle.group.specs.Widths.{keysBytes, fieldBytes, checkBytes}
 use Rattle.encoding.proofs.Records.{record-room, record-put, serving-put, nothing-put}
 use Rattle.encoding.proofs.put_serving.Statement.{statement}
 use Rattle.encoding.proofs.put_serving.Tie as tie
@@ -30,7 +30,7 @@ returns c =
     let w = on .before .before in
     let e = w .before .before in
     let keys : at .check-at .result + 16 - at .check-at .result ≡ keysBytes = omega arith in
-    let rest : at .check-at .result + checkBytes - (at .check-at .result + 16) ≡ bodyBytes = omega arith in
+    let rest : at .check-at .result + checkBytes - (at .check-at .result + 16) ≡ fieldBytes = omega arith in
     serving-put (e .pre .0) (ap (λ x. byte (e .args .s .now) (24 + x)) (sym (w .wide .ensures .0)) ∙ on .if1 .taken)
     (rw (k2 .copy2 .ensures, k .copy .ensures, keys, rest)
     (record-put (e .pre .0) (e .args .t4) (e .args .t5) _ (at .check-at .result) (e .pre .1) refl (at .check-at .ensures .0)

@@ -7,10 +7,10 @@ use native.Mathlib.Omega.{arith}
 use lib.Bits.{bitXor}
 use lib.ListN.{drop}
 use Rattle.buffer.specs.Bytes.{splice}
-use Rattle.group.specs.Widths.{keyBytes, bodyBytes}
+use Rattle.group.specs.Widths.{keyBytes, fieldBytes}
 use Rattle.group.specs.ExchangeLaws.{exchanged, parity-exchanged}
 use Rattle.model.specs.Layout.{view}
-use Rattle.encoding.proofs.Ranks.{slot-body, exchanged-low, exchanged-before, parity-four}
+use Rattle.encoding.proofs.Ranks.{slot-field, exchanged-low, exchanged-before, parity-four}
 use Rattle.encoding.proofs.write_parity.Statement.{statement}
 use Rattle.encoding.proofs.write_parity.Tie as tie
 
@@ -51,12 +51,12 @@ returns c =
     let f : ℕ → List ℕ = λ p. drop keyBytes (view s .slot (4 * e .args .g + p) (e .args .r)) in
     let u : ℕ → ℕ = λ p. 4 * e .args .g + bitXor p j in
     k .write-first .ensures
-    ∙ ap (λ x. splice (e .args .to) bodyBytes x s) (
+    ∙ ap (λ x. splice (e .args .to) fieldBytes x s) (
     parity-four 0 (λ p. f (exchanged j p))
-    (slot-body s (u 0) (e .args .r) _ (d .before .before .before .slot-at .ensures .0))
-    (slot-body s (u 1) (e .args .r) _ (d .before .before .slot-at2 .ensures .0))
-    (slot-body s (u 2) (e .args .r) _ (d .before .slot-at3 .ensures .0))
-    (slot-body s (u 3) (e .args .r) _ (d .slot-at4 .ensures .0))
+    (slot-field s (u 0) (e .args .r) _ (d .before .before .before .slot-at .ensures .0))
+    (slot-field s (u 1) (e .args .r) _ (d .before .before .slot-at2 .ensures .0))
+    (slot-field s (u 2) (e .args .r) _ (d .before .slot-at3 .ensures .0))
+    (slot-field s (u 3) (e .args .r) _ (d .slot-at4 .ensures .0))
     ∙ sym (parity-exchanged j (e .pre .1) f))
 
 pub write-parity-spec : {M : Type 1} → statement M

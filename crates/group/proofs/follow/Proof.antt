@@ -4,7 +4,7 @@ use Prim.Native.Nat.{_+_, _*_, _-_}
 use native.Mathlib.Omega.{arith}
 use borrow.Author.Needs.{needs}
 use Rattle.buffer.specs.Bytes.{part, splice}
-use Rattle.group.specs.Widths.{bodyBytes}
+use Rattle.group.specs.Widths.{fieldBytes}
 use Rattle.group.specs.Body.{addBody, scaleBody}
 use Rattle.group.specs.FollowLaws.{patched-steps}
 use Rattle.group.proofs.follow.Statement.{statement}
@@ -23,7 +23,7 @@ returns c =
     let a = start .args in
     let at = 4 * widened .wide .result in
     patched-steps
-    bodyBytes
+    fieldBytes
     (a .check)
     (a .place)
     (start .pre .2)
@@ -34,14 +34,14 @@ returns c =
     (start .pre .0)
     at
     (at + 4 - at)
-    bodyBytes
+    fieldBytes
     (copied .copy .last .0)
     (scaled .add-scaled .last .0)
     (ap (λ p. 4 * p) (widened .wide .ensures .0))
     (omega arith)
     (omega arith)
     (copied .copy .ensures)
-    (scaled .add-scaled .ensures ∙ ap (λ k. addBody (part 16 bodyBytes (splice at (at + 4 - at) (copied .copy .last .0) (a .into .now))) (scaleBody k (a .t5)))
+    (scaled .add-scaled .ensures ∙ ap (λ k. addBody (part 16 fieldBytes (splice at (at + 4 - at) (copied .copy .last .0) (a .into .now))) (scaleBody k (a .t5)))
     (scaled .before .coefficient .ensures .0))
 
 pub follow-spec : {M : Type 1} → statement M

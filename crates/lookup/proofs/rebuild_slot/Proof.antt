@@ -12,9 +12,9 @@ use Rattle.buffer.specs.Strided.{strided32}
 use Rattle.group.specs.Widths.{checkBytes}
 use Rattle.lookup.specs.Keys.{Lists}
 use Rattle.lookup.specs.KeyLaws.{lists-key}
-use Rattle.lookup.specs.SlotLaws.{recipe-keys, out-key-long, body-rebuilt, slot-rebuilt, slot-none}
+use Rattle.lookup.specs.SlotLaws.{recipe-keys, out-key-long, field-rebuilt, slot-rebuilt, slot-none}
 use Rattle.buffer.specs.SpliceLaws.{part-lent}
-use Rattle.lookup.proofs.Lent.{body-room, two-parts}
+use Rattle.lookup.proofs.Lent.{field-room, two-parts}
 use Rattle.lookup.proofs.rebuild_slot.Statement.{statement}
 use Rattle.lookup.proofs.rebuild_slot.Tie as tie
 
@@ -55,8 +55,8 @@ copy-requires c κs =
     let fits = recipe-keys (p .1) (p .3) .within .fits (at .wide .result) (omega (arith, at .wide .ensures .0, p .2)) in
     simp (length-take, length-drop) (omega (arith, p .0, fits))
 
-rebuild-body-requires : tie.Need-rebuild-body-requires
-rebuild-body-requires c κs =
+rebuild-field-requires : tie.Need-rebuild-field-requires
+rebuild-field-requires c κs =
     let copied = c .before .before .before in
     let at = copied .before .before .before .before .before in
     let start = at .before .before .before in
@@ -68,7 +68,7 @@ rebuild-body-requires c κs =
     (ap (λ (n : ℕ). keys + checkBytes * n) (at .wide .ensures .0))
     ∙ recipe-keys (p .1) (p .3) .bytes r in
     let long : length (copied .copy .last .0) ≡ 4 = ap length (copied .copy .ensures ∙ key) ∙ out-key-long (p .1 .unit) r (p .2) (p .1 .out) in
-    let room = body-room (start .args .out .now) (copied .copy .last .0) (p .0) long in
+    let room = field-room (start .args .out .now) (copied .copy .last .0) (p .0) long in
     (room, p .1 .unit .sized, omega (arith, p .1 .unit .unit), p .2, p .1 .low, p .1 .small, p .4)
 
 returns : tie.Need-returns
@@ -100,12 +100,12 @@ returns-2 c =
     let some : (keyOf (listedKey (view (start .args .s .now)) (start .args .u) r) ≡ 0 → ⊥) =
     λ z. test .if1 .left (key-read lists r (at .wide .result) (at .wide .ensures .0) (read .load32 .ensures) ∙ z) in
     two-parts (start .args .out .now) (copied .copy .last .0) (p .0)
-    (ap length k ∙ out-key-long (p .1 .unit) r (p .2) (p .1 .out)) (built .rebuild-body .last .0)
-    ∙ ap (λ x. x ++ built .rebuild-body .last .0) k
-    ∙ slot-rebuilt (p .1) r (built .rebuild-body .last .0) some (built .rebuild-body .ensures ∙ body-rebuilt (p .1) r _ (λ i l. refl))
+    (ap length k ∙ out-key-long (p .1 .unit) r (p .2) (p .1 .out)) (built .rebuild-field .last .0)
+    ∙ ap (λ x. x ++ built .rebuild-field .last .0) k
+    ∙ slot-rebuilt (p .1) r (built .rebuild-field .last .0) some (built .rebuild-field .ensures ∙ field-rebuilt (p .1) r _ (λ i l. refl))
 
 pub rebuild-slot-spec : {M : Type 1} → statement M
 rebuild-slot-spec =
     tie.close (tie.spec (λ c κs. search needs) (λ c. search needs) add-at load32-requires (λ c κs. search needs) (λ c. search needs) (λ c. search needs)
     (λ c. search needs) add-copy (λ c. search needs) (λ c. search needs) part-copy-end-2 copy-requires (λ c. search needs) (λ c. search needs)
-    (λ c. search needs) rebuild-body-requires (λ c. search needs) returns (λ c. search needs) returns-2)
+    (λ c. search needs) rebuild-field-requires (λ c. search needs) returns (λ c. search needs) returns-2)

@@ -1,4 +1,4 @@
--- Stores that differ in the bodies of records and in parity bytes alone: what the calls make of them is alike again, and so is every sound store
+-- Stores that differ in the fields of records and in parity bytes alone: what the calls make of them is alike again, and so is every sound store
 -- to the picture of a valid ledger.
 pub mod Alike
 pub mod Sound

@@ -8,7 +8,7 @@ use mathlib.Core.Bool.{true, _&&_}
 use lib.Dec.{eqb, ltb, leb}
 use lib.ListN.{length, drop}
 use Rattle.buffer.specs.Choice.{pick}
-use Rattle.group.specs.Widths.{bodyBytes}
+use Rattle.group.specs.Widths.{fieldBytes}
 use Rattle.model.specs.Layout.{view, storeBytes, unitsIn}
 use Rattle.model.specs.Reads.{homeIn, stateIn, beyondIn}
 use Rattle.model.specs.Numbers.{Call, read, repair, numberIn}
@@ -41,7 +41,7 @@ module _ (s : List ℕ) (b : ℕ) (cs : List Call) where
   -- with a buffer that fits, a key from 1 up reads as last taught or corrected, or as not taught, where its unit is in service or its group has
   -- no more units out than it has check units; otherwise the read is refused as beyond recovery
   abbrev pub ReadsAsTaught : Type 0
-  ReadsAsTaught = (k : ℕ) → 1 ≤ k → (out : List ℕ) → length out ≡ bodyBytes
+  ReadsAsTaught = (k : ℕ) → 1 ≤ k → (out : List ℕ) → length out ≡ fieldBytes
       → perform left (read k out) .answer
       ≡ pick (eqb (view left .dstate (homeIn (view left) k)) 2 && beyondIn (view left) (homeIn (view left) k / 4)) (copied 8 out)
       (asTaught out (lastTaught k laid cs none))

@@ -9,18 +9,18 @@ use Rattle.buffer.specs.Choice.{pick}
 use Rattle.buffer.specs.Range.{first, count, sum}
 use Rattle.buffer.specs.Bytes.{zeros}
 use Rattle.buffer.specs.Table.{upd}
-use Rattle.group.specs.Widths.{bodyBytes}
+use Rattle.group.specs.Widths.{fieldBytes}
 use Rattle.model.specs.Units.{unitOf, splitPointer}
 use Rattle.model.specs.Numbers.{Call, teach, correct, erase, read, readInPlace, list, unitOut, repair, grow, shrink, raise}
 use Rattle.model.specs.Changes.{filterBy}
 
 pub record Rec : Type 0 where
   pub key : ℕ
-  pub body : List ℕ
+  pub field : List ℕ
 
 -- what a missing record counts as
 unfoldable pub empty : Rec
-empty = record { key = 0; body = zeros bodyBytes }
+empty = record { key = 0; field = zeros fieldBytes }
 
 pub record Ledger : Type 0 where
   pub size : ℕ  -- b, the ranks of a unit
@@ -103,9 +103,9 @@ shrunkLedger l m =
 -- the ledger after a granted call
 unfoldable pub granted : Ledger → Call → Ledger
 -- teach adds its record at the end of the list of the key's unit
-granted l (teach k x) = withRecords l (home l k) (l .records (home l k) ++ (record { key = k; body = x } ∷ []))
--- correct replaces the body
-granted l (correct k x) = withRecords l (home l k) (set (l .records (home l k)) (rankOf (l .records (home l k)) k) (record { key = k; body = x }))
+granted l (teach k x) = withRecords l (home l k) (l .records (home l k) ++ (record { key = k; field = x } ∷ []))
+-- correct replaces the field
+granted l (correct k x) = withRecords l (home l k) (set (l .records (home l k)) (rankOf (l .records (home l k)) k) (record { key = k; field = x }))
 -- erase moves the list's last record into the freed place
 granted l (erase k) =
     let rs : List Rec = l .records (home l k) in

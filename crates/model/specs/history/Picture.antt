@@ -10,19 +10,19 @@ use Rattle.group.specs.Parity.{parity}
 use Rattle.model.specs.Layout.{Store, store, bytes, frontOf}
 use Rattle.model.specs.history.Ledger.{Rec, Ledger, recordAt, state}
 
--- a record's bytes: key and body
+-- a record's bytes: key and field
 unfoldable pub recordBytes : Rec → List ℕ
-recordBytes x = bytes32 (x .key) ++ x .body
+recordBytes x = bytes32 (x .key) ++ x .field
 
 -- data units in service with their lists; all else zero
 unfoldable pub pictureSlot : Ledger → ℕ → ℕ → List ℕ
 pictureSlot l u r = pick (eqb (state l u) 1) (recordBytes (recordAt l u r)) (zeros slotBytes)
 
--- a check record over the records of a group's four places: the keys, and the bodies times the unit's column
+-- a check record over the records of a group's four places: the keys, and the fields times the unit's column
 unfoldable pub checkOver : ℕ → (ℕ → Rec) → List ℕ
-checkOver j f = tab 4 (λ p. bytes32 (f p .key)) ++ parity j (λ p. f p .body)
+checkOver j f = tab 4 (λ p. bytes32 (f p .key)) ++ parity j (λ p. f p .field)
 
--- check units in service with each rank's four keys and its bodies times the unit's column, a missing record as zeros; all else zero
+-- check units in service with each rank's four keys and its fields times the unit's column, a missing record as zeros; all else zero
 unfoldable pub pictureCheck : Ledger → ℕ → ℕ → List ℕ
 pictureCheck l c r = pick (eqb (state l (16 + c)) 1) (checkOver (c % 3) (λ p. recordAt l (4 * (c / 3) + p) r)) (zeros checkBytes)
 

@@ -55,7 +55,7 @@ raisesIn s (c ∷ cs) = pick (eqb (numberIn s c) 0) (raises c) 0 + raisesIn (per
 unfoldable pub unitIn : Store → ℕ → List ℕ
 unitIn v w = pick (ltb w 16) (tab (v .size) (v .slot w)) (tab (v .size) (v .check (w - 16)))
 
--- ---- what was taught of a key: its body, or none
+-- ---- what was taught of a key: its field, or none
 
 -- after a call that returned the number n
 unfoldable pub taughtBy : ℕ → Call → ℕ → Option (List ℕ) → Option (List ℕ)
@@ -67,7 +67,7 @@ unfoldable pub lastTaught : ℕ → List ℕ → List Call → Option (List ℕ)
 lastTaught k s [] t = t
 lastTaught k s (c ∷ cs) t = lastTaught k (perform s c .store) cs (taughtBy k c (numberIn s c) t)
 
--- what read, given a buffer that fits, owes of a key: its body, or 6 and the buffer as it was
+-- what read, given a buffer that fits, owes of a key: its field, or 6 and the buffer as it was
 unfoldable pub asTaught : List ℕ → Option (List ℕ) → Answer
 asTaught out none = copied 6 out
 asTaught out (some x) = copied 0 x

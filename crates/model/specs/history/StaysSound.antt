@@ -1,4 +1,4 @@
--- A sound store stays sound: whatever a call's arguments, and whatever the store's bodies and parity bytes, the store that the call leaves is sound
+-- A sound store stays sound: whatever a call's arguments, and whatever the store's fields and parity bytes, the store that the call leaves is sound
 -- again. It need not come from a history. What the types give (a key has 32 bits, a slice holds bytes) is the only side condition. Assumes nothing.
 use Prim.Native.Nat.{ℕ}
 use mathlib.Core.Path.{_≡_}

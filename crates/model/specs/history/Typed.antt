@@ -7,7 +7,7 @@ use Rattle.model.specs.Numbers.{Call, byKind}
 abbrev pub Bytes : List ℕ → Type 0
 Bytes x = (i : ℕ) → byte x i < 256
 
--- of a call: a key is below 2^32, and a body that is written holds bytes
+-- of a call: a key is below 2^32, and a field that is written holds bytes
 abbrev pub Typed : Call → Type 0
 Typed c =
     byKind c (λ k x. (k < 4294967296) × Bytes x) (λ k. k < 4294967296) (λ k out. k < 4294967296) (λ k. k < 4294967296)

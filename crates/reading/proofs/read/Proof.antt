@@ -3,7 +3,7 @@ use mathlib.Core.Path.{refl, sym, _∙_}
 use native.Mathlib.Omega.{arith}
 use borrow.Author.Needs.{needs}
 use Rattle.reading.specs.Rows.{read-rows}
-use Rattle.reading.proofs.Answers.{read-refused, read-granted, body-is}
+use Rattle.reading.proofs.Answers.{read-refused, read-granted, field-is}
 use Rattle.reading.proofs.read.Statement.{statement}
 use Rattle.reading.proofs.read.Tie as tie
 
@@ -19,8 +19,8 @@ returns c =
     read-refused s (start .args .key) out (look .look-up .result .number)
     (look .look-up .ensures .given ∙ read-rows s _ _ _ out (look .before .survey-of .ensures .tested) refl) (c .if1 .taken)
 
-copy-body-requires : tie.Need-copy-body-requires
-copy-body-requires c κs =
+copy-field-requires : tie.Need-copy-field-requires
+copy-field-requires c κs =
     let test = c .before in
     let verdict = test .before .before .look-up .ensures in
     let placed = verdict .placed (test .if1 .left) in
@@ -36,10 +36,10 @@ returns-2 c =
     let out = start .args .out .now in
     let key = start .args .key in
     let placed = look .look-up .ensures .placed (test .if1 .left) in
-    let body = body-is s key (look .look-up .result .unit) (look .look-up .result .rank) _ (placed .home) (placed .found) (copied .copy-body .ensures) in
+    let field = field-is s key (look .look-up .result .unit) (look .look-up .result .rank) _ (placed .home) (placed .found) (copied .copy-field .ensures) in
     read-granted s key out _ (sym (test .if1 .left) ∙ look .look-up .ensures .given ∙ read-rows s _ _ _ out (look .before .survey-of .ensures .tested) refl)
-    body (omega arith)
+    field (omega arith)
 
 pub read-spec : {M : Type 1} → statement M
 read-spec =
-    tie.close (tie.spec (λ c κs. search needs) look-up-requires returns copy-body-requires (λ c. search needs) returns-2)
+    tie.close (tie.spec (λ c κs. search needs) look-up-requires returns copy-field-requires (λ c. search needs) returns-2)

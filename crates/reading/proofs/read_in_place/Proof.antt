@@ -5,13 +5,13 @@ use native.Mathlib.Omega.{arith}
 use borrow.Author.Needs.{needs}
 use Rattle.buffer.specs.Bytes.{byte, zeros}
 use Rattle.buffer.specs.ByteLaws.{length-zeros}
-use Rattle.group.specs.Widths.{bodyBytes}
+use Rattle.group.specs.Widths.{fieldBytes}
 use Rattle.model.specs.Numbers.{Call, numberIn}
 use Rattle.lookup.specs.SizedLaws.{slot-fits}
 use Rattle.lookup.specs.States.{state-byte}
 use Rattle.reading.specs.Found.{Placed}
 use Rattle.reading.specs.Rows.{read-rows}
-use Rattle.reading.proofs.Answers.{nowhere, out-unit, stands, lent-nothing, lent-body}
+use Rattle.reading.proofs.Answers.{nowhere, out-unit, stands, lent-nothing, lent-field}
 use Rattle.reading.proofs.read_in_place.Statement.{statement}
 use Rattle.reading.proofs.read_in_place.Tie as tie
 
@@ -19,8 +19,8 @@ use Rattle.reading.proofs.read_in_place.Tie as tie
 abbrev start : tie.After-look-up → tie.Start
 start c = c .before .before .before
 
-number : (c : tie.After-look-up) → c .look-up .result .number ≡ numberIn (start c .args .s .now) (Call.read (start c .args .key) (zeros bodyBytes))
-number c = c .look-up .ensures .given ∙ read-rows _ _ _ _ (zeros bodyBytes) (c .before .survey-of .ensures .tested) (sym (length-zeros bodyBytes))
+number : (c : tie.After-look-up) → c .look-up .result .number ≡ numberIn (start c .args .s .now) (Call.read (start c .args .key) (zeros fieldBytes))
+number c = c .look-up .ensures .given ∙ read-rows _ _ _ _ (zeros fieldBytes) (c .before .survey-of .ensures .tested) (sym (length-zeros fieldBytes))
 
 abbrev look : tie.Else1 → tie.After-look-up
 look c = c .before .before
@@ -58,7 +58,7 @@ returns-3 c =
     let serves : (byte (s .now) (8 + look test .look-up .result .unit) ≡ 2 → ⊥) =
     λ h. out .if2 .left (out .before .state .ensures ∙ sym (state-byte _ _) ∙ h) in
     let there = stands _ _ _ _ (sym (test .if1 .left) ∙ number (look test)) (here .home) (here .found) serves in
-    lent-body _ _ (s .ptr .0) (s .ptr .1) _ _ there (at .slot-at .ensures .0)
+    lent-field _ _ (s .ptr .0) (s .ptr .1) _ _ there (at .slot-at .ensures .0)
 
 pub read-in-place-spec : {M : Type 1} → statement M
 read-in-place-spec =

@@ -8,16 +8,16 @@ use Rattle.buffer.specs.ChoiceLaws.{pick-true, pick-false}
 use Rattle.buffer.specs.Bytes.{zeros}
 use Rattle.model.specs.Numbers.{Call}
 use Rattle.model.specs.Perform.{copied, Outcome, outcome, perform}
-use Rattle.lines.specs.Output.{numberLine, bodyLine}
+use Rattle.lines.specs.Output.{numberLine, fieldLine}
 use Rattle.answering.specs.Said.{printed}
 use Rattle.answering.proofs.calls.answer_read.Statement.{statement}
 use Rattle.answering.proofs.calls.answer_read.Tie as tie
 
--- what is printed of a call that copies a body
+-- what is printed of a call that copies a field
 module _ {s y : List ℕ} {n : ℕ} (c : Call) (e : outcome (copied n y) s ≡ perform s c) where
-  body-printed : n ≡ 0 → bodyLine y ≡ printed (perform s c .answer) []
+  field-printed : n ≡ 0 → fieldLine y ≡ printed (perform s c .answer) []
   unfolding printed
-  body-printed z = sym (pick-true (eq-eqb n 0 z) _ _) ∙ ap (λ (o : Outcome). printed (o .answer) []) e
+  field-printed z = sym (pick-true (eq-eqb n 0 z) _ _) ∙ ap (λ (o : Outcome). printed (o .answer) []) e
 
   refusal-printed : (n ≡ 0 → ⊥) → numberLine n ≡ printed (perform s c .answer) []
   unfolding printed
@@ -28,7 +28,7 @@ unfolding zeros
 returns c =
     let put = c .before .before in
     let test = put .before .before .before in
-    rw (← body-printed _ (test .before .before .read .ensures) (test .if1 .taken)) (put .put-body .ensures)
+    rw (← field-printed _ (test .before .before .read .ensures) (test .if1 .taken)) (put .put-field .ensures)
 
 returns-2 : tie.Need-returns-2
 unfolding zeros

@@ -12,13 +12,13 @@ use Rattle.answering.proofs.calls.number_of.Statement.{statement}
 use Rattle.answering.proofs.calls.number_of.Tie as tie
 
 -- the line has the letter k
-abbrev start : tie.After-body → tie.Start
+abbrev start : tie.After-field → tie.Start
 start c = c .before .before
 
-asked : (c : tie.After-body) {k : ℕ} {o : Outcome} → start c .args .x .letter ≡ k
-    → o ≡ executed (start c .args .store .now) (commandOf (line k (start c .args .x .number) (start c .args .x .body)))
-    → o ≡ executed (start c .args .store .now) (commandOf (line (start c .args .x .letter) (start c .args .x .number) (start c .args .x .body)))
-asked c e q = q ∙ ap (λ i. executed (start c .args .store .now) (commandOf (line i (start c .args .x .number) (start c .args .x .body)))) (sym e)
+asked : (c : tie.After-field) {k : ℕ} {o : Outcome} → start c .args .x .letter ≡ k
+    → o ≡ executed (start c .args .store .now) (commandOf (line k (start c .args .x .number) (start c .args .x .field)))
+    → o ≡ executed (start c .args .store .now) (commandOf (line (start c .args .x .letter) (start c .args .x .number) (start c .args .x .field)))
+asked c e q = q ∙ ap (λ i. executed (start c .args .store .now) (commandOf (line i (start c .args .x .number) (start c .args .x .field)))) (sym e)
 
 returns : tie.Need-returns
 unfolding executed commandOf pick

@@ -4,7 +4,7 @@ use Prim.Native.Nat.{_-_}
 use native.Mathlib.Omega.{arith}
 use Rattle.buffer.specs.Bytes.{byte}
 use Rattle.buffer.specs.LoopWrites.{Filling, filling-start, filling-turn}
-use Rattle.group.specs.Widths.{bodyBytes}
+use Rattle.group.specs.Widths.{fieldBytes}
 use Rattle.group.specs.Parity.{parity}
 use Rattle.group.specs.Four.{fourBodies}
 use Rattle.group.proofs.ParitySums.{parity-place, parity-filled}
@@ -17,7 +17,7 @@ Inv-loop x₀ y₀ z₀ a b c d eights sevens i₀ x y z i =
     × Filling (byte (parity 2 (fourBodies a b c d))) z₀ z i
 
 abbrev μ-loop : tie.MeasureT-loop
-μ-loop x₀ y₀ z₀ a b c d eights sevens i₀ x y z i = bodyBytes - i
+μ-loop x₀ y₀ z₀ a b c d eights sevens i₀ x y z i = fieldBytes - i
 
 loop-holds : tie.Need-loop-holds Inv-loop μ-loop
 loop-holds c = (filling-start, filling-start, filling-start)

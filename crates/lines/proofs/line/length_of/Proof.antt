@@ -15,13 +15,13 @@ returns-2 : tie.Need-returns-2
 unfolding lengthOf pick
 returns-2 c =
     let d = c .before .before .before in
-    simp (← d .digits-of .ensures .0, ne-eqb _ _ (c .before .before .if1 .left), ← c .before .has-body .ensures, c .if2 .taken)
+    simp (← d .digits-of .ensures .0, ne-eqb _ _ (c .before .before .if1 .left), ← c .before .has-field .ensures, c .if2 .taken)
 
 returns-3 : tie.Need-returns-3
 unfolding lengthOf pick
 returns-3 c =
     let d = c .before .before .before in
-    simp (← d .digits-of .ensures .0, ne-eqb _ _ (c .before .before .if1 .left), ← c .before .has-body .ensures, c .if2 .left) (omega arith)
+    simp (← d .digits-of .ensures .0, ne-eqb _ _ (c .before .before .if1 .left), ← c .before .has-field .ensures, c .if2 .left) (omega arith)
 
 pub length-of-spec : {M : Type 1} → statement M
 length-of-spec =

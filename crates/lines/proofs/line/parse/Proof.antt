@@ -9,15 +9,15 @@ use Rattle.lines.proofs.Parsing.{
   misfit,
   bare,
   room,
-  body-length,
+  field-length,
   no-space,
   no-number,
   numbered,
   no-second-space,
-  no-body,
-  embodied,
-  body-ok,
-  body-not-ok,
+  no-field,
+  with-field,
+  field-ok,
+  field-not-ok,
 }
 use Rattle.lines.proofs.Reading.{ok, not-ok}
 use Rattle.lines.proofs.line.parse.Statement.{statement}
@@ -48,7 +48,7 @@ returns-2 c =
 returns-3 : tie.Need-returns-3
 returns-3 c =
     let i = c .before in
-    c .bodiless .ensures ∙ bare _ _ _ (i .before .before .before .before .before .byte-at .ensures) (i .before .before .before .before .digits-of .ensures .0)
+    c .without-field .ensures ∙ bare _ _ _ (i .before .before .before .before .before .byte-at .ensures) (i .before .before .before .before .digits-of .ensures .0)
     (i .if3 .taken) (i .before .if2 .left ∙ i .before .before .length-of .ensures)
 
 shared-slice-read-if4 : tie.Need-shared-slice-read-if4
@@ -69,51 +69,51 @@ returns-6 : tie.Need-returns-6
 returns-6 c =
     let i = c .before in
     let n = i .before .before .before .before in
-    c .bodiless2 .ensures ∙ numbered (argued (n .before .before .before)) (n .before .if4 .left) (ok (n .number .ensures) (i .before .before .if5 .left))
-    (is-no (i .before .has-body .ensures) (i .if6 .taken))
+    c .without-field2 .ensures ∙ numbered (argued (n .before .before .before)) (n .before .if4 .left) (ok (n .number .ensures) (i .before .before .if5 .left))
+    (is-no (i .before .has-field .ensures) (i .if6 .taken))
 
 shared-slice-read-if7 : tie.Need-shared-slice-read-if7
 shared-slice-read-if7 c =
     omega (
       arith,
-      body-length (argued (c .before .before .before .before .before .before .before .before))
-          (is-yes (c .before .before .has-body .ensures) (c .before .if6 .left)),
+      field-length (argued (c .before .before .before .before .before .before .before .before))
+          (is-yes (c .before .before .has-field .ensures) (c .before .if6 .left)),
     )
 
 returns-7 : tie.Need-returns-7
 returns-7 c =
     let b = c .before .before .before .before in
     c .unread5 .ensures ∙ sym (no-second-space (argued (b .before .before .before .before .before .before))
-    (is-yes (b .has-body .ensures) (c .before .before .before .if6 .left)) (c .before .if7 .taken))
+    (is-yes (b .has-field .ensures) (c .before .before .before .if6 .left)) (c .before .if7 .taken))
 
-read-body-requires : tie.Need-read-body-requires
-read-body-requires c κs =
+read-field-requires : tie.Need-read-field-requires
+read-field-requires c κs =
     let b = c .before .before .before in
-    omega (arith, body-length (argued (b .before .before .before .before .before .before)) (is-yes (b .has-body .ensures) (c .before .before .if6 .left)))
+    omega (arith, field-length (argued (b .before .before .before .before .before .before)) (is-yes (b .has-field .ensures) (c .before .before .if6 .left)))
 
 returns-8 : tie.Need-returns-8
 returns-8 c =
     let b = c .before .before .before .before .before .before .before in
     c .unread6 .ensures
-    ∙ sym (no-body (argued (b .before .before .before .before .before .before))
-    (is-yes (b .has-body .ensures) (c .before .before .before .before .before .before .if6 .left))
-    (body-not-ok (c .before .before .before .read-body .ensures) (c .before .if8 .taken)))
+    ∙ sym (no-field (argued (b .before .before .before .before .before .before))
+    (is-yes (b .has-field .ensures) (c .before .before .before .before .before .before .if6 .left))
+    (field-not-ok (c .before .before .before .read-field .ensures) (c .before .if8 .taken)))
 
 returns-9 : tie.Need-returns-9
 returns-9 c =
     let b = c .before .before .before .before .before .before .before in
     let n = b .before .before .before in
-    embodied
+    with-field
     (argued (b .before .before .before .before .before .before))
-    (is-yes (b .has-body .ensures) (c .before .before .before .before .before .before .if6 .left))
+    (is-yes (b .has-field .ensures) (c .before .before .before .before .before .before .if6 .left))
     (n .before .if4 .left)
     (ok (n .number .ensures) (b .before .if5 .left))
     (c .before .before .before .before .if7 .left)
-    (body-ok (c .before .before .before .read-body .ensures) (c .before .if8 .left))
+    (field-ok (c .before .before .before .read-field .ensures) (c .before .if8 .left))
 
 pub parse-spec : {M : Type 1} → statement M
 parse-spec =
     tie.close (tie.spec (λ c κs. search needs) (λ c κs. search needs) (λ c κs. search needs) returns (λ c κs. search needs) (λ c κs. search needs) returns-2
     (λ c κs. search needs) returns-3 shared-slice-read-if4 (λ c κs. search needs) returns-4 number-requires (λ c κs. search needs) returns-5
-    (λ c κs. search needs) (λ c κs. search needs) returns-6 shared-slice-read-if7 (λ c κs. search needs) returns-7 read-body-requires (λ c κs. search needs)
+    (λ c κs. search needs) (λ c κs. search needs) returns-6 shared-slice-read-if7 (λ c κs. search needs) returns-7 read-field-requires (λ c κs. search needs)
     returns-8 returns-9)

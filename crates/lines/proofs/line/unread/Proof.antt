@@ -6,7 +6,7 @@ use Rattle.lines.proofs.line.unread.Tie as tie
 
 returns : tie.Need-returns
 unfolding unreadable
-returns c = c .bodiless .ensures
+returns c = c .without-field .ensures
 
 pub unread-spec : {M : Type 1} → statement M
 unread-spec = tie.close (tie.spec (λ c. search needs) returns)

@@ -18,7 +18,7 @@ use Rattle.buffer.specs.ByteLaws.{bytes32-be32, be32-zeros}
 use Rattle.buffer.specs.SpliceLaws.{length-part, part-whole}
 use Rattle.buffer.specs.Table.{tab}
 use Rattle.buffer.specs.TableLaws.{tab-ext, tab-parts}
-use Rattle.group.specs.Widths.{keyBytes, bodyBytes, keysBytes, slotBytes, checkBytes}
+use Rattle.group.specs.Widths.{keyBytes, fieldBytes, keysBytes, slotBytes, checkBytes}
 use Rattle.group.specs.Parity.{parity}
 use Rattle.group.specs.CheckRecordLaws.{length-key}
 use Rattle.model.specs.Layout.{Store, view, storeBytes, slotAt, checkAt, unitsIn, levelIn, keyOf, frontOf}
@@ -65,7 +65,7 @@ spelled-key x e b = bytes32-be32 x 0 (omega arith) b ∙ part-whole keyBytes x (
 -- the keys of a check record
 keys-over : (j : ℕ) (f : ℕ → Rec) → take keysBytes (checkOver j f) ≡ tab 4 (λ p. bytes32 (f p .key))
 unfolding checkOver
-keys-over j f = take-at (tab 4 (λ p. bytes32 (f p .key))) (parity j (λ p. f p .body)) keysBytes (length-keys f)
+keys-over j f = take-at (tab 4 (λ p. bytes32 (f p .key))) (parity j (λ p. f p .field)) keysBytes (length-keys f)
 
 keys-apart : (x : List ℕ) → length x ≡ checkBytes → tab 4 (λ p. part (keyBytes * p) keyBytes x) ≡ take keysBytes x
 keys-apart x e =
@@ -159,7 +159,7 @@ module _ (s : List ℕ) (b : Bytes s) (h : sound s ≡ true) where
         ∙ take-record (recordAt l u r)
         ∙ ap bytes32 (ap (λ (x : Rec). x .key) (record-listed u r read (omega (arith, own-fill v u not-out, ltb-true r (fillIn v u) e)))
         ∙ ap keyOf (own-bytes v u not-out r))
-        ∙ spelled-key (take keyBytes (v .slot u r)) (length-key bodyBytes (v .slot u r) (stored .slot u r hu m))
+        ∙ spelled-key (take keyBytes (v .slot u r)) (length-key fieldBytes (v .slot u r) (stored .slot u r hu m))
         (unfold part in bytes-part 0 keyBytes (v .slot u r) (slot-bytes u r))
 
     record-like : (r : ℕ) → r < v .size → ltb r (fillIn v u) ≡ true → LikeSlot (pictureSlot l u r) (v .slot u r)

@@ -1,4 +1,4 @@
--- The ledger that a sound store shows by its header, its states and its keys, with empty bodies: it is valid. Assumes that the store holds bytes.
+-- The ledger that a sound store shows by its header, its states and its keys, with empty fields: it is valid. Assumes that the store holds bytes.
 use Prim.Native.Nat.{ℕ, _+_, _*_, _-_, _/_, _%_, _≤_, _<_}
 use mathlib.Core.Path.{_≡_, refl, ap, _∙_}
 use mathlib.Core.Logic.{_≢_}
@@ -16,7 +16,7 @@ use Rattle.buffer.specs.Loops.{entries}
 use Rattle.buffer.specs.RangeLaws.{length-entries, getD-entries}
 use Rattle.buffer.specs.Bytes.{byte, zeros, part}
 use Rattle.buffer.specs.ByteLaws.{byte-past, byte-part, be32-lt}
-use Rattle.group.specs.Widths.{keyBytes, bodyBytes, slotBytes, checkBytes}
+use Rattle.group.specs.Widths.{keyBytes, fieldBytes, slotBytes, checkBytes}
 use Rattle.group.specs.BodyLaws.{zeros-is}
 use Rattle.model.specs.Units.{unitOf}
 use Rattle.model.specs.Layout.{Store, view, slotAt, checkAt, unitsIn, levelIn, keyOf}
@@ -32,7 +32,7 @@ use Rattle.model.proofs.history.ledger.States.{placed-unit, placed-chec
 
 -- a record of a key alone
 abbrev pub keyRecord : ℕ → Rec
-keyRecord k = record { key = k; body = zeros bodyBytes }
+keyRecord k = record { key = k; field = zeros fieldBytes }
 
 -- the records of a unit by its listed keys
 unfoldable pub listedRecords : Store → ℕ → List Rec
@@ -179,7 +179,7 @@ module _ (s : List ℕ) (b : Bytes s) (h : sound s ≡ true) where
   key-at u r a = ap (λ (x : Rec). x .key) (listed-record v u r (at-listed u r a))
 
   good-listed : (u r : ℕ) → Good (getD (listedRecords v u) r empty)
-  good-listed u r = rw (listed-at v u r) (record { key = small; body = zeros-is bodyBytes })
+  good-listed u r = rw (listed-at v u r) (record { key = small; field = zeros-is fieldBytes })
     where
       keys : List ℕ
       keys = entries (listedFill v u) (λ q. keyOf (listedKey v u q))
@@ -193,7 +193,7 @@ module _ (s : List ℕ) (b : Bytes s) (h : sound s ≡ true) where
 
   good-none : (r : ℕ) → Good (getD [] r empty)
   unfolding empty
-  good-none r = record { key = omega arith; body = zeros-is bodyBytes }
+  good-none r = record { key = omega arith; field = zeros-is fieldBytes }
 
   -- THE LEDGER IS VALID
   pub ledger-valid : Valid (ledgerOf (view s))

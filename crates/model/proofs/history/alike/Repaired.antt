@@ -1,4 +1,4 @@
--- A repair leads from alike stores to alike stores: keys are those that a check unit lists, whatever bodies are rebuilt. Assumes nothing.
+-- A repair leads from alike stores to alike stores: keys are those that a check unit lists, whatever fields are rebuilt. Assumes nothing.
 use Prim.Native.Nat.{ℕ, _+_, _*_, _-_, _/_, _%_, _≤_, _<_}
 use mathlib.Core.Path.{_≡_, sym, ap, _∙_}
 use mathlib.Core.List.{List, _++_}
@@ -14,7 +14,7 @@ use Rattle.buffer.specs.Bytes.{zeros, part}
 use Rattle.buffer.specs.ByteLaws.{be32-left}
 use Rattle.buffer.specs.SpliceLaws.{length-part}
 use Rattle.buffer.specs.TableLaws.{tab-ext}
-use Rattle.group.specs.Widths.{keyBytes, bodyBytes, keysBytes, slotBytes}
+use Rattle.group.specs.Widths.{keyBytes, fieldBytes, keysBytes, slotBytes}
 use Rattle.group.specs.Members.{firstFour}
 use Rattle.group.specs.MembersLaws.{Members, first-four}
 use Rattle.group.specs.Rebuilding.{rebuilt}
@@ -33,29 +33,29 @@ use Rattle.model.proofs.history.alike.Alike.{first-check-low, listed-al
 pub anew-like : (j : ℕ) (f g : ℕ → List ℕ) → ((p : ℕ) → p < 4 → LikeSlot (f p) (g p)) → LikeCheck (checkRecord j f) (checkRecord j g)
 anew-like j f g h = record {
   keys =
-      checkRecord-keys bodyBytes j f (λ p l. h p l .left)
+      checkRecord-keys fieldBytes j f (λ p l. h p l .left)
       ∙ tab-ext 4 (λ p. take keyBytes (f p)) (λ p. take keyBytes (g p)) (λ p l. h p l .key)
-      ∙ sym (checkRecord-keys bodyBytes j g (λ p l. h p l .right));
-  left = length-checkRecord bodyBytes j f (λ p l. h p l .left);
-  right = length-checkRecord bodyBytes j g (λ p l. h p l .right);
+      ∙ sym (checkRecord-keys fieldBytes j g (λ p l. h p l .right));
+  left = length-checkRecord fieldBytes j f (λ p l. h p l .left);
+  right = length-checkRecord fieldBytes j g (λ p l. h p l .right);
 }
 
 -- ---- the group g of one store, which is not beyond recovery
 
 module _ (v : Store) (h : Shaped v) (g : ℕ) (hg : g < 4) (low : (j : ℕ) → j < 3 → v .cstate (3 * g + j) ≤ 2) (nb : beyondIn v g ≡ false) where
   module _ (r : ℕ) (hr : r < v .size) where
-    length-held : (m : ℕ) → m < 7 → length (holds v g r m) ≡ bodyBytes
+    length-held : (m : ℕ) → m < 7 → length (holds v g r m) ≡ fieldBytes
     unfolding holds
     length-held m l =
-        by-pick (λ (x : List ℕ). length x ≡ bodyBytes) (ltb m 4) (drop keyBytes (v .slot (4 * g + m) r)) (drop keysBytes (v .check (3 * g + (m - 4)) r))
-        (λ e. length-body bodyBytes (v .slot (4 * g + m) r) (h .slot (4 * g + m) r (omega (arith, ltb-true m 4 e)) hr))
+        by-pick (λ (x : List ℕ). length x ≡ fieldBytes) (ltb m 4) (drop keyBytes (v .slot (4 * g + m) r)) (drop keysBytes (v .check (3 * g + (m - 4)) r))
+        (λ e. length-body fieldBytes (v .slot (4 * g + m) r) (h .slot (4 * g + m) r (omega (arith, ltb-true m 4 e)) hr))
         (λ e. simp length-drop (omega (arith, h .check (3 * g + (m - 4)) r (omega (arith, ltb-false m 4 e)) hr)))
 
-    length-rebuilt : (p : ℕ) → length (rebuilt (servesIn v g) (holds v g r) p) ≡ bodyBytes
+    length-rebuilt : (p : ℕ) → length (rebuilt (servesIn v g) (holds v g r) p) ≡ fieldBytes
     unfolding rebuilt
     length-rebuilt p =
         let four : Members (servesIn v g) (firstFour (servesIn v g)) = first-four (servesIn v g) (four-serve v g low nb) in
-        length-weighed bodyBytes _ (λ i. holds v g r (getD (firstFour (servesIn v g)) i 0))
+        length-weighed fieldBytes _ (λ i. holds v g r (getD (firstFour (servesIn v g)) i 0))
         (λ i l. length-held (getD (firstFour (servesIn v g)) i 0) (four .low i l))
 
 -- the listed key of a unit out of that group
@@ -66,7 +66,7 @@ length-listed v h u r l m e =
     ∙ length-part (keyBytes * (u % 4)) keyBytes (v .check (firstCheck v (u / 4)) r) (omega (arith, h .check (firstCheck v (u / 4)) r l m))
 
 -- slots with one key that is not 0
-joined-like : (k l x y : List ℕ) → k ≡ l → length k ≡ keyBytes → length l ≡ keyBytes → length x ≡ bodyBytes → length y ≡ bodyBytes → eqb (keyOf k) 0 ≡ false
+joined-like : (k l x y : List ℕ) → k ≡ l → length k ≡ keyBytes → length l ≡ keyBytes → length x ≡ fieldBytes → length y ≡ fieldBytes → eqb (keyOf k) 0 ≡ false
     → LikeSlot (k ++ x) (l ++ y)
 unfolding keyOf
 joined-like k l x y e a b c d n = record {

@@ -14,7 +14,7 @@ use Rattle.buffer.specs.TestLaws.{and-false-second}
 use Rattle.buffer.specs.Bytes.{zeros, splice}
 use Rattle.buffer.specs.SpliceLaws.{length-splice}
 use Rattle.buffer.specs.Table.{upd}
-use Rattle.group.specs.Widths.{keyBytes, bodyBytes, keysBytes, slotBytes, checkBytes}
+use Rattle.group.specs.Widths.{keyBytes, fieldBytes, keysBytes, slotBytes, checkBytes}
 use Rattle.group.specs.Body.{addBody}
 use Rattle.group.specs.Parity.{adjusted}
 use Rattle.group.specs.CheckRecord.{patched}
@@ -40,8 +40,8 @@ module _ (j p : ℕ) (p4 : p < 4) where
       → LikeCheck (patched j p (take keyBytes x) (addBody (drop keyBytes s) (drop keyBytes x)) old)
       (patched j p (take keyBytes y) (addBody (drop keyBytes t) (drop keyBytes y)) new)
   patched-like x y h s t i old new k =
-      let kx : length (take keyBytes x) ≡ keyBytes = length-key bodyBytes x (h .left) in
-      let ky : length (take keyBytes y) ≡ keyBytes = length-key bodyBytes y (h .right) in
+      let kx : length (take keyBytes x) ≡ keyBytes = length-key fieldBytes x (h .left) in
+      let ky : length (take keyBytes y) ≡ keyBytes = length-key fieldBytes y (h .right) in
       record {
         keys =
             patched-keys j p (take keyBytes x) (addBody (drop keyBytes s) (drop keyBytes x)) old p4 kx (k .left)

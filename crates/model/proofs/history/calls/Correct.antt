@@ -1,4 +1,4 @@
--- Correct: another body for a record of the key's unit. Assumes nothing.
+-- Correct: another field for a record of the key's unit. Assumes nothing.
 use Prim.Native.Nat.{ℕ, _/_, _<_}
 use mathlib.Core.Path.{_≡_, refl}
 use mathlib.Core.Logic.{_≢_}
@@ -34,7 +34,7 @@ module _ (l : Ledger) (rest : List ℕ) (h : Valid l) (k : ℕ) (x : List ℕ) (
   n = rankOf rs k
 
   abbrev y : Rec
-  y = record { key = k; body = x }
+  y = record { key = k; field = x }
 
   other : (q : ℕ) → (q ≡ n → ⊥) → getD (set rs n y) q empty ≡ getD rs q empty
   other q e = getD-set-other rs n q y empty e

@@ -11,7 +11,7 @@ use lib.ListN.{length, getD}
 use borrow.Author.Tests.{eqb-true, eqb-false, ne-eqb, not-false}
 use Rattle.buffer.specs.ChoiceLaws.{by-test, by-pick, pick-false}
 use Rattle.buffer.specs.Table.{upd}
-use Rattle.group.specs.Widths.{bodyBytes}
+use Rattle.group.specs.Widths.{fieldBytes}
 use Rattle.model.specs.Units.{unitOf}
 use Rattle.model.specs.Layout.{Store, view, bytes, slotOf}
 use Rattle.model.specs.LayoutLaws.{bytes-ext}
@@ -34,8 +34,8 @@ by-rank P {r} {n} {x} {y} {z} a b p q = by-test (λ (t : Bool). P z) (eqb r n)
     (λ e. subst P (sym (b (eqb-false r n e))) (q (eqb-false r n e)))
 
 -- the record of a call's arguments
-pub good-args : (k : ℕ) (x : List ℕ) → k < 4294967296 → Bytes x → not (eqb (length x) bodyBytes) ≡ false → Good (record { key = k; body = x })
-good-args k x a b e = record { key = a; body = record { size = eqb-true (length x) bodyBytes (not-false (eqb (length x) bodyBytes) e); bytes = b } }
+pub good-args : (k : ℕ) (x : List ℕ) → k < 4294967296 → Bytes x → not (eqb (length x) fieldBytes) ≡ false → Good (record { key = k; field = x })
+good-args k x a b e = record { key = a; field = record { size = eqb-true (length x) fieldBytes (not-false (eqb (length x) fieldBytes) e); bytes = b } }
 
 -- the ledger in which the records of unit u are rs
 pub valid-with : (l : Ledger) (u : ℕ) (rs : List Rec) → Valid l → u < l .units → length rs ≤ l .size → ((r : ℕ) → Good (getD rs r empty))
@@ -87,7 +87,7 @@ module _ (l : Ledger) (rest : List ℕ) (h : Valid l) where
     -- one record written, at a rank of the key's unit
     pub write-home : (r : ℕ) (x : Rec) (rs : List Rec) → r < l .size → Good x
         → ((q : ℕ) → q ≡ r → getD rs q empty ≡ x) → ((q : ℕ) → (q ≡ r → ⊥) → getD rs q empty ≡ getD (l .records (home l k)) q empty)
-        → bytes (written v (home l k) r (slotOf (x .key) (x .body))) ≡ picture (withRecords l (home l k) rs) rest
+        → bytes (written v (home l k) r (slotOf (x .key) (x .field))) ≡ picture (withRecords l (home l k) rs) rest
     unfolding recordAt slotOf recordBytes
     write-home r x rs a g p q =
         bytes-ext (written v (home l k) r (recordBytes x)) (image (withRecords l (home l k) rs) rest)

@@ -1,4 +1,4 @@
--- Read: the body of a key, rebuilt where its unit is out. Assumes nothing.
+-- Read: the field of a key, rebuilt where its unit is out. Assumes nothing.
 use Prim.Native.Nat.{ℕ, _/_, _<_}
 use mathlib.Core.Path.{_≡_, refl, ap₂}
 use mathlib.Core.List.{List}
@@ -8,14 +8,14 @@ use lib.Dec.{eqb}
 use lib.ListN.{length}
 use borrow.Author.Tests.{leb-false}
 use Rattle.model.specs.Layout.{view}
-use Rattle.model.specs.Reads.{homeIn, beyondIn, bodyIn}
+use Rattle.model.specs.Reads.{homeIn, beyondIn, fieldIn}
 use Rattle.model.specs.Numbers.{read, refusalsIn}
 use Rattle.model.specs.RowLaws.{row}
 use Rattle.model.specs.Perform.{reply, givenIn, grantedIn}
 use Rattle.model.specs.history.Ledger.{Ledger, home, recordAt, rankOf, isOut, beyondOf, granted}
 use Rattle.model.specs.history.Picture.{picture}
 use Rattle.model.specs.history.Table.{refusals, number}
-use Rattle.model.specs.history.Answers.{bodyOf, given}
+use Rattle.model.specs.history.Answers.{fieldOf, given}
 use Rattle.model.proofs.history.ledger.Valid.{Valid}
 use Rattle.model.proofs.history.ledger.Granted.{granted-free}
 use Rattle.model.proofs.history.picture.Records.{drop-record}
@@ -39,10 +39,10 @@ module _ (l : Ledger) (rest : List ℕ) (h : Valid l) where
       (ap₂ (λ (a b : Bool). a && b) (dstate-out l rest h (home l k) (home-low l rest h k))
       (beyond-seen l rest h (home l k / 4) (omega (arith, home-low l rest h k))))
 
-  body-read : (k : ℕ) → Readable l (home l k) → rankOf (l .records (home l k)) k < length (l .records (home l k))
-      → bodyIn (view (picture l rest)) k ≡ bodyOf l k
-  unfolding bodyIn bodyOf
-  body-read k ok a =
+  field-read : (k : ℕ) → Readable l (home l k) → rankOf (l .records (home l k)) k < length (l .records (home l k))
+      → fieldIn (view (picture l rest)) k ≡ fieldOf l k
+  unfolding fieldIn fieldOf
+  field-read k ok a =
       let u : ℕ = home l k in
       let low : u < 16 = home-low l rest h k in
       let r : ℕ = rankOf (l .records u) k in
@@ -58,7 +58,7 @@ module _ (l : Ledger) (rest : List ℕ) (h : Valid l) where
         let low : u < 16 = home-low l rest h k in
         let keys = known l rest h u low e in
         row (rw (home-seen l rest h k, rank-known l rest h u low keys k, fill-known l rest h u low keys)) (λ _. tt)))));
-    hands = λ f. body-read k (f .1 .1 .1 .0) (leb-false _ _ (f .1 .1 .1 .1 .0));
+    hands = λ f. field-read k (f .1 .1 .1 .0) (leb-false _ _ (f .1 .1 .1 .1 .0));
     counts = λ f n y. refl;
     bytes = λ f. refl;
     valid = λ f. h;

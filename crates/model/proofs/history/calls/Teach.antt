@@ -43,7 +43,7 @@ module _ (l : Ledger) (rest : List ℕ) (h : Valid l) (k : ℕ) (x : List ℕ) (
   rs = l .records (home l k)
 
   abbrev y : Rec
-  y = record { key = k; body = x }
+  y = record { key = k; field = x }
 
   -- ---- the call is granted
 

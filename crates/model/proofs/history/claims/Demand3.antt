@@ -22,7 +22,7 @@ use Rattle.model.specs.history.Answers.{final}
 use Rattle.model.specs.history.Runs.{answersIn, finalIn, aloneIn, allGranted, lastTaught, asTaught}
 use Rattle.model.specs.history.Typed.{AllTyped}
 use Rattle.model.specs.history.Claims.{Histories, Unlost, ReadsAsTaught, BeyondRecovery, Outlives}
-use Rattle.group.specs.Widths.{bodyBytes}
+use Rattle.group.specs.Widths.{fieldBytes}
 use Rattle.model.proofs.history.ledger.Valid.{Valid}
 use Rattle.model.proofs.history.taught.Recorded.{recorded}
 use Rattle.model.proofs.history.taught.Taught.{lastTaughtBy, recorded-final, recorded-opened, read-tells}
@@ -42,12 +42,12 @@ module _ (l : Ledger) (rest : List ℕ) (h : Valid l) where
   v = view (picture l rest)
 
   -- a read tells what the ledger holds for the key
-  tells : (k : ℕ) → 1 ≤ k → (out : List ℕ) → length out ≡ bodyBytes
+  tells : (k : ℕ) → 1 ≤ k → (out : List ℕ) → length out ≡ fieldBytes
       → perform (picture l rest) (read k out) .answer
       ≡ pick (eqb (v .dstate (homeIn v k)) 2 && beyondIn v (homeIn v k / 4)) (copied 8 out) (asTaught out (recorded l k))
   tells k a out fits =
       answer-agrees l rest (read k out) (read-simulated l rest h k out)
-      ∙ read-tells l (ordered-of l h) k (omega arith) out fits (λ r. h .good (home l k) r .body .size)
+      ∙ read-tells l (ordered-of l h) k (omega arith) out fits (λ r. h .good (home l k) r .field .size)
       ∙ ap (λ (t : Bool). pick t (copied 8 out) (asTaught out (recorded l k))) (sym (lost-row l rest h k))
 
   -- a repair is refused as beyond recovery exactly where it is

@@ -12,7 +12,7 @@ use Rattle.buffer.specs.ChoiceLaws.{by-pick}
 use Rattle.buffer.specs.TestLaws.{and-second}
 use Rattle.buffer.specs.Bytes.{bytes32}
 use Rattle.buffer.specs.ByteLaws.{length-bytes32}
-use Rattle.group.specs.Widths.{bodyBytes, slotBytes}
+use Rattle.group.specs.Widths.{fieldBytes, slotBytes}
 use Rattle.model.specs.Layout.{Store, view, slotOf, unitsIn, levelIn, bytes}
 use Rattle.model.specs.LayoutLaws.{bytes-view}
 use Rattle.model.specs.Reads.{homeIn, fillIn, rankIn}
@@ -47,9 +47,9 @@ use Rattle.model.proofs.history.alike.LedgerAlike.{ledger-alike}
 use Rattle.model.proofs.history.claims.History.{simulated}
 
 -- the slot of a call's arguments
-length-args : (k : ℕ) (x : List ℕ) → not (eqb (length x) bodyBytes) ≡ false → length (slotOf k x) ≡ slotBytes
+length-args : (k : ℕ) (x : List ℕ) → not (eqb (length x) fieldBytes) ≡ false → length (slotOf k x) ≡ slotBytes
 unfolding slotOf
-length-args k x e = length-append (bytes32 k) x ∙ omega (arith, length-bytes32 k, eqb-true (length x) bodyBytes (not-false (eqb (length x) bodyBytes) e))
+length-args k x e = length-append (bytes32 k) x ∙ omega (arith, length-bytes32 k, eqb-true (length x) fieldBytes (not-false (eqb (length x) fieldBytes) e))
 
 -- ---- a sound store whose parts are alike to those of a valid ledger's picture
 
@@ -87,7 +87,7 @@ module _ (l : Ledger) (rest : List ℕ) (h : Valid l) (s : List ℕ) (ok : sound
   -- ---- teach, correct, erase
 
   -- a slot of the call's arguments written at a rank of the key's unit
-  written-sound : (k : ℕ) (x : List ℕ) (r : ℕ) → r < v .size → not (eqb (length x) bodyBytes) ≡ false
+  written-sound : (k : ℕ) (x : List ℕ) (r : ℕ) → r < v .size → not (eqb (length x) fieldBytes) ≡ false
       → sound (bytes (written v (homeIn v k) r (slotOf k x))) ≡ true → sound (bytes (written w (homeIn v k) r (slotOf k x))) ≡ true
   written-sound k x r room fits =
       sound-alike (written v (homeIn v k) r (slotOf k x)) (written w (homeIn v k) r (slotOf k x))

@@ -14,7 +14,7 @@ use Rattle.buffer.specs.ChoiceLaws.{by-test}
 use Rattle.model.specs.history.Ledger.{Rec, empty}
 use Rattle.model.proofs.history.ledger.Seek.{seek, Different, Without, seek-miss, seek-hit, by-seek}
 
--- a key that two lists both have with one body, or both have not
+-- a key that two lists both have with one field, or both have not
 same-seek : (xs ys : List Rec) (k : ℕ) → Different xs → Different ys
     → ((r : ℕ) → r < length xs → getD xs r empty .key ≡ k → (q : ℕ) × (q < length ys) × (getD ys q empty ≡ getD xs r empty))
     → (Without xs k → Without ys k) → seek ys k ≡ seek xs k
@@ -22,7 +22,7 @@ same-seek xs ys k d e there gone =
     by-seek xs k (seek ys k ≡ seek xs k)
     (λ r a f.
     let w = there r a f in
-    seek-hit ys k (w .0) e (w .1) (ap (λ (z : Rec). z .key) (w .2) ∙ f) ∙ ap (λ (z : Rec). some (z .body)) (w .2) ∙ sym (seek-hit xs k r d a f))
+    seek-hit ys k (w .0) e (w .1) (ap (λ (z : Rec). z .key) (w .2) ∙ f) ∙ ap (λ (z : Rec). some (z .field)) (w .2) ∙ sym (seek-hit xs k r d a f))
     (λ a. seek-miss ys k (gone a) ∙ sym (seek-miss xs k a))
 
 -- ---- one record replaced by one with the same key
@@ -46,9 +46,9 @@ module _ (rs : List Rec) (d : Different rs) (n : ℕ) (y : Rec) (inside : n < le
   pub set-differ : Different (set rs n y)
   set-differ r q a b = rw (same-key r, same-key q) (d r q a (omega (arith, length-set rs n y)))
 
-  pub set-seek : seek (set rs n y) (y .key) ≡ some (y .body)
+  pub set-seek : seek (set rs n y) (y .key) ≡ some (y .field)
   set-seek =
-      seek-hit (set rs n y) (y .key) n set-differ (omega (arith, length-set rs n y)) (ap (λ (z : Rec). z .key) here) ∙ ap (λ (z : Rec). some (z .body)) here
+      seek-hit (set rs n y) (y .key) n set-differ (omega (arith, length-set rs n y)) (ap (λ (z : Rec). z .key) here) ∙ ap (λ (z : Rec). some (z .field)) here
 
   pub set-other : (k : ℕ) → y .key ≢ k → seek (set rs n y) k ≡ seek rs k
   set-other k miss =

@@ -1,4 +1,4 @@
--- A key in a list of records: the body of the first record with that key, or none. Assumes nothing.
+-- A key in a list of records: the field of the first record with that key, or none. Assumes nothing.
 use Prim.Native.Nat.{ℕ, zero, suc, _≤_, _<_}
 use mathlib.Core.Path.{_≡_, refl, sym, ap, _∙_}
 use mathlib.Core.Logic.{_≢_}
@@ -19,7 +19,7 @@ use Rattle.model.proofs.history.ledger.Dealt.{Differ}
 
 unfoldable pub seek : List Rec → ℕ → Option (List ℕ)
 seek [] k = none
-seek (x ∷ xs) k = pick (eqb (x .key) k) (some (x .body)) (seek xs k)
+seek (x ∷ xs) k = pick (eqb (x .key) k) (some (x .field)) (seek xs k)
 
 -- no two records have one key
 abbrev pub Different : List Rec → Type 0
@@ -48,8 +48,8 @@ pub seek-append : (xs ys : List Rec) (k : ℕ) → seek (xs ++ ys) k ≡ orElse 
 unfolding seek orElse
 seek-append [] ys k = refl
 seek-append (x ∷ xs) ys k =
-    ap (pick (eqb (x .key) k) (some (x .body))) (seek-append xs ys k)
-    ∙ sym (pick-map (λ (t : Option (List ℕ)). orElse t (seek ys k)) (eqb (x .key) k) (some (x .body)) (seek xs k))
+    ap (pick (eqb (x .key) k) (some (x .field))) (seek-append xs ys k)
+    ∙ sym (pick-map (λ (t : Option (List ℕ)). orElse t (seek ys k)) (eqb (x .key) k) (some (x .field)) (seek xs k))
 
 -- ---- the records for whose key a test holds
 
@@ -62,7 +62,7 @@ seek-filter p (x ∷ xs) k = go (p (x .key)) (eqb (x .key) k) refl refl (seek-fi
     ks = filterBy (λ (x : Rec). p (x .key)) xs
 
     go : (a b : Bool) → p (x .key) ≡ a → eqb (x .key) k ≡ b → seek ks k ≡ pick (p k) (seek xs k) none
-        → seek (pick a (x ∷ ks) ks) k ≡ pick (p k) (pick b (some (x .body)) (seek xs k)) none
+        → seek (pick a (x ∷ ks) ks) k ≡ pick (p k) (pick b (some (x .field)) (seek xs k)) none
     go true true e f ih = rw (sym (ap p (eqb-true (x .key) k f)) ∙ e, f)
     go true false e f ih = rw f ih
     go false true e f ih =
@@ -76,14 +76,14 @@ pub seek-miss : (xs : List Rec) (k : ℕ) → Without xs k → seek xs k ≡ non
 unfolding seek
 seek-miss [] k h = refl
 seek-miss (x ∷ xs) k h =
-    pick-false (ne-eqb (x .key) k (h zero (zero-lt-suc (length xs)))) (some (x .body)) (seek xs k) ∙ seek-miss xs k (λ r a. h (suc r) (omega arith))
+    pick-false (ne-eqb (x .key) k (h zero (zero-lt-suc (length xs)))) (some (x .field)) (seek xs k) ∙ seek-miss xs k (λ r a. h (suc r) (omega arith))
 
-pub seek-hit : (xs : List Rec) (k r : ℕ) → Different xs → r < length xs → getD xs r empty .key ≡ k → seek xs k ≡ some (getD xs r empty .body)
+pub seek-hit : (xs : List Rec) (k r : ℕ) → Different xs → r < length xs → getD xs r empty .key ≡ k → seek xs k ≡ some (getD xs r empty .field)
 unfolding seek
 seek-hit [] k r d a e = absurd (not-suc-le-zero a)
-seek-hit (x ∷ xs) k zero d a e = pick-true (eq-eqb (x .key) k e) (some (x .body)) (seek xs k)
+seek-hit (x ∷ xs) k zero d a e = pick-true (eq-eqb (x .key) k e) (some (x .field)) (seek xs k)
 seek-hit (x ∷ xs) k (suc r) d a e =
-    pick-false (ne-eqb (x .key) k (λ q. d zero (suc r) (zero-lt-suc r) a (q ∙ sym e))) (some (x .body)) (seek xs k)
+    pick-false (ne-eqb (x .key) k (λ q. d zero (suc r) (zero-lt-suc r) a (q ∙ sym e))) (some (x .field)) (seek xs k)
     ∙ seek-hit xs k r (λ i j b c. d (suc i) (suc j) (omega arith) (omega arith)) (omega arith) e
 
 -- ---- the rank of a key says whether it stands in a list
@@ -107,12 +107,12 @@ module _ (xs : List Rec) (k : ℕ) where
       (λ e. miss (rank-without (ltb-false (rankOf xs k) (length xs) e)))
 
   -- what the table's row "not present" asks
-  pub seek-rank : Different xs → seek xs k ≡ pick (leb (length xs) (rankOf xs k)) none (some (getD xs (rankOf xs k) empty .body))
+  pub seek-rank : Different xs → seek xs k ≡ pick (leb (length xs) (rankOf xs k)) none (some (getD xs (rankOf xs k) empty .field))
   seek-rank d =
       by-pick
       (λ t. seek xs k ≡ t)
       (leb (length xs) (rankOf xs k))
       none
-      (some (getD xs (rankOf xs k) empty .body))
+      (some (getD xs (rankOf xs k) empty .field))
       (λ e. seek-miss xs k (rank-without (leb-true (length xs) (rankOf xs k) e)))
       (λ e. let a : rankOf xs k < length xs = leb-false (length xs) (rankOf xs k) e in seek-hit xs k (rankOf xs k) d a (rank-key a))

@@ -7,7 +7,7 @@ use mathlib.Core.List.{[]}
 use mathlib.Core.Bool.{Bool, false}
 use native.Mathlib.Omega.{arith}
 use lib.ListN.{length}
-use Rattle.group.specs.Widths.{bodyBytes}
+use Rattle.group.specs.Widths.{fieldBytes}
 use Rattle.group.specs.Body.{IsBody}
 use Rattle.group.specs.BodyLaws.{zeros-is}
 use Rattle.model.specs.Units.{unitOf}
@@ -16,11 +16,11 @@ use Rattle.model.specs.history.Ledger.{Rec, empty, Ledger, ledger, recor
 -- a record that bytes can hold
 pub record Good (x : Rec) : Type 0 where
   pub key : x .key < 4294967296
-  pub body : IsBody bodyBytes (x .body)
+  pub field : IsBody fieldBytes (x .field)
 
 pub empty-good : Good empty
 unfolding empty
-empty-good = record { key = omega arith; body = zeros-is bodyBytes }
+empty-good = record { key = omega arith; field = zeros-is fieldBytes }
 
 -- what the bytes need of a ledger's records
 abbrev pub Goods : Ledger → Type 0

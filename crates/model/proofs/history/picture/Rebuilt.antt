@@ -12,7 +12,7 @@ use Rattle.buffer.specs.Choice.{pick}
 use Rattle.buffer.specs.ChoiceLaws.{by-test, by-pick, pick-true, pick-false}
 use Rattle.buffer.specs.TestLaws.{not-both}
 use Rattle.buffer.specs.Bytes.{bytes32, zeros}
-use Rattle.group.specs.Widths.{keyBytes, bodyBytes, slotBytes, keysBytes}
+use Rattle.group.specs.Widths.{keyBytes, fieldBytes, slotBytes, keysBytes}
 use Rattle.group.specs.MembersLaws.{serves-data, serves-check}
 use Rattle.group.specs.Parity.{parity}
 use Rattle.group.specs.Rebuilding.{rebuilt}
@@ -75,19 +75,19 @@ module _ (l : Ledger) (rest : List ℕ) (h : Valid l) where
         check-serves v g low near (u % 4) (omega arith) (rw d at (dstate-out l rest h u (omega arith) ∙ e))
 
     module _ (r : ℕ) (hr : r < l .size) where
-      bodies : ℕ → List ℕ
-      bodies p = recordAt l (4 * g + p) r .body
+      fields : ℕ → List ℕ
+      fields p = recordAt l (4 * g + p) r .field
 
-      holds-data : (p : ℕ) → p < 4 → servesIn v g p ≡ true → holds v g r p ≡ bodies p
-      unfolding holds bodies image
+      holds-data : (p : ℕ) → p < 4 → servesIn v g p ≡ true → holds v g r p ≡ fields p
+      unfolding holds fields image
       holds-data p a e =
           pick-true (lt-ltb p 4 a) _ _
           ∙ ap (drop keyBytes) (s .slot (4 * g + p) r (omega arith) hr
           ∙ slot-kept l h (4 * g + p) r (omega arith) (not-true (isOut l (4 * g + p)) (sym (serving-data p a) ∙ e)))
           ∙ drop-record (recordAt l (4 * g + p) r)
 
-      holds-check : (j : ℕ) → j < 3 → servesIn v g (4 + j) ≡ true → holds v g r (4 + j) ≡ parity j bodies
-      unfolding holds bodies
+      holds-check : (j : ℕ) → j < 3 → servesIn v g (4 + j) ≡ true → holds v g r (4 + j) ≡ parity j fields
+      unfolding holds fields
       holds-check j a e =
           let d : 3 * g + (4 + j - 4) ≡ 3 * g + j = omega arith in
           pick-false (le-ltb (4 + j) 4 (omega arith)) _ _
@@ -95,10 +95,10 @@ module _ (l : Ledger) (rest : List ℕ) (h : Valid l) where
           ∙ ap (drop keysBytes) (check-kept l rest h g hg r hr j a (sym (serving-check j a) ∙ e))
           ∙ parity-over j (λ p. recordAt l (4 * g + p) r)
 
-      body-rebuilt : (p : ℕ) → p < 4 → rebuilt (servesIn v g) (holds v g r) p ≡ recordAt l (4 * g + p) r .body
-      unfolding bodies
-      body-rebuilt p a =
-          rebuilds bodyBytes (servesIn v g) (holds v g r) bodies (λ q i. h .good (4 * g + q) r .body) holds-data holds-check (four-serve v g low near) p a
+      field-rebuilt : (p : ℕ) → p < 4 → rebuilt (servesIn v g) (holds v g r) p ≡ recordAt l (4 * g + p) r .field
+      unfolding fields
+      field-rebuilt p a =
+          rebuilds fieldBytes (servesIn v g) (holds v g r) fields (λ q i. h .good (4 * g + q) r .field) holds-data holds-check (four-serve v g low near) p a
 
   -- ---- a unit that can be read
 
@@ -120,7 +120,7 @@ module _ (l : Ledger) (rest : List ℕ) (h : Valid l) where
         let g : ℕ = u / 4 in
         let d : 4 * g + u % 4 ≡ u = omega arith in
         ap (λ (x : List ℕ). bytes32 (recordAt l u r .key) ++ x)
-        (body-rebuilt g (omega arith) (not-first (isOut l u) (beyondOf l (u / 4)) ok e) r hr (u % 4) (omega arith) ∙ ap (λ (n : ℕ). recordAt l n r .body) d)))
+        (field-rebuilt g (omega arith) (not-first (isOut l u) (beyondOf l (u / 4)) ok e) r hr (u % 4) (omega arith) ∙ ap (λ (n : ℕ). recordAt l n r .field) d)))
 
     pub whole-slot : (r : ℕ) → r < l .size → wholeSlot v u r ≡ recordBytes (recordAt l u r)
     unfolding wholeSlot image

@@ -84,7 +84,7 @@ module _ (l : Ledger) (h : Ordered l) (k : ℕ) where
       (λ d. seek-append (rs j) (y ∷ []) k ∙ rw (one-miss d) (or-none (seek (rs j) k)))
     where
       y : Rec
-      y = record { key = j; body = x }
+      y = record { key = j; field = x }
 
       fresh : Without (rs j) j
       fresh = rank-without (rs j) j (ltb-false (n j) (length (rs j)) (f .1 .1 .1 .1 .0))
@@ -102,7 +102,7 @@ module _ (l : Ledger) (h : Ordered l) (k : ℕ) where
   recorded-correct : (j : ℕ) (x : List ℕ) → Free (refusals l (correct j x)) → recorded (granted l (correct j x)) k ≡ taughtBy k (correct j x) 0 (recorded l k)
   unfolding granted taughtBy refusals
   recorded-correct j x f =
-      let y : Rec = record { key = j; body = x } in
+      let y : Rec = record { key = j; field = x } in
       let inside : n j < length (rs j) = leb-false _ _ (f .1 .1 .1 .1 .0) in
       let hit : getD (rs j) (n j) empty .key ≡ j = rank-key (rs j) j inside in
       put-list l k j (set (rs j) (n j) y) (some x)

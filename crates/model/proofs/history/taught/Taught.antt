@@ -11,12 +11,12 @@ use lib.ListN.{length, drop, getD}
 use lib.Seq.{drop-length}
 use borrow.Author.Tests.{eq-eqb, ne-eqb}
 use Rattle.buffer.specs.Choice.{pick}
-use Rattle.group.specs.Widths.{bodyBytes}
+use Rattle.group.specs.Widths.{fieldBytes}
 use Rattle.model.specs.Numbers.{Call, read, firstOf}
 use Rattle.model.specs.Perform.{copied, reply, output}
 use Rattle.model.specs.history.Ledger.{Rec, empty, Ledger, opened, home, recordAt, rankOf, isOut, beyondOf}
 use Rattle.model.specs.history.Table.{refusals, number}
-use Rattle.model.specs.history.Answers.{bodyOf, given, answer, after, final}
+use Rattle.model.specs.history.Answers.{fieldOf, given, answer, after, final}
 use Rattle.model.specs.history.Runs.{taughtBy, asTaught}
 use Rattle.model.proofs.history.ledger.Seek.{seek, seek-rank}
 use Rattle.model.proofs.history.taught.Recorded.{Ordered, recorded, different, recorded-after}
@@ -44,25 +44,25 @@ recorded-opened b k = refl
 -- ---- what read answers, given a buffer that fits
 
 module _ (l : Ledger) (h : Ordered l) (k : ℕ) where
-  pub read-tells : k ≢ 0 → (out : List ℕ) → length out ≡ bodyBytes → ((r : ℕ) → length (recordAt l (home l k) r .body) ≡ bodyBytes)
+  pub read-tells : k ≢ 0 → (out : List ℕ) → length out ≡ fieldBytes → ((r : ℕ) → length (recordAt l (home l k) r .field) ≡ fieldBytes)
       → answer l (read k out) ≡ pick (isOut l (home l k) && beyondOf l (home l k / 4)) (copied 8 out) (asTaught out (recorded l k))
-  unfolding answer number reply output refusals firstOf given bodyOf recorded recordAt asTaught pick
+  unfolding answer number reply output refusals firstOf given fieldOf recorded recordAt asTaught pick
   read-tells z out fits sized =
-      rw (ne-eqb k 0 z, eq-eqb (length out) bodyBytes fits, seek-rank rs k (different l h (home l k)))
+      rw (ne-eqb k 0 z, eq-eqb (length out) fieldBytes fits, seek-rank rs k (different l h (home l k)))
       (go (isOut l (home l k) && beyondOf l (home l k / 4)) (leb (length rs) (rankOf rs k)))
     where
       rs : List Rec
       rs = l .records (home l k)
 
-      body : List ℕ
-      body = getD rs (rankOf rs k) empty .body
+      field : List ℕ
+      field = getD rs (rankOf rs k) empty .field
 
-      -- the body fills the buffer
-      filled : body ++ drop (length body) out ≡ body
-      filled = ap (λ (n : ℕ). body ++ drop n out) (sized (rankOf rs k) ∙ sym fits) ∙ ap (λ (x : List ℕ). body ++ x) (drop-length out) ∙ append-nil body
+      -- the field fills the buffer
+      filled : field ++ drop (length field) out ≡ field
+      filled = ap (λ (n : ℕ). field ++ drop n out) (sized (rankOf rs k) ∙ sym fits) ∙ ap (λ (x : List ℕ). field ++ x) (drop-length out) ∙ append-nil field
 
-      go : (x y : Bool) → copied (pick x 8 (pick y 6 0)) (pick (eqb (pick x 8 (pick y 6 0)) 0) (body ++ drop (length body) out) out)
-          ≡ pick x (copied 8 out) (asTaught out (pick y none (some body)))
+      go : (x y : Bool) → copied (pick x 8 (pick y 6 0)) (pick (eqb (pick x 8 (pick y 6 0)) 0) (field ++ drop (length field) out) out)
+          ≡ pick x (copied 8 out) (asTaught out (pick y none (some field)))
       go true y = refl
       go false true = refl
       go false false = ap (copied 0) filled

@@ -1,4 +1,4 @@
--- `reading::copy_body` meets its contract. Assumes nothing.
+-- `reading::copy_field` meets its contract. Assumes nothing.
 use mathlib.Core.Path.{sym, ap, _∙_}
 use Prim.Native.Nat.{_+_}
 use native.Mathlib.Omega.{arith}
@@ -7,10 +7,10 @@ use Rattle.buffer.specs.Bytes.{byte}
 use Rattle.model.specs.Layout.{slotAt}
 use Rattle.lookup.specs.SizedLaws.{slot-fits}
 use Rattle.lookup.specs.States.{state-byte}
-use Rattle.lookup.specs.SlotLaws.{body-own, body-out}
+use Rattle.lookup.specs.SlotLaws.{field-own, field-out}
 use Rattle.buffer.specs.SpliceLaws.{part-lent}
-use Rattle.reading.proofs.copy_body.Statement.{statement}
-use Rattle.reading.proofs.copy_body.Tie as tie
+use Rattle.reading.proofs.copy_field.Statement.{statement}
+use Rattle.reading.proofs.copy_field.Tie as tie
 
 weights-requires : tie.Need-weights-requires
 weights-requires c κs =
@@ -20,8 +20,8 @@ weights-requires c κs =
     let out = state-byte (start .args .s .now) (start .args .u) ∙ sym (test .before .state .ensures) ∙ test .if1 .taken in
     (start .pre .0, out, members .members .ensures, members .before .table .ensures)
 
-rebuild-body-requires : tie.Need-rebuild-body-requires
-rebuild-body-requires c κs =
+rebuild-field-requires : tie.Need-rebuild-field-requires
+rebuild-field-requires c κs =
     let weights = c .before .before in
     let table = weights .before .before .before in
     let start = table .before .before .before .before .before in
@@ -39,7 +39,7 @@ returns c =
     let built = c .before .before in
     let weights = built .before .before .before in
     let start = weights .before .before .before .before .before .before .before .before in
-    body-out (weights .weights .ensures) (start .args .r) _ (start .pre .1) (start .pre .2) (built .rebuild-body .ensures)
+    field-out (weights .weights .ensures) (start .args .r) _ (start .pre .1) (start .pre .2) (built .rebuild-field .ensures)
 
 returns-2 : tie.Need-returns-2
 returns-2 c =
@@ -52,10 +52,10 @@ returns-2 c =
     let r = start .args .r in
     copied .copy .ensures
     ∙ part-lent s (at .slot-at .result + 4) 16 (slotAt (byte s 5) u r + 4) (ap (λ i. i + 4) (at .slot-at .ensures .0))
-    ∙ body-own s u r (λ h. test .if1 .left (test .before .state .ensures ∙ sym (state-byte s u) ∙ h))
+    ∙ field-own s u r (λ h. test .if1 .left (test .before .state .ensures ∙ sym (state-byte s u) ∙ h))
 
-pub copy-body-spec : {M : Type 1} → statement M
-copy-body-spec =
-    tie.close (tie.spec (λ c κs. search needs) (λ c κs. search needs) (λ c κs. search needs) weights-requires rebuild-body-requires (λ c. search needs)
+pub copy-field-spec : {M : Type 1} → statement M
+copy-field-spec =
+    tie.close (tie.spec (λ c κs. search needs) (λ c κs. search needs) (λ c κs. search needs) weights-requires rebuild-field-requires (λ c. search needs)
     (λ c κs. search needs) (λ c. search needs) (λ c. search needs) (λ c. search needs) (λ c. search needs) part-copy-end (λ c κs. search needs)
     (λ c. search needs) returns (λ c. search needs) returns-2)

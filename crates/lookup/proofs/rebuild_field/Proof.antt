@@ -1,4 +1,4 @@
--- `lookup::rebuild_body` meets its contract. Assumes nothing.
+-- `lookup::rebuild_field` meets its contract. Assumes nothing.
 use mathlib.Core.Path.{_≡_, sym, ap, _∙_}
 use Prim.Native.Nat.{ℕ, _<_}
 use native.Mathlib.Omega.{arith}
@@ -7,8 +7,8 @@ use borrow.Author.Needs.{needs}
 use Rattle.model.specs.Layout.{view}
 use Rattle.model.specs.Reads.{holds}
 use Rattle.lookup.specs.SlotLaws.{length-holds, weighed-held}
-use Rattle.lookup.proofs.rebuild_body.Statement.{statement}
-use Rattle.lookup.proofs.rebuild_body.Tie as tie
+use Rattle.lookup.proofs.rebuild_field.Statement.{statement}
+use Rattle.lookup.proofs.rebuild_field.Tie as tie
 
 held-requires : tie.Need-held-requires
 held-requires c κs = let p = c .before .before .pre in (p .1, p .2, p .3, p .4 0 (omega arith))
@@ -52,7 +52,7 @@ returns c =
     ∙ weighed-held _ _ _ _ _ (λ i. holds (view (start .args .s .now)) (start .args .g) (start .args .r) (getD (start .args .t5) i 0)) (a .held .ensures .0)
     (b .held2 .ensures .0) (e .held3 .ensures .0) (d .held4 .ensures .0)
 
-pub rebuild-body-spec : {M : Type 1} → statement M
-rebuild-body-spec =
+pub rebuild-field-spec : {M : Type 1} → statement M
+rebuild-field-spec =
     tie.close (tie.spec (λ c. search needs) held-requires (λ c. search needs) held-requires-2 (λ c. search needs) held-requires-3 (λ c. search needs)
     held-requires-4 rebuild-body-requires (λ c. search needs) returns)

@@ -1,10 +1,10 @@
--- `output::put_body` meets its contract. Assumes nothing.
+-- `output::put_field` meets its contract. Assumes nothing.
 use native.Mathlib.Omega.{arith}
 use lib.ListN.{set, length-set}
 use borrow.Author.Needs.{needs}
-use Rattle.lines.proofs.Writing.{put-none, put-byte, body-line}
-use Rattle.lines.proofs.output.put_body.Statement.{statement}
-use Rattle.lines.proofs.output.put_body.Tie as tie
+use Rattle.lines.proofs.Writing.{put-none, put-byte, field-line}
+use Rattle.lines.proofs.output.put_field.Statement.{statement}
+use Rattle.lines.proofs.output.put_field.Tie as tie
 
 put-argument-requires : tie.Need-put-argument-requires
 put-argument-requires c κs = simp length-set (omega arith)
@@ -17,9 +17,9 @@ same-length c =
 returns : tie.Need-returns
 returns c =
     let a = c .before .before .before .before .before .before .args in
-    body-line (a .body .now) (put-byte 32 (put-byte 48 (put-none (a .out .now)) (omega arith)) (simp length-set (omega arith))) (search needs)
+    field-line (a .field .now) (put-byte 32 (put-byte 48 (put-none (a .out .now)) (omega arith)) (simp length-set (omega arith))) (search needs)
     (c .before .before .put-argument .ensures)
 
-pub put-body-spec : {M : Type 1} → statement M
-put-body-spec =
+pub put-field-spec : {M : Type 1} → statement M
+put-field-spec =
     tie.close (tie.spec (λ c. search needs) (λ c. simp length-set (omega arith)) put-argument-requires same-length returns)
