@@ -12,7 +12,8 @@ use Rattle.buffer.specs.Choice.{pick}
 use Rattle.buffer.specs.Bytes.{zeros, splice}
 use Rattle.buffer.specs.ByteLaws.{length-zeros}
 use Rattle.buffer.specs.SpliceLaws.{length-splice}
-use Rattle.model.specs.Layout.{storeBytes, frontOf}
+use Rattle.group.specs.Widths.{slotBytes, checkBytes}
+use Rattle.model.specs.Layout.{headerBytes, storeBytes, frontOf}
 use Rattle.model.specs.Perform.{outcome, plain, layOut, layOutNumber, laidOut}
 
 pub refused : (s : List ℕ) (b r : ℕ) → r ≡ layOutNumber s b → not (eqb r 0) ≡ true → outcome (plain r) s ≡ layOut s b
@@ -29,14 +30,14 @@ pub is-zero : (r : ℕ) → not (eqb r 0) ≡ false → r ≡ 0
 is-zero r h = eqb-true r 0 (not-false (eqb r 0) h)
 
 -- cleared behind the header, then with the header of an empty store
-pub laid : (s head new : List ℕ) (b n : ℕ) → storeBytes b ≤ length s → n ≡ storeBytes b - 36 → new ≡ zeros n
-    → head ≡ frontOf b 1 1 ++ ((1 ∷ zeros 15) ++ (1 ∷ zeros 11)) → splice 0 36 head (splice 36 n new s) ≡ laidOut b s
+pub laid : (s head new : List ℕ) (b n : ℕ) → storeBytes b ≤ length s → n ≡ storeBytes b - headerBytes → new ≡ zeros n
+    → head ≡ frontOf b 1 1 ++ ((1 ∷ zeros 15) ++ (1 ∷ zeros 11)) → splice 0 headerBytes head (splice headerBytes n new s) ≡ laidOut b s
 unfolding splice laidOut
 laid s head new b n long en ez eh =
-    let size : n ≡ 704 * b = omega arith in
-    let behind : 36 + n ≡ storeBytes b = omega arith in
-    let whole : length (take 36 s) ≡ 36 = length-take-le 36 s (omega arith) in
-    rw (drop-at (take 36 s) (new ++ drop n (drop 36 s)) 36 whole, eh, ez, drop-drop n 36 s, behind, size)
+    let size : n ≡ (16 * slotBytes + 12 * checkBytes) * b = omega arith in
+    let behind : headerBytes + n ≡ storeBytes b = omega arith in
+    let whole : length (take headerBytes s) ≡ headerBytes = length-take-le headerBytes s (omega arith) in
+    rw (drop-at (take headerBytes s) (new ++ drop n (drop headerBytes s)) headerBytes whole, eh, ez, drop-drop n headerBytes s, behind, size)
     (simp append-assoc)
 
 -- the slice keeps its length while it is cleared

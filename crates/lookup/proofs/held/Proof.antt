@@ -3,6 +3,7 @@ use mathlib.Core.Path.{sym, _∙_}
 use native.Mathlib.Omega.{arith}
 use borrow.Author.Needs.{needs}
 use Rattle.buffer.specs.Bytes.{byte}
+use Rattle.group.specs.Widths.{fieldBytes}
 use Rattle.lookup.specs.Parts.{handed-back}
 use Rattle.lookup.specs.Slots.{heldAt}
 use Rattle.lookup.specs.SlotLaws.{held-fits, held-part}
@@ -18,7 +19,7 @@ returns : tie.Need-returns
 returns c =
     let a = c .before .before .before .before .args in
     let s = a .s .now in
-    let lent = handed-back s _ _ (c .before .held-at .result) 16 (heldAt (byte s 5) (a .g) (a .r) (a .m)) (c .before .held-at .ensures .0) in
+    let lent = handed-back s _ _ (c .before .held-at .result) fieldBytes (heldAt (byte s 5) (a .g) (a .r) (a .m)) (c .before .held-at .ensures .0) in
     (lent .0 ∙ sym (held-part s (a .g) (a .r) (a .m)), lent .1)
 
 pub held-spec : {M : Type 1} → statement M

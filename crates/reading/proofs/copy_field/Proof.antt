@@ -4,6 +4,7 @@ use Prim.Native.Nat.{_+_}
 use native.Mathlib.Omega.{arith}
 use borrow.Author.Needs.{needs}
 use Rattle.buffer.specs.Bytes.{byte}
+use Rattle.group.specs.Widths.{keyBytes, fieldBytes}
 use Rattle.model.specs.Layout.{slotAt}
 use Rattle.lookup.specs.SizedLaws.{slot-fits}
 use Rattle.lookup.specs.States.{state-byte}
@@ -51,7 +52,7 @@ returns-2 c =
     let u = start .args .u in
     let r = start .args .r in
     copied .copy .ensures
-    ∙ part-lent s (at .slot-at .result + 4) 16 (slotAt (byte s 5) u r + 4) (ap (λ i. i + 4) (at .slot-at .ensures .0))
+    ∙ part-lent s (at .slot-at .result + keyBytes) fieldBytes (slotAt (byte s 5) u r + keyBytes) (ap (λ i. i + keyBytes) (at .slot-at .ensures .0))
     ∙ field-own s u r (λ h. test .if1 .left (test .before .state .ensures ∙ sym (state-byte s u) ∙ h))
 
 pub copy-field-spec : {M : Type 1} → statement M

@@ -1,10 +1,11 @@
 -- `lay_out::lay_out` meets its contract. Assumes nothing.
 use borrow.Author.Needs.{needs}
-use Prim.Native.Nat.{ℕ, _+_, _*_, _-_}
+use Prim.Native.Nat.{ℕ, _-_}
 use mathlib.Core.Path.{sym, ap, _∙_}
 use native.Mathlib.Omega.{arith}
 use Rattle.buffer.specs.Bytes.{zeros, part, splice}
 use Rattle.buffer.specs.SpliceLaws.{length-part}
+use Rattle.model.specs.Layout.{headerBytes, storeBytes}
 use Rattle.model.specs.GrantedLayout.{layout-granted}
 use Rattle.store.proofs.Layouts.{refused, granted, is-zero, laid, kept}
 use Rattle.store.proofs.lay_out.lay_out.Statement.{statement}
@@ -39,13 +40,13 @@ part-copy-end c =
     let i = w .before in
     let a = i .before .before .before .before .args in
     let g = layout-granted (a .s .now) (a .b) (sym (i .before .layout-number .ensures) ∙ is-zero _ (i .if1 .left)) in
-    let n : ℕ = 36 + 704 * w .index .result - 36 in
+    let n : ℕ = storeBytes (w .index .result) - headerBytes in
     omega (
       arith,
       g .long,
       w .index .ensures,
-      kept (a .s .now) _ 36 n (omega (arith, g .long, w .index .ensures))
-          (c .before .before .before .clear .ensures ∙ ap zeros (length-part 36 n (a .s .now) (omega (arith, g .long, w .index .ensures)))),
+      kept (a .s .now) _ headerBytes n (omega (arith, g .long, w .index .ensures))
+          (c .before .before .before .clear .ensures ∙ ap zeros (length-part headerBytes n (a .s .now) (omega (arith, g .long, w .index .ensures)))),
     )
 
 returns-2 : tie.Need-returns-2
@@ -55,11 +56,11 @@ returns-2 c =
     let i = w .before in
     let a = i .before .before .before .before .args in
     let g = layout-granted (a .s .now) (a .b) (sym (i .before .layout-number .ensures) ∙ is-zero _ (i .if1 .left)) in
-    let n : ℕ = 36 + 704 * w .index .result - 36 in
+    let n : ℕ = storeBytes (w .index .result) - headerBytes in
     granted _ _ _ _ (i .before .layout-number .ensures) (i .if1 .left)
     (laid (a .s .now) _ _ (a .b) n (g .long) (omega (arith, w .index .ensures))
     (c .before .before .before .before .before .before .before .before .clear .ensures
-    ∙ ap zeros (length-part 36 n (a .s .now) (omega (arith, g .long, w .index .ensures))))
+    ∙ ap zeros (length-part headerBytes n (a .s .now) (omega (arith, g .long, w .index .ensures))))
     (c .before .before .copy .ensures ∙ c .before .before .before .before .before .header .ensures))
 
 pub lay-out-spec : {M : Type 1} → statement M
