@@ -15,7 +15,7 @@ use Rattle.group.specs.Widths.{checkBytes}
 unfoldable pub turnedKeys : List ℕ → ℕ → ℕ → ℕ → ℕ
 turnedKeys s base step r = le32 s (base + step * r)
 
--- the place of a key in the table of stamps
+-- the place of a key in the table of marks
 unfoldable pub placeOf : ℕ → ℕ
 placeOf k = k * 2654435761 / 2097152 % 2048
 

@@ -39,7 +39,7 @@ fn is_new(s: &[u8], base: usize, step: usize, n: usize, k: u32) -> bool
     true
 }
 
-// The place of a key in the table of stamps, by multiplicative hashing.
+// The place of a key in the table of marks, by multiplicative hashing.
 fn place(k: u32) -> usize
     ensures { λ r. ⌜ (r ≡ placeOf k) × (r < 2048) ⌝ }
 {
@@ -60,8 +60,8 @@ fn mask_of(m: u8, u: u8) -> u32
     buffer::wide32(2 * low - 1)
 }
 
-// How many keys a list has before its first key 0, or 65 where one of them is in another unit or there twice. Each key leaves the unit's stamp
-// in the table; only a key that finds the stamp already there is compared with those before it. What the table held before does not matter. The
+// How many keys a list has before its first key 0, or 65 where one of them is in another unit or there twice. Each key leaves the unit's mark
+// in the table; only a key that finds the mark already there is compared with those before it. What the table held before does not matter. The
 // keys are read turned.
 pub fn reach(
     t: &mut [u8; 2048],
@@ -77,7 +77,7 @@ pub fn reach(
 {
     let mask = digits::at_sum(mask_of(m, u));
     let own = digits::at_sum(buffer::wide32(u));
-    let stamp = u + 1;
+    let mark = u + 1;
     let mut r = 0;
     while r < b {
         let k = turned_key(s, base, step, r);
@@ -88,12 +88,12 @@ pub fn reach(
             return 65;
         }
         let h = place(k);
-        if t[h] == stamp {
+        if t[h] == mark {
             if !is_new(s, base, step, r, k) {
                 return 65;
             }
         }
-        t[h] = stamp;
+        t[h] = mark;
         r += 1;
     }
     r

@@ -23,10 +23,10 @@ use Rattle.soundness.proofs.keys.reach.Statement.{statement}
 use Rattle.soundness.proofs.keys.reach.Tie as tie
 
 abbrev Inv-loop : tie.InvT-loop
-Inv-loop t₀ s base step b m u mask own stamp r₀ t r = Reaching (turnedKeys s base step) b m u stamp t r
+Inv-loop t₀ s base step b m u mask own mark r₀ t r = Reaching (turnedKeys s base step) b m u mark t r
 
 abbrev μ-loop : tie.MeasureT-loop
-μ-loop t₀ s base step b m u mask own stamp r₀ t r = b - r
+μ-loop t₀ s base step b m u mask own mark r₀ t r = b - r
 
 -- ---- the list of keys, and the key at the turn's rank: not 0, of the unit, new
 abbrev start : tie.After-turned-key Inv-loop μ-loop → tie.Start Inv-loop μ-loop
