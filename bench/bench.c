@@ -19,7 +19,7 @@
 #define MAX_UNITS 16u
 #define MAX_LEVEL 3u
 #define HEADER 36u
-#define CHECK_RECORD 32u
+#define CHECK_RECORD (4u * LHRS_KEY + LHRS_FIELD)
 #define ROUNDS 60
 #define BATCH_NANOSECONDS 1000000.0
 
@@ -31,7 +31,7 @@ struct hall {
     uint32_t keys[MAX_SLOTS]; /* those of unit 0 */
     uint32_t count;           /* their number */
     uint32_t turn;            /* the next of them to use */
-    uint8_t bodies[MAX_SLOTS][LHRS_BODY]; /* new bodies for them, made before the clock runs */
+    uint8_t fields[MAX_SLOTS][LHRS_FIELD]; /* new fields for them, made before the clock runs */
     uint32_t absent;          /* a key of unit 0 that is not taught */
     uint8_t bytes[MAX_LENGTH];
 };
@@ -64,11 +64,11 @@ static void build(struct hall *hall, uint32_t slots, uint32_t units, uint32_t le
         require(lhrs_grow(hall->bytes, hall->length), 0, "grow");
 }
 
-static void fill_body(uint8_t body[LHRS_BODY], uint32_t seed)
+static void fill_field(uint8_t field[LHRS_FIELD], uint32_t seed)
 {
-    for (unsigned i = 0; i < LHRS_BODY; i++) {
+    for (unsigned i = 0; i < LHRS_FIELD; i++) {
         seed = seed * 1664525u + 1013904223u;
-        body[i] = (uint8_t)(seed >> 24);
+        field[i] = (uint8_t)(seed >> 24);
     }
 }
 
@@ -80,7 +80,7 @@ static void fill(struct hall *hall, uint32_t records, uint32_t step)
     uint32_t left = records * hall->units;
     uint32_t key = 1;
     for (; left > 0; key += step) {
-        uint8_t body[LHRS_BODY];
+        uint8_t field[LHRS_FIELD];
         uint32_t unit = plain_unit(hall->units, key);
         if (counts[unit] == records)
             continue;
@@ -89,8 +89,8 @@ static void fill(struct hall *hall, uint32_t records, uint32_t step)
             left -= unit % 3;
             continue;
         }
-        fill_body(body, key);
-        require(lhrs_teach(hall->bytes, hall->length, key, body, sizeof body), 0, "teach");
+        fill_field(field, key);
+        require(lhrs_teach(hall->bytes, hall->length, key, field, sizeof field), 0, "teach");
         if (unit == 0)
             hall->keys[counts[0]] = key;
         counts[unit]++;
@@ -98,7 +98,7 @@ static void fill(struct hall *hall, uint32_t records, uint32_t step)
     }
     hall->count = records;
     for (uint32_t i = 0; i < records; i++)
-        fill_body(hall->bodies[i], ~i);
+        fill_field(hall->fields[i], ~i);
     while (plain_unit(hall->units, key) != 0)
         key += step;
     hall->absent = key;
@@ -107,7 +107,7 @@ static void fill(struct hall *hall, uint32_t records, uint32_t step)
 /* The tests in C say of a store what the library says; the verdict. */
 static int same_verdict(const struct hall *hall)
 {
-    uint8_t out[LHRS_BODY];
+    uint8_t out[LHRS_FIELD];
     int sound = lhrs_read(hall->bytes, hall->length, hall->absent, out, sizeof out) != 1;
     require((uint8_t)plain_sound(hall->bytes, hall->length), (uint8_t)sound, "plain test");
     require((uint8_t)tuned_sound(hall->bytes, hall->length), (uint8_t)sound, "tuned test");
@@ -260,7 +260,7 @@ static void copy_store(void)
 
 static void read_absent(void)
 {
-    uint8_t out[LHRS_BODY];
+    uint8_t out[LHRS_FIELD];
     require(lhrs_read(whole.bytes, whole.length, whole.absent, out, sizeof out), 6, "read");
 }
 
@@ -278,24 +278,24 @@ static void erase_and_teach(void)
 {
     uint32_t turn = next_turn(&whole), key = whole.keys[turn];
     require(lhrs_erase(whole.bytes, whole.length, key), 0, "erase");
-    require(lhrs_teach(whole.bytes, whole.length, key, whole.bodies[turn], LHRS_BODY), 0, "teach");
+    require(lhrs_teach(whole.bytes, whole.length, key, whole.fields[turn], LHRS_FIELD), 0, "teach");
 }
 
 static void correct_one(void)
 {
-    /* each time a key gets the body that the key after it got last, so that the bytes change */
+    /* each time a key gets the field that the key after it got last, so that the bytes change */
     uint32_t turn = next_turn(&whole);
     static uint32_t shift;
     if (turn == 0)
         shift = shift + 1 < whole.count ? shift + 1 : 0;
     uint32_t other = turn + shift < whole.count ? turn + shift : turn + shift - whole.count;
-    require(lhrs_correct(whole.bytes, whole.length, whole.keys[turn], whole.bodies[other],
-                         LHRS_BODY), 0, "correct");
+    require(lhrs_correct(whole.bytes, whole.length, whole.keys[turn], whole.fields[other],
+                         LHRS_FIELD), 0, "correct");
 }
 
 static void read_from(struct hall *hall)
 {
-    uint8_t out[LHRS_BODY];
+    uint8_t out[LHRS_FIELD];
     uint32_t key = hall->keys[next_turn(hall)];
     require(lhrs_read(hall->bytes, hall->length, key, out, sizeof out), 0, "read");
 }

@@ -1,9 +1,9 @@
 /*
  * Times the soundness test of two builds of the library in one run, in turn: this one's, and an
  * earlier one's, whose names begin with earlier_ in place of lhrs_. Each has a store of its own, laid
- * out and filled by its own calls, so that it may be of another version with the same widths. Prints
- * a line for each size of store: b, M, K, the nanoseconds of the earlier test and of this one. Build
- * and run it with bench/beside.
+ * out and filled by its own calls, so that it may be of another version; the width of its fields is
+ * EARLIER_FIELD. Prints a line for each size of store: b, M, K, the nanoseconds of the earlier test
+ * and of this one. Build and run it with bench/beside.
  */
 #define _POSIX_C_SOURCE 199309L
 #include "lhrs.h"
@@ -15,14 +15,26 @@
 
 #define MAX_SLOTS 64u
 #define MAX_UNITS 16u
+#define CHECK_UNITS 12u
 #define HEADER 36u
+#define WIDEST_FIELD 20u
+
+#ifndef EARLIER_FIELD
+#define EARLIER_FIELD LHRS_FIELD
+#endif
+
+/* The bytes of a slot, of a check record and of a store, where a field has so many. */
+#define SLOT(field) (LHRS_KEY + (field))
+#define CHECK_RECORD(field) (4u * LHRS_KEY + (field))
+#define LENGTH(field, slots) \
+    (HEADER + (MAX_UNITS * SLOT(field) + CHECK_UNITS * CHECK_RECORD(field)) * (slots))
 #define ROUNDS 60
 #define BATCH_NANOSECONDS 1000000.0
 
 uint8_t earlier_lay_out(uint8_t *store, size_t len, uint32_t slots);
 uint8_t earlier_raise(uint8_t *store, size_t len);
 uint8_t earlier_grow(uint8_t *store, size_t len);
-uint8_t earlier_teach(uint8_t *store, size_t len, uint32_t key, const uint8_t *body, size_t size);
+uint8_t earlier_teach(uint8_t *store, size_t len, uint32_t key, const uint8_t *field, size_t size);
 uint8_t earlier_erase(uint8_t *store, size_t len, uint32_t key);
 uint8_t earlier_read(const uint8_t *store, size_t len, uint32_t key, uint8_t *out, size_t size);
 
@@ -34,17 +46,18 @@ struct build {
     uint8_t (*teach)(uint8_t *, size_t, uint32_t, const uint8_t *, size_t);
     uint8_t (*erase)(uint8_t *, size_t, uint32_t);
     uint8_t (*read)(const uint8_t *, size_t, uint32_t, uint8_t *, size_t);
+    size_t field; /* the bytes of a field */
     size_t length;
     uint32_t absent; /* a key that is not taught */
-    uint8_t bytes[LHRS_LENGTH(MAX_SLOTS)];
+    uint8_t bytes[LENGTH(WIDEST_FIELD, MAX_SLOTS)];
 };
 
 static struct build earlier = {earlier_lay_out, earlier_raise, earlier_grow, earlier_teach,
-                               earlier_erase,   earlier_read,  0,            0,
-                               {0}};
+                               earlier_erase,   earlier_read,  EARLIER_FIELD, 0,
+                               0,               {0}};
 static struct build now = {lhrs_lay_out, lhrs_raise, lhrs_grow, lhrs_teach,
-                           lhrs_erase,   lhrs_read,  0,         0,
-                           {0}};
+                           lhrs_erase,   lhrs_read,  LHRS_FIELD, 0,
+                           0,            {0}};
 
 static void require(uint8_t number, uint8_t expected, const char *what)
 {
@@ -61,7 +74,7 @@ static uint32_t holder(const struct build *build, uint32_t slots, uint32_t key)
     uint8_t bytes[4] = {(uint8_t)(key >> 24), (uint8_t)(key >> 16), (uint8_t)(key >> 8),
                         (uint8_t)key};
     for (uint32_t slot = 0; slot < MAX_UNITS * slots; slot++)
-        if (memcmp(build->bytes + HEADER + LHRS_RECORD * slot, bytes, sizeof bytes) == 0)
+        if (memcmp(build->bytes + HEADER + SLOT(build->field) * slot, bytes, sizeof bytes) == 0)
             return slot / slots;
     return MAX_UNITS;
 }
@@ -69,16 +82,16 @@ static uint32_t holder(const struct build *build, uint32_t slots, uint32_t key)
 /* A store of so many units and check units, each data unit three quarters full. */
 static void fill(struct build *build, uint32_t slots, uint32_t units, uint32_t level)
 {
-    const uint8_t body[LHRS_BODY] = {0};
+    const uint8_t field[WIDEST_FIELD] = {0};
     uint32_t counts[MAX_UNITS + 1] = {0}, records = slots * 3 / 4, left = records * units, key;
-    build->length = LHRS_LENGTH(slots);
+    build->length = LENGTH(build->field, slots);
     require(build->lay_out(build->bytes, build->length, slots), 0, "lay out");
     for (uint32_t k = 1; k < level; k++)
         require(build->raise(build->bytes, build->length), 0, "raise");
     for (uint32_t m = 1; m < units; m++)
         require(build->grow(build->bytes, build->length), 0, "grow");
     for (key = 1; left > 0; key++) {
-        require(build->teach(build->bytes, build->length, key, body, sizeof body), 0, "teach");
+        require(build->teach(build->bytes, build->length, key, field, build->field), 0, "teach");
         uint32_t unit = holder(build, slots, key);
         if (counts[unit] == records) {
             require(build->erase(build->bytes, build->length, key), 0, "erase");
@@ -93,11 +106,11 @@ static void fill(struct build *build, uint32_t slots, uint32_t units, uint32_t l
 /* Nanoseconds of one test, over so many: each is a read of a key that is not there. */
 static double batch(const struct build *build, unsigned long runs)
 {
-    uint8_t out[LHRS_BODY];
+    uint8_t out[WIDEST_FIELD];
     struct timespec start, end;
     clock_gettime(CLOCK_MONOTONIC, &start);
     for (unsigned long i = 0; i < runs; i++)
-        require(build->read(build->bytes, build->length, build->absent, out, sizeof out), 6,
+        require(build->read(build->bytes, build->length, build->absent, out, build->field), 6,
                 "read");
     clock_gettime(CLOCK_MONOTONIC, &end);
     double nanoseconds = 1e9 * (double)(end.tv_sec - start.tv_sec);

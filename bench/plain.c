@@ -4,13 +4,13 @@
  */
 #include "plain.h"
 
-#define VERSION 3u
+#define VERSION 4u
 #define UNITS 16u
 #define GROUPS 4u
 #define CHECKS 3u /* check units of a group */
 #define HEADER 36u
-#define SLOT 20u
-#define CHECK_RECORD 32u
+#define SLOT LHRS_RECORD /* a key and a field */
+#define CHECK_RECORD (4u * LHRS_KEY + LHRS_FIELD) /* four keys and a parity */
 
 enum state { NOT_IN_PLACE = 0, IN_SERVICE = 1, OUT = 2 };
 

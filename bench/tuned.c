@@ -1,23 +1,24 @@
 /*
  * The soundness test written for speed, in portable C99; compiled with -O3. Differences are or-ed and
  * tested once: keys against their own unit by masks of their digit sums, two sums at a time, lists and
- * zeros in words of 64 bits. Ranks that all four units of a group have are tested together. A key that is there twice is found by a table
- * of stamps, with an exact look back where a stamp is met. The bench runs it beside the library's.
+ * zeros in words of 64 bits. Ranks that all four units of a group have are tested together. A key that
+ * is there twice is found by a table of marks, with an exact look back where a mark is met. The bench
+ * runs it beside the library's.
  */
 #include "tuned.h"
 
 #include <string.h>
 
-#define VERSION 3u
+#define VERSION 4u
 #define UNITS 16u
 #define GROUPS 4u
 #define PLACES 4u /* data units of a group */
 #define CHECKS 3u /* check units of a group */
 #define HEADER 36u
-#define SLOT 20u
-#define CHECK_RECORD 32u
-#define STAMPS 4096u /* a quarter of them for each place of a group */
-#define FEW 8u       /* so many keys are compared each with each, without stamps */
+#define SLOT LHRS_RECORD /* a key and a field */
+#define CHECK_RECORD (4u * LHRS_KEY + LHRS_FIELD) /* four keys and a parity */
+#define MARKS 4096u /* a quarter of them for each place of a group */
+#define FEW 8u       /* so many keys are compared each with each, without marks */
 #define FAILED 65u   /* no number of keys of a unit */
 
 enum state { NOT_IN_PLACE = 0, IN_SERVICE = 1, OUT = 2 };
@@ -118,9 +119,9 @@ static int states_hold(const uint8_t *store)
     return !wrong;
 }
 
-/* Where a key of a unit leaves its stamp, by multiplicative hashing: units that are tested together
+/* Where a key of a unit leaves its mark, by multiplicative hashing: units that are tested together
    have no place in common. */
-static uint32_t stamp_at(uint32_t unit, uint32_t key)
+static uint32_t mark_at(uint32_t unit, uint32_t key)
 {
     return PLACES * (key * 2654435761u >> 22) + unit % PLACES;
 }
@@ -135,16 +136,16 @@ static int is_twice(const uint8_t *keys, size_t step, uint32_t rank)
     return 0;
 }
 
-/* Leaves a stamp for a key of a unit, where there are stamps; false where the key is there twice. */
-static inline int is_new(uint8_t *stamps, uint32_t unit, uint32_t key, const uint8_t *keys,
+/* Leaves a mark for a key of a unit, where there are marks; false where the key is there twice. */
+static inline int is_new(uint8_t *marks, uint32_t unit, uint32_t key, const uint8_t *keys,
                          size_t step, uint32_t rank)
 {
-    if (stamps == NULL)
+    if (marks == NULL)
         return !is_twice(keys, step, rank);
-    uint8_t stamp = (uint8_t)(unit / PLACES + 1), *place = stamps + stamp_at(unit, key);
-    if (*place == stamp && is_twice(keys, step, rank))
+    uint8_t mark = (uint8_t)(unit / PLACES + 1), *place = marks + mark_at(unit, key);
+    if (*place == mark && is_twice(keys, step, rank))
         return 0;
-    *place = stamp;
+    *place = mark;
     return 1;
 }
 
@@ -158,7 +159,7 @@ static uint32_t mask_of(const struct group *group, uint32_t unit)
 
 /* Four units in service with a list beside them: tests the ranks that all of them have, and returns
    their number, or FAILED. */
-static uint32_t common_ranks(const struct group *group, uint8_t *stamps)
+static uint32_t common_ranks(const struct group *group, uint8_t *marks)
 {
     const uint8_t *list = group->list, *data = group->data;
     size_t size = group->size;
@@ -175,10 +176,10 @@ static uint32_t common_ranks(const struct group *group, uint8_t *stamps)
                   | (d ^ load32(slot + 3 * size));
         other |= spread_pair(load64(keys)) ^ own;
         next_other |= spread_pair(load64(keys + 8)) ^ next_own;
-        if (!is_new(stamps, unit, a, list, CHECK_RECORD, rank)
-            || !is_new(stamps, unit + 1, b, list + 4, CHECK_RECORD, rank)
-            || !is_new(stamps, unit + 2, c, list + 8, CHECK_RECORD, rank)
-            || !is_new(stamps, unit + 3, d, list + 12, CHECK_RECORD, rank))
+        if (!is_new(marks, unit, a, list, CHECK_RECORD, rank)
+            || !is_new(marks, unit + 1, b, list + 4, CHECK_RECORD, rank)
+            || !is_new(marks, unit + 2, c, list + 8, CHECK_RECORD, rank)
+            || !is_new(marks, unit + 3, d, list + 12, CHECK_RECORD, rank))
             return FAILED;
     }
     other &= sum_pair(mask_of(group, unit), mask_of(group, unit + 1));
@@ -189,7 +190,7 @@ static uint32_t common_ranks(const struct group *group, uint8_t *stamps)
 /* How many keys a unit has, tested from a rank on; FAILED where one is of another unit or there
    twice. */
 static uint32_t count_keys(const struct group *group, uint32_t unit, const uint8_t *keys,
-                           size_t step, uint32_t rank, uint8_t *stamps)
+                           size_t step, uint32_t rank, uint8_t *marks)
 {
     uint32_t own = unit << 24, other = 0;
     for (; rank < group->slots; rank++) {
@@ -197,7 +198,7 @@ static uint32_t count_keys(const struct group *group, uint32_t unit, const uint8
         if (key == 0)
             break;
         other |= spread(key) ^ own;
-        if (!is_new(stamps, unit, key, keys, step, rank))
+        if (!is_new(marks, unit, key, keys, step, rank))
             return FAILED;
     }
     return (other & mask_of(group, unit) << 24) != 0 ? FAILED : rank;
@@ -205,14 +206,14 @@ static uint32_t count_keys(const struct group *group, uint32_t unit, const uint8
 
 /* The keys of a group's units are dense, different and in their own unit, the list has the same, and
    units that are not in service and slots without a record are zero. */
-static int keys_hold(const struct group *group, uint8_t *stamps)
+static int keys_hold(const struct group *group, uint8_t *marks)
 {
     static const uint8_t in_service[PLACES] = {IN_SERVICE, IN_SERVICE, IN_SERVICE, IN_SERVICE};
     const uint8_t *list = group->list;
     uint32_t from = 0, most, starts[PLACES];
     uint64_t differ = 0;
     if (list != NULL && memcmp(group->states, in_service, PLACES) == 0)
-        from = common_ranks(group, stamps);
+        from = common_ranks(group, marks);
     if (from == FAILED)
         return 0;
     most = from;
@@ -221,9 +222,9 @@ static int keys_hold(const struct group *group, uint8_t *stamps)
         uint32_t unit = group->first + place, count = 0, used = 0;
         starts[place] = from;
         if (group->states[place] == IN_SERVICE) {
-            count = used = count_keys(group, unit, data, SLOT, from, stamps);
+            count = used = count_keys(group, unit, data, SLOT, from, marks);
         } else if (group->states[place] == OUT && list != NULL) {
-            count = count_keys(group, unit, list + 4 * place, CHECK_RECORD, 0, stamps);
+            count = count_keys(group, unit, list + 4 * place, CHECK_RECORD, 0, marks);
             starts[place] = count;
         }
         if (count == FAILED)
@@ -257,7 +258,7 @@ static int same_lists(const uint8_t *a, const uint8_t *b, const uint8_t *c, size
 }
 
 /* A group's check units: those that are not in service are zero, the others list the keys. */
-static int group_holds(const uint8_t *store, uint32_t number, uint32_t power, uint8_t *stamps)
+static int group_holds(const uint8_t *store, uint32_t number, uint32_t power, uint8_t *marks)
 {
     uint32_t slots = store[5], count = 0;
     size_t data_size = SLOT * slots, check_size = CHECK_RECORD * slots;
@@ -281,7 +282,7 @@ static int group_holds(const uint8_t *store, uint32_t number, uint32_t power, ui
     group.data = data + PLACES * number * data_size;
     group.list = count > 0 ? lists[0] : NULL;
     group.size = data_size;
-    return keys_hold(&group, stamps);
+    return keys_hold(&group, marks);
 }
 
 /* Units behind the last data unit in place, and check units behind the last group in place, are
@@ -298,7 +299,7 @@ static int rest_is_zero(const uint8_t *store)
 
 int tuned_sound(const uint8_t *store, size_t len)
 {
-    uint8_t table[STAMPS], *stamps = NULL;
+    uint8_t table[MARKS], *marks = NULL;
     uint32_t power = 1;
     if (!ranges_hold(store, len) || !states_hold(store))
         return 0;
@@ -306,10 +307,10 @@ int tuned_sound(const uint8_t *store, size_t len)
         power *= 2;
     if (store[5] > FEW) {
         memset(table, 0, sizeof table);
-        stamps = table;
+        marks = table;
     }
     for (uint32_t number = 0; PLACES * number < store[6]; number++)
-        if (!group_holds(store, number, power, stamps))
+        if (!group_holds(store, number, power, marks))
             return 0;
     return rest_is_zero(store);
 }

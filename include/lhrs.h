@@ -14,19 +14,25 @@
  *
  * At the same time. The library has no state. Calls on different stores may run at the same time.
  * On one store lhrs_read and lhrs_list may run beside each other and beside themselves; while any
- * other call runs, none may run beside it on that store. lhrs_rebuild_segment takes no store: it may
- * run beside any call, itself too, that is not lent the same members or marks.
+ * other call runs, none may run beside it on that store. lhrs_rebuild_segment takes no store: it
+ * may run beside any call, itself too, that is not lent the same members or marks.
  *
  * Where it runs. The archive libstore.a is compiled for x86-64 Linux (ELF objects, System V calling
  * convention) and needs memcpy and memset of a C library, nothing else.
  *
- * Records. A record is a key, 1 to 4,294,967,295, and a body of 16 bytes; any body will do, all
- * zeros too. Records are spread over 1 to 16 data units of b slots each, by the sum of the eight
+ * Records. A record is a key, 1 to 4,294,967,295, and a field of 20 bytes. The field is a body of
+ * 16 bytes and behind it a stamp of 4 bytes, which says when the record was taught. The stamp is a
+ * number of 32 bits of the caller's choice, big-endian: the travel program may count seconds,
+ * minutes or days, from any start. Any body and any stamp will do, all zeros too. The store keeps a
+ * stamp as it keeps a body, and does not compare it with another: it may be earlier than the one
+ * before.
+ *
+ * Units. Records are spread over 1 to 16 data units of b slots each, by the sum of the eight
  * hexadecimal digits of their keys: so keys numbered in sixteens (0x10, 0x20, 0x30) fall into
  * different units. Each four data units form a group (0-3, 4-7, 8-11, 12-15). The store has a
  * level, 1 to 3: each group with a data unit in place has that many check units, from which units
- * that are lost are rebuilt. So a group survives as many lost units, data and check units together,
- * as the level says.
+ * that are lost are rebuilt, with their bodies and stamps. So a group survives as many lost units,
+ * data and check units together, as the level says.
  *
  * Numbers. Each call returns one of the numbers below. A call that returns another number than 0
  * changes no byte. Where several numbers apply, the first of 2, 1, 3, 9, 4, 8, 5, 6, 7 is given; so
@@ -42,16 +48,19 @@
 extern "C" {
 #endif
 
-/* The bytes of a body. */
+/* The bytes of a field, 20: a body, then a stamp, big-endian. */
 #define LHRS_BODY 16u
+#define LHRS_STAMP 4u
+#define LHRS_FIELD (LHRS_BODY + LHRS_STAMP)
 
-/* The bytes of a record as lhrs_list writes it: its key, big-endian, and its body. */
-#define LHRS_RECORD 20u
+/* The bytes of a record as lhrs_list writes it, 24: its key, big-endian, then its field. */
+#define LHRS_KEY 4u
+#define LHRS_RECORD (LHRS_KEY + LHRS_FIELD)
 
 /* The bytes of a store whose units have b slots. */
-#define LHRS_LENGTH(b) (36u + 704u * (b))
+#define LHRS_LENGTH(b) (36u + 816u * (b))
 
-/* Units have numbers 0 to 27: data units 0 to 15, then check unit j (0 to 2) of group g (0 to 3). */
+/* Data units are 0 to 15; check unit j (0 to 2) of group g (0 to 3) is one of 16 to 27. */
 #define LHRS_CHECK_UNIT(g, j) (16u + 3u * (g) + (j))
 
 /* Of a store that was laid out, by a pointer to its first byte: the number of its data units, 1 to
@@ -71,13 +80,13 @@ enum lhrs_number {
     /* The call was granted and has done what it says. */
     LHRS_GRANTED = 0,
     /* The block holds no sound store: it was never laid out, it is cut off, it is damaged, or its
-       first byte says another version than 3. Every call on a store but lhrs_lay_out tests this.
+       first byte says another version than 4. Every call on a store but lhrs_lay_out tests this.
        Parity bytes are not tested. */
     LHRS_NOT_SOUND = 1,
-    /* An argument is outside its range: key 0, b not 1 to 64, a body or an output that is not 16
-       bytes long, a unit above 27, a group above 3; for a segment, m not 1 to 32, fewer than m or
-       more than 64 members, members that are not all of one length from 1 to 1,024 bytes, or a mark
-       that is neither 0 nor 1. */
+    /* An argument is outside its range: key 0, b not 1 to 64, a field (teach, correct) or an output
+       (read) that is not 20 bytes long, a unit above 27, a group above 3; for a segment, m not 1 to
+       32, fewer than m or more than 64 members, members that are not all of one length from 1 to
+       1,024 bytes, or a mark that is neither 0 nor 1. */
     LHRS_BAD_ARGUMENT = 2,
     /* There is no such unit or group in the store at present. */
     LHRS_NOT_IN_PLACE = 3,
@@ -85,7 +94,7 @@ enum lhrs_number {
        unit added or removed, or of the unit that it is split from (grow, shrink); anywhere in the
        store (raise); or the unit is out already (out). Repair the group first. */
     LHRS_UNIT_OUT = 4,
-    /* The key is taught already. lhrs_correct gives it a new body. */
+    /* The key is taught already. lhrs_correct gives it a new body and stamp. */
     LHRS_KEY_PRESENT = 5,
     /* The key is not taught. */
     LHRS_KEY_NOT_PRESENT = 6,
@@ -93,13 +102,61 @@ enum lhrs_number {
        one (shrink), the block is shorter than LHRS_LENGTH(b) (lay out), or the output is too short
        for all records (list). */
     LHRS_NO_ROOM = 7,
-    /* More units of a group are out than it has check units: nothing can be rebuilt (repair; read of
-       a key whose unit is out there; list with a data unit out there). Fewer than m members of a
+    /* More units of a group are out than it has check units: nothing can be rebuilt (repair; read
+       of a key whose unit is out there; list with a data unit out there). Fewer than m members of a
        segment are present (rebuild segment). */
     LHRS_BEYOND_RECOVERY = 8,
     /* A limit: grow at 16 units, shrink at 1, raise at level 3. */
     LHRS_LIMIT = 9
 };
+
+/*
+ * The parts of a field and of a record that lhrs_list has written. These functions stand in this
+ * header, not in the archive. They take no store, and they test nothing: field must point to
+ * LHRS_FIELD bytes, body to LHRS_BODY, record to LHRS_RECORD.
+ */
+
+/* The number of 32 bits in four bytes, big-endian. */
+static inline uint32_t lhrs_big_endian(const uint8_t *bytes)
+{
+    return (uint32_t)bytes[0] << 24 | (uint32_t)bytes[1] << 16 | (uint32_t)bytes[2] << 8 | bytes[3];
+}
+
+/* Writes a field: the body, then the stamp. */
+static inline void lhrs_field_fill(uint8_t *field, const uint8_t *body, uint32_t stamp)
+{
+    unsigned i;
+    for (i = 0; i < LHRS_BODY; i++)
+        field[i] = body[i];
+    field[LHRS_BODY] = (uint8_t)(stamp >> 24);
+    field[LHRS_BODY + 1] = (uint8_t)(stamp >> 16);
+    field[LHRS_BODY + 2] = (uint8_t)(stamp >> 8);
+    field[LHRS_BODY + 3] = (uint8_t)stamp;
+}
+
+/* Where the body of a field starts. */
+static inline const uint8_t *lhrs_field_body(const uint8_t *field)
+{
+    return field;
+}
+
+/* The stamp of a field. */
+static inline uint32_t lhrs_field_stamp(const uint8_t *field)
+{
+    return lhrs_big_endian(field + LHRS_BODY);
+}
+
+/* The key of a record. */
+static inline uint32_t lhrs_record_key(const uint8_t *record)
+{
+    return lhrs_big_endian(record);
+}
+
+/* Where the field of a record starts. */
+static inline const uint8_t *lhrs_record_field(const uint8_t *record)
+{
+    return record + LHRS_KEY;
+}
 
 /*
  * Makes an empty store in the block: one data unit of b slots (1 to 64), level 1, one check unit.
@@ -109,17 +166,19 @@ enum lhrs_number {
 uint8_t lhrs_lay_out(uint8_t *store, size_t len, uint32_t b);
 
 /*
- * Adds a record with a new key. body_len is 16.
+ * Adds a record with a new key. The field is its body and its stamp; field_len is 20.
  * Returns 0, 1, 2, 4, 5 or 7.
  */
-uint8_t lhrs_teach(uint8_t *store, size_t len, uint32_t key, const uint8_t *body, size_t body_len);
+uint8_t lhrs_teach(uint8_t *store, size_t len, uint32_t key, const uint8_t *field,
+                   size_t field_len);
 
 /*
- * Gives a taught key a new body. body_len is 16.
+ * Gives a taught key a new field, that is a new body and a new stamp; field_len is 20. Any stamp is
+ * taken, also one earlier than before: the store does not compare stamps.
  * Returns 0, 1, 2, 4 or 6.
  */
-uint8_t lhrs_correct(uint8_t *store, size_t len, uint32_t key, const uint8_t *body,
-                     size_t body_len);
+uint8_t lhrs_correct(uint8_t *store, size_t len, uint32_t key, const uint8_t *field,
+                     size_t field_len);
 
 /*
  * Removes a record.
@@ -128,18 +187,18 @@ uint8_t lhrs_correct(uint8_t *store, size_t len, uint32_t key, const uint8_t *bo
 uint8_t lhrs_erase(uint8_t *store, size_t len, uint32_t key);
 
 /*
- * Writes the body of a key to out; out_len is 16. Where the key's unit is out, the body is rebuilt
- * from the other units of its group. The store is not changed; out is written only when 0 is
- * returned.
+ * Writes the field of a key, its body and its stamp, to out; out_len is 20. Where the key's unit is
+ * out, the field is rebuilt from the other units of its group. The store is not changed; out is
+ * written only when 0 is returned.
  * Returns 0, 1, 2, 6 or 8.
  */
 uint8_t lhrs_read(const uint8_t *store, size_t len, uint32_t key, uint8_t *out, size_t out_len);
 
 /*
- * Writes all records to out, key (big-endian) and body, LHRS_RECORD bytes each, by unit and then in
- * the order of the unit; the bodies of units that are out are rebuilt. count becomes the number of
- * records written, 0 when refused. out must hold all of them, and may be longer: what lies behind
- * them is not written. The store is not changed; out is written only when 0 is returned.
+ * Writes all records to out, key (big-endian) and field, LHRS_RECORD bytes each, by unit and then
+ * in the order of the unit; the fields of units that are out are rebuilt. count becomes the number
+ * of records written, 0 when refused. out must hold all of them, and may be longer: what lies
+ * behind them is not written. The store is not changed; out is written only when 0 is returned.
  * Returns 0, 1, 7 or 8.
  */
 uint8_t lhrs_list(const uint8_t *store, size_t len, uint8_t *out, size_t out_len, size_t *count);
@@ -158,8 +217,8 @@ uint8_t lhrs_out(uint8_t *store, size_t len, uint32_t unit);
 uint8_t lhrs_repair(uint8_t *store, size_t len, uint32_t group);
 
 /*
- * Adds a data unit, up to 16; an existing unit is split to fill it. A group that starts with it gets
- * as many check units as the level says.
+ * Adds a data unit, up to 16; an existing unit is split to fill it. A group that starts with it
+ * gets as many check units as the level says.
  * Returns 0, 1, 4 or 9.
  */
 uint8_t lhrs_grow(uint8_t *store, size_t len);
@@ -203,9 +262,9 @@ uint8_t lhrs_raise(uint8_t *store, size_t len);
 
 /*
  * Rebuilds all missing members of a segment from the first m present ones, and makes all marks 1.
- * Present members are not changed, nor compared with what the first m of them give. With none missing
- * it is granted and changes nothing. marks_len is the number of members, and members_len that number
- * times their length. When it refuses, it changes no member and no mark.
+ * Present members are not changed, nor compared with what the first m of them give. With none
+ * missing it is granted and changes nothing. marks_len is the number of members, and members_len
+ * that number times their length. When it refuses, it changes no member and no mark.
  * Returns 0, 2 or 8.
  */
 uint8_t lhrs_rebuild_segment(uint8_t *members, size_t members_len, uint8_t *marks,

@@ -1,8 +1,9 @@
 /*
- * What include/lhrs.h says and the other tests do not show: a pointer with length 0 may be null, and
- * what its macros read, the check units of each group by the level too; keys numbered in sixteens lie
- * in different units; the limits of a segment, which numbers it is refused with, and how it is made
- * and rebuilt. It is C99 and C++98. Build and run it with tests/header.
+ * What include/lhrs.h says and the other tests do not show: a pointer with length 0 may be null,
+ * and what its macros read, the check units of each group by the level too; widths; what its inline
+ * functions make of a field and of a record, and that a stamp comes back as it was given; keys
+ * numbered in sixteens lie in different units; the limits of a segment, which numbers it is refused
+ * with, and how it is made and rebuilt. It is C99 and C++98. Build and run it with tests/header.
  */
 #include "lhrs.h"
 
@@ -13,7 +14,7 @@
 #define SLOTS 2u
 
 static uint8_t store[LHRS_LENGTH(SLOTS)];
-static uint8_t body[LHRS_BODY];
+static uint8_t field[LHRS_FIELD];
 
 /* Stops where a number is not the expected one. */
 static void expect(const char *what, size_t number, size_t expected)
@@ -24,18 +25,18 @@ static void expect(const char *what, size_t number, size_t expected)
     }
 }
 
-/* No store, no body, no output: the numbers of the table. */
+/* No store, no field, no output: the numbers of the table. */
 static void null_blocks(void)
 {
     size_t count = 99;
     expect("lay out", lhrs_lay_out(NULL, 0, SLOTS), LHRS_NO_ROOM);
     expect("lay out, b = 0", lhrs_lay_out(NULL, 0, 0), LHRS_BAD_ARGUMENT);
-    expect("teach", lhrs_teach(NULL, 0, 1, body, LHRS_BODY), LHRS_NOT_SOUND);
-    expect("teach, no body", lhrs_teach(store, sizeof store, 1, NULL, 0), LHRS_BAD_ARGUMENT);
-    expect("correct", lhrs_correct(NULL, 0, 1, body, LHRS_BODY), LHRS_NOT_SOUND);
-    expect("correct, no body", lhrs_correct(store, sizeof store, 1, NULL, 0), LHRS_BAD_ARGUMENT);
+    expect("teach", lhrs_teach(NULL, 0, 1, field, LHRS_FIELD), LHRS_NOT_SOUND);
+    expect("teach, no field", lhrs_teach(store, sizeof store, 1, NULL, 0), LHRS_BAD_ARGUMENT);
+    expect("correct", lhrs_correct(NULL, 0, 1, field, LHRS_FIELD), LHRS_NOT_SOUND);
+    expect("correct, no field", lhrs_correct(store, sizeof store, 1, NULL, 0), LHRS_BAD_ARGUMENT);
     expect("erase", lhrs_erase(NULL, 0, 1), LHRS_NOT_SOUND);
-    expect("read", lhrs_read(NULL, 0, 1, body, LHRS_BODY), LHRS_NOT_SOUND);
+    expect("read", lhrs_read(NULL, 0, 1, field, LHRS_FIELD), LHRS_NOT_SOUND);
     expect("read, no output", lhrs_read(store, sizeof store, 1, NULL, 0), LHRS_BAD_ARGUMENT);
     expect("list", lhrs_list(NULL, 0, NULL, 0, &count), LHRS_NOT_SOUND);
     expect("count of a refused list", count, 0);
@@ -52,7 +53,7 @@ static void list_into_nothing(void)
     size_t count = 99;
     expect("list of none", lhrs_list(store, sizeof store, NULL, 0, &count), LHRS_GRANTED);
     expect("count of none", count, 0);
-    expect("teach", lhrs_teach(store, sizeof store, 1, body, LHRS_BODY), LHRS_GRANTED);
+    expect("teach", lhrs_teach(store, sizeof store, 1, field, LHRS_FIELD), LHRS_GRANTED);
     count = 99;
     expect("list of one", lhrs_list(store, sizeof store, NULL, 0, &count), LHRS_NO_ROOM);
     expect("count of a refused list", count, 0);
@@ -118,15 +119,193 @@ static void raise_everywhere(void)
 /* A store that says another version is not sound. */
 static void other_version(void)
 {
-    expect("version", store[0], 3);
-    store[0] = 2;
-    expect("raise, version 2", lhrs_raise(store, sizeof store), LHRS_NOT_SOUND);
-    store[0] = 3;
-    expect("grow, version 3", lhrs_grow(store, sizeof store), LHRS_GRANTED);
+    static const uint8_t others[] = {0, 1, 2, 3, 5};
+    size_t i;
+    expect("version", store[0], 4);
+    for (i = 0; i < sizeof others; i++) {
+        store[0] = others[i];
+        expect("grow, another version", lhrs_grow(store, sizeof store), LHRS_NOT_SOUND);
+    }
+    store[0] = 4;
+    expect("grow, version 4", lhrs_grow(store, sizeof store), LHRS_GRANTED);
 }
 
-/* Four units of two slots have room for 16 to 128, two in each unit by their digit sums; 144 lies in
-   unit 1 with 16 and 80. */
+/* The bytes of a record's parts and of a store, and what a store of one slot needs. */
+static void widths(void)
+{
+    static uint8_t block[LHRS_LENGTH(1)];
+    expect("bytes of a body", LHRS_BODY, 16);
+    expect("bytes of a stamp", LHRS_STAMP, 4);
+    expect("bytes of a field", LHRS_FIELD, 20);
+    expect("bytes of a key", LHRS_KEY, 4);
+    expect("bytes of a record", LHRS_RECORD, 24);
+    expect("bytes of the smallest store", LHRS_LENGTH(1), 852);
+    expect("bytes of the largest store", LHRS_LENGTH(64), 52260);
+    expect("lay out, 851 bytes", lhrs_lay_out(block, 851, 1), LHRS_NO_ROOM);
+    expect("a byte when refused", block[0], 0);
+    expect("lay out, 852 bytes", lhrs_lay_out(block, 852, 1), LHRS_GRANTED);
+    expect("lay out, b = 65", lhrs_lay_out(block, 852, 65), LHRS_BAD_ARGUMENT);
+}
+
+/* Stamps with their bytes. */
+static const struct {
+    uint32_t stamp;
+    uint8_t bytes[LHRS_STAMP];
+} stamps[] = {
+    {0, {0, 0, 0, 0}},
+    {1, {0, 0, 0, 1}},
+    {0x01020304, {0x01, 0x02, 0x03, 0x04}},
+    {0x80000000, {0x80, 0x00, 0x00, 0x00}},
+    {0xFFFFFFFF, {0xFF, 0xFF, 0xFF, 0xFF}}
+};
+#define STAMPS (sizeof stamps / sizeof stamps[0])
+
+/* A field is the body, then the bytes of the stamp; the bytes around it are not written. */
+static void fields_made_and_taken_apart(void)
+{
+    uint8_t body[LHRS_BODY], room[1 + LHRS_FIELD + 1];
+    uint8_t *made = room + 1;
+    size_t i;
+    for (i = 0; i < LHRS_BODY; i++)
+        body[i] = (uint8_t)(0x41 + i);
+    for (i = 0; i < STAMPS; i++) {
+        memset(room, 0xEE, sizeof room);
+        lhrs_field_fill(made, body, stamps[i].stamp);
+        expect("the body's bytes", memcmp(made, body, LHRS_BODY) == 0, 1);
+        expect("the stamp's bytes", memcmp(made + LHRS_BODY, stamps[i].bytes, LHRS_STAMP) == 0, 1);
+        expect("the bytes around", room[0] == 0xEE && room[1 + LHRS_FIELD] == 0xEE, 1);
+        expect("the body is the field's front", lhrs_field_body(made) == made, 1);
+        expect("the stamp", lhrs_field_stamp(made), stamps[i].stamp);
+    }
+}
+
+/* A record is the bytes of its key, then its field. */
+static void records_taken_apart(void)
+{
+    uint8_t record[LHRS_RECORD] = {0xFE, 0xDC, 0xBA, 0x98};
+    record[4 + 16] = 0x12;
+    record[4 + 19] = 0x34;
+    expect("the key", lhrs_record_key(record), 0xFEDCBA98);
+    expect("the field is behind the key", lhrs_record_field(record) == record + 4, 1);
+    expect("the stamp of a record", lhrs_field_stamp(lhrs_record_field(record)), 0x12000034);
+}
+
+/* A field and an output of read have 20 bytes. */
+static void other_lengths(void)
+{
+    static const size_t others[] = {0, 16, 19, 21, 24};
+    uint8_t longer[24] = {0};
+    size_t i;
+    expect("lay out", lhrs_lay_out(store, sizeof store, SLOTS), LHRS_GRANTED);
+    expect("teach", lhrs_teach(store, sizeof store, 1, longer, 20), LHRS_GRANTED);
+    for (i = 0; i < sizeof others / sizeof others[0]; i++) {
+        const size_t len = others[i];
+        expect("teach, another length", lhrs_teach(store, sizeof store, 2, longer, len),
+               LHRS_BAD_ARGUMENT);
+        expect("correct, another length", lhrs_correct(store, sizeof store, 1, longer, len),
+               LHRS_BAD_ARGUMENT);
+        expect("read, another length", lhrs_read(store, sizeof store, 1, longer, len),
+               LHRS_BAD_ARGUMENT);
+    }
+    expect("correct", lhrs_correct(store, sizeof store, 1, longer, 20), LHRS_GRANTED);
+    expect("read", lhrs_read(store, sizeof store, 1, longer, 20), LHRS_GRANTED);
+}
+
+/* The field that these tests give to a key, with a stamp. */
+static void field_of(uint8_t *made, uint32_t key, uint32_t stamp)
+{
+    uint8_t body[LHRS_BODY];
+    memset(body, 0x40 + (int)key, sizeof body);
+    lhrs_field_fill(made, body, stamp);
+}
+
+static uint32_t stamp_read(uint32_t key)
+{
+    uint8_t out[LHRS_FIELD];
+    expect("read", lhrs_read(store, sizeof store, key, out, sizeof out), LHRS_GRANTED);
+    return lhrs_field_stamp(out);
+}
+
+/* A correct takes any stamp after any other, earlier ones too. */
+static void stamps_not_compared(void)
+{
+    uint8_t made[LHRS_FIELD];
+    size_t before, after;
+    expect("lay out", lhrs_lay_out(store, sizeof store, SLOTS), LHRS_GRANTED);
+    field_of(made, 1, 0);
+    expect("teach", lhrs_teach(store, sizeof store, 1, made, sizeof made), LHRS_GRANTED);
+    for (before = 0; before < STAMPS; before++) {
+        for (after = 0; after < STAMPS; after++) {
+            field_of(made, 1, stamps[before].stamp);
+            expect("correct", lhrs_correct(store, sizeof store, 1, made, sizeof made),
+                   LHRS_GRANTED);
+            field_of(made, 1, stamps[after].stamp);
+            expect("correct to any stamp",
+                   lhrs_correct(store, sizeof store, 1, made, sizeof made), LHRS_GRANTED);
+            expect("the stamp corrected", stamp_read(1), stamps[after].stamp);
+        }
+    }
+}
+
+#define TAUGHT 8u
+
+/* The eight keys of the store read and are listed with their bodies and these stamps. */
+static void as_taught(const uint32_t *stamp_of)
+{
+    uint8_t records[TAUGHT * LHRS_RECORD], out[LHRS_FIELD], due[LHRS_FIELD];
+    size_t count, i;
+    uint32_t key;
+    for (key = 1; key <= TAUGHT; key++) {
+        field_of(due, key, stamp_of[key - 1]);
+        expect("read", lhrs_read(store, sizeof store, key, out, sizeof out), LHRS_GRANTED);
+        expect("body and stamp read", memcmp(out, due, sizeof due) == 0, 1);
+    }
+    expect("list", lhrs_list(store, sizeof store, records, sizeof records, &count), LHRS_GRANTED);
+    expect("count", count, TAUGHT);
+    for (i = 0; i < count; i++) {
+        key = lhrs_record_key(records + i * LHRS_RECORD);
+        expect("a key listed", key >= 1 && key <= TAUGHT, 1);
+        field_of(due, key, stamp_of[key - 1]);
+        expect("body and stamp listed",
+               memcmp(lhrs_record_field(records + i * LHRS_RECORD), due, sizeof due) == 0, 1);
+    }
+}
+
+/* Four units of two slots at level 2, with keys 1 to 8; key 5 is corrected to an earlier stamp. Any
+   two units of the six may be lost: stamps are rebuilt by read, by list and by repair. */
+static void stamps_come_back(void)
+{
+    static const unsigned units[] = {0, 1, 2, 3, LHRS_CHECK_UNIT(0, 0), LHRS_CHECK_UNIT(0, 1)};
+    uint32_t stamp_of[TAUGHT] = {1000, 0, 0xFFFFFFFF, 0x01020304, 7, 0x80000000, 0x00FF00FF, 1};
+    uint8_t made[LHRS_FIELD];
+    uint32_t key;
+    size_t i, j;
+    expect("lay out", lhrs_lay_out(store, sizeof store, SLOTS), LHRS_GRANTED);
+    while (LHRS_UNITS(store) < 4)
+        expect("grow", lhrs_grow(store, sizeof store), LHRS_GRANTED);
+    expect("raise", lhrs_raise(store, sizeof store), LHRS_GRANTED);
+    for (key = 1; key <= TAUGHT; key++) {
+        field_of(made, key, stamp_of[key - 1]);
+        expect("teach", lhrs_teach(store, sizeof store, key, made, sizeof made), LHRS_GRANTED);
+    }
+    as_taught(stamp_of);
+    stamp_of[5 - 1] = 6;
+    field_of(made, 5, stamp_of[5 - 1]);
+    expect("correct", lhrs_correct(store, sizeof store, 5, made, sizeof made), LHRS_GRANTED);
+    as_taught(stamp_of);
+    for (i = 0; i < sizeof units / sizeof units[0]; i++) {
+        for (j = 0; j < i; j++) {
+            expect("out", lhrs_out(store, sizeof store, units[i]), LHRS_GRANTED);
+            expect("out", lhrs_out(store, sizeof store, units[j]), LHRS_GRANTED);
+            as_taught(stamp_of);
+            expect("repair", lhrs_repair(store, sizeof store, 0), LHRS_GRANTED);
+            as_taught(stamp_of);
+        }
+    }
+}
+
+/* Four units of two slots have room for 16 to 128, two in each unit by their digit sums; 144 lies
+   in unit 1 with 16 and 80. */
 static void posts_in_sixteens(void)
 {
     static const uint8_t listed[] = {64, 128, 16, 80, 32, 96, 48, 112};
@@ -135,14 +314,16 @@ static void posts_in_sixteens(void)
     expect("lay out", lhrs_lay_out(store, sizeof store, SLOTS), LHRS_GRANTED);
     while (LHRS_UNITS(store) < 4)
         expect("grow", lhrs_grow(store, sizeof store), LHRS_GRANTED);
-    for (i = 1; i <= sizeof listed; i++)
-        expect("teach a post", lhrs_teach(store, sizeof store, 16 * (uint32_t)i, body, LHRS_BODY),
+    for (i = 1; i <= sizeof listed; i++) {
+        const uint32_t post = 16 * (uint32_t)i;
+        expect("teach a post", lhrs_teach(store, sizeof store, post, field, LHRS_FIELD),
                LHRS_GRANTED);
-    expect("teach 144", lhrs_teach(store, sizeof store, 144, body, LHRS_BODY), LHRS_NO_ROOM);
+    }
+    expect("teach 144", lhrs_teach(store, sizeof store, 144, field, LHRS_FIELD), LHRS_NO_ROOM);
     expect("list", lhrs_list(store, sizeof store, records, sizeof records, &count), LHRS_GRANTED);
     expect("count", count, sizeof listed);
     for (i = 0; i < sizeof listed; i++)
-        expect("a key of the list", records[i * LHRS_RECORD + 3], listed[i]);
+        expect("a key of the list", lhrs_record_key(records + i * LHRS_RECORD), listed[i]);
 }
 
 /* Room for a member more than a segment has, each a byte longer than a member is. */
@@ -200,8 +381,9 @@ static void segment_numbers(void)
     expect("a mark when refused", marks[0], 255);
 }
 
-/* Data members 80 00 and 81 83. Member 2 is d0 + 2 (d0 + d1), byte by byte: 80 + 2 times 01 is 82, and
-   00 + 2 times 83 is 06 + 1D. Then both data members are lost, and rebuilt from members 2 and 3. */
+/* Data members 80 00 and 81 83. Member 2 is d0 + 2 (d0 + d1), byte by byte: 80 + 2 times 01 is 82,
+   and 00 + 2 times 83 is 06 + 1D. Then both data members are lost, and rebuilt from members 2 and
+   3. */
 static void segment_made_and_rebuilt(void)
 {
     static const uint8_t data[4] = {0x80, 0x00, 0x81, 0x83};
@@ -230,6 +412,12 @@ int main(void)
     reads(2, 2, LHRS_STATE_OUT);
     raise_everywhere();
     other_version();
+    widths();
+    fields_made_and_taken_apart();
+    records_taken_apart();
+    other_lengths();
+    stamps_not_compared();
+    stamps_come_back();
     posts_in_sixteens();
     null_segments();
     segment_limits();

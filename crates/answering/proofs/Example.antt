@@ -27,9 +27,9 @@ use Rattle.answering.proofs.ByLedger.{hallrun-by-ledger}
 
 computed : joined (saidBy none (linesOf (take textBytes exampleInput))) ≡ exampleOutput
 unfolding exampleInput exampleOutput lineOf textOf linesOf before joined saidBy answerBy historyAfter layoutNumber linesBy ledgerLines followed ledgerAfter
-    commandOf parsed readable digitsOf hasField lengthOf hexAt numberAt bytesAt entries digit printed numberLine decimal fieldLine recordLine hex hexBytes digitOf
-    final after answer reply output given fieldOf listing granted number refusals firstOf lost total beyondOf outsOf state isOut placed recordAt rankOf home
-    withRecords opened empty recordBytes bytes32 zeros unitOf address digitSum powerBelow splitPointer tab upd all first count sum pick
+    commandOf parsed readable digitsOf hasField lengthOf hexAt numberAt bytesAt entries digit printed numberLine decimal fieldLine recordLine hex hexBytes
+    digitOf final after answer reply output given fieldOf listing granted number refusals firstOf lost total beyondOf outsOf state isOut placed recordAt
+    rankOf home withRecords opened empty recordBytes bytes32 zeros unitOf address digitSum powerBelow splitPointer tab upd all first count sum pick
 computed = refl
 
 pub example : hallrun exampleInput ≡ exampleOutput

@@ -1,4 +1,4 @@
--- Document 01, "The program hallrun": its example, byte by byte. Assumes nothing.
+-- Document 01, "The program hallrun": its example, byte by byte, with a stamp of zeros behind each body (document 02, ask 4). Assumes nothing.
 use Prim.Native.Nat.{ℕ}
 use Prim.Native.Char.{code}
 use Prim.Native.String.{String, [] as empty, _∷_ as _then_}
@@ -15,7 +15,7 @@ lineOf s = textOf s ++ (10 ∷ [])
 unfoldable pub exampleInput : List ℕ
 exampleInput =
     lineOf "L 02"
-    ++ (lineOf "T 00000005 456E2041000000000000000000000000"
+    ++ (lineOf "T 00000005 456E204100000000000000000000000000000000"
     ++ (lineOf "P"
     ++ (lineOf "O 00"
     ++ (lineOf "R 00000005"
@@ -27,8 +27,8 @@ exampleOutput =
     lineOf "0"
     ++ (lineOf "0"
     ++ (lineOf "0"
-    ++ (lineOf "00 01 00000005 456E2041000000000000000000000000"
+    ++ (lineOf "00 01 00000005 456E204100000000000000000000000000000000"
     ++ (lineOf "0"
-    ++ (lineOf "0 456E2041000000000000000000000000"
+    ++ (lineOf "0 456E204100000000000000000000000000000000"
     ++ (lineOf "0"
     ++ lineOf "8"))))))

@@ -48,7 +48,7 @@ unfoldable pub afterAll : List ℕ → List (List ℕ) → List ℕ
 afterAll s [] = s
 afterAll s (l ∷ ls) = afterAll (after s l) ls
 
--- ---- the program: it reads at most 4,096 bytes of lines, and its store buffer, 45,092 bytes for 64 ranks, is all zero at the start
+-- ---- the program: it reads at most 4,096 bytes of lines, and its store buffer, 52,260 bytes for 64 ranks, is all zero at the start
 
 abbrev pub textBytes : ℕ
 textBytes = 4096

@@ -5,6 +5,7 @@ pub mod BodyLaws
 pub mod Four
 pub mod Parity
 pub mod ParityLaws
+pub mod CutLaws
 pub mod ExchangeLaws
 pub mod ScaledRow
 pub mod CheckRecord

@@ -1,15 +1,23 @@
--- The widths of a record's parts, in bytes (document 01, "Bytes of a store"). Every length that depends on one is given by these names.
+-- The widths of a record's parts, in bytes (document 01, "Bytes of a store"; document 02, ask 4). Every length that depends on one is given by
+-- these names.
 -- Assumes nothing.
 use Prim.Native.Nat.{ℕ, _+_, _*_}
 
--- a key, and a body
+-- a key
 abbrev pub keyBytes : ℕ
 keyBytes = 4
 
-abbrev pub fieldBytes : ℕ
-fieldBytes = 16
+-- a record's field: its body, and behind that its stamp
+abbrev pub bodyBytes : ℕ
+bodyBytes = 16
 
--- a slot: a key and a body
+abbrev pub stampBytes : ℕ
+stampBytes = 4
+
+abbrev pub fieldBytes : ℕ
+fieldBytes = bodyBytes + stampBytes
+
+-- a slot: a key and a field
 abbrev pub slotBytes : ℕ
 slotBytes = keyBytes + fieldBytes
 

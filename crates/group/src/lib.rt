@@ -19,11 +19,15 @@ ghost use Rattle.group.specs.Members.{checks, serves, next, firstFour};
 ghost use Rattle.group.specs.Rebuilding.{weighed};
 ghost use Rattle.group.specs.Four.{fourBodies};
 
-// The widths of a record's parts, in bytes: a key, a body, a slot, which has both, the four keys of a check record, and a check record, which has these
-// and a parity.
+// The widths of a record's parts, in bytes: a key; a field, which has a body and behind it a stamp; a slot, which has a key and a field; the four keys of
+// a check record, and a check record, which has these and the parity of four fields.
 pub const KEY: usize = 4;
 
-pub const FIELD: usize = 16;
+pub const BODY: usize = 16;
+
+pub const STAMP: usize = 4;
+
+pub const FIELD: usize = BODY + STAMP;
 
 pub const SLOT: usize = KEY + FIELD;
 
@@ -81,7 +85,7 @@ pub fn add_scaled(parity: &mut [u8], body: &[u8], symbol: u8, table: &[u8; 256])
     }
 }
 
-// A check record follows: the record at a place got this key, and its body this change. Both come by value: the compiler knows that they stand apart
+// A check record follows: the record at a place got this key, and its field this change. Both come by value: the compiler knows that they stand apart
 // from the record.
 pub fn follow(
     into: &mut [u8],

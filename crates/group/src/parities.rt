@@ -1,4 +1,4 @@
-// The parities of four bodies at check place 0 and at all three check places, by two rows of products, which a caller takes once and lends: every
+// The parities of four fields at check place 0 and at all three check places, by two rows of products, which a caller takes once and lends: every
 // byte times 8, and times 7.
 ghost use mathlib.Core.Path.{_≡_};
 ghost use Prim.Native.Nat.{_+_, _≤_, _<_};
@@ -57,8 +57,8 @@ fn mix(eights: &[u8; 256], sevens: &[u8; 256], a: u8, b: u8, c: u8, d: u8) -> u8
     eights[buffer::wide(a ^ b)] ^ sevens[buffer::wide(b ^ d)] ^ c
 }
 
-// The parity at check place 0 of the bodies that stand in s from a, b, c and d on, written from `to` on, behind them: so it needs no array of its own.
-// At another check place the parity is that of the bodies exchanged by pairs.
+// The parity at check place 0 of the fields that stand in s from a, b, c and d on, written from `to` on, behind them: so it needs no array of its own.
+// At another check place the parity is that of the fields exchanged by pairs.
 pub fn write_first(
     s: &mut [u8],
     to: usize,
@@ -81,7 +81,7 @@ pub fn write_first(
     }
 }
 
-// The parities of four bodies at the three check places. Check places 1 and 2 have the coefficients of check place 0 with the places exchanged by pairs.
+// The parities of four fields at the three check places. Check places 1 and 2 have the coefficients of check place 0 with the places exchanged by pairs.
 pub fn fill(
     x: &mut [u8],
     y: &mut [u8],
@@ -100,7 +100,7 @@ pub fn fill(
         × (now (z .exit) ≡ parity 2 (fourBodies (now (a .entry)) (now (b .entry)) (now (c .entry)) (now (d .entry)))) ⌝ }
 {
     let mut i = 0;
-    while i < super::FIELD {
+    while i < super::FIELD { // body and stamp
         let e = a[i];
         let f = b[i];
         let g = c[i];

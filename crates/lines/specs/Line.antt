@@ -1,5 +1,5 @@
 -- The lines that hallrun reads (document 01, "The program hallrun"): a letter, then, with nothing behind them, its arguments in capital
--- hexadecimal after single spaces, two digits, for keys eight, for fields 32. Assumes nothing.
+-- hexadecimal after single spaces, two digits, for keys eight, for fields 40: body, then stamp. Assumes nothing.
 use Prim.Native.Nat.{ℕ, _+_, _^_, _<_}
 use mathlib.Core.Path.{_≡_}
 use mathlib.Core.Bool.{Bool, true, false, _&&_, _||_}
@@ -41,7 +41,7 @@ written x =
     ∷ (pick (eqb (digitsOf (x .letter)) 0) [] (32 ∷ hex (digitsOf (x .letter)) (x .number))
     ++ pick (hasField (x .letter)) (32 ∷ hexBytes fieldBytes (x .field)) [])
 
--- the letter is one of these, the number has no more digits than its argument, and the field has 16 bytes, all zero where the line has no field
+-- the letter is one of these, the number has no more digits than its argument, and the field has its width, all zero where the line has no field
 pub record Proper (x : Line) : Type 0 where
   pub known : ltb (digitsOf (x .letter)) 9 ≡ true
   pub range : x .number < 16 ^ digitsOf (x .letter)

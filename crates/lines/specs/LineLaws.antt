@@ -264,7 +264,8 @@ parsed-proper l h =
       known = r .known;
       range = numberAt-lt l 2 (digitsOf (byte l 0)) (first-digits l r);
       long =
-          by-pick (λ s. length s ≡ fieldBytes) b (bytesAt l 11 fieldBytes) (zeros fieldBytes) (λ e. length-bytesAt l 11 fieldBytes) (λ e. length-zeros fieldBytes);
+          by-pick (λ s. length s ≡ fieldBytes) b (bytesAt l 11 fieldBytes) (zeros fieldBytes)
+          (λ e. length-bytesAt l 11 fieldBytes) (λ e. length-zeros fieldBytes);
       bytes = λ i q.
           by-pick
           (λ s. byte s i < 256)

@@ -12,7 +12,7 @@ use Rattle.model.specs.Layout.{view, slotAt, checkAt}
 use Rattle.model.specs.Reads.{firstCheck, listedKey}
 use Rattle.lookup.specs.Sized.{Sized}
 
--- where the keys of unit u stand while it is out: in the first check unit in service of its group, the others every 32 bytes behind the first
+-- where the keys of unit u stand while it is out: in the first check unit in service of its group, the others a check record apart behind the first
 abbrev pub keysAt : List ℕ → ℕ → ℕ
 keysAt s u = checkAt (byte s 5) (firstCheck (view s) (u / 4)) 0 + 4 * (u % 4)
 

@@ -180,11 +180,12 @@ own-slots s u n h l =
     part-part at (slotBytes * n) (slotBytes * r) slotBytes s inside ∙ ap (λ i. part i slotBytes s) place ∙ slot-part s u r ∙ slot-own s u r h)
 
 -- ---- the field of a whole slot
-pub field-own : (s : List ℕ) (u r : ℕ) → (byte s (8 + u) ≡ 2 → ⊥) → part (slotAt (byte s 5) u r + keyBytes) fieldBytes s ≡ drop keyBytes (wholeSlot (view s) u r)
+pub field-own : (s : List ℕ) (u r : ℕ) → (byte s (8 + u) ≡ 2 → ⊥)
+    → part (slotAt (byte s 5) u r + keyBytes) fieldBytes s ≡ drop keyBytes (wholeSlot (view s) u r)
 field-own s u r h = sym (drop-part (slotAt (byte s 5) u r) keyBytes fieldBytes s) ∙ ap (drop keyBytes) (slot-part s u r ∙ slot-own s u r h)
 
-pub field-out : {s : List ℕ} {u : ℕ} {members weights : List ℕ} → Recipe s u members weights → (r : ℕ) (field : List ℕ) → r < byte s 5 → r < listedFill (view s) u
-    → field ≡ weighed weights (λ i. holds (view s) (u / 4) r (getD members i 0)) → field ≡ drop keyBytes (wholeSlot (view s) u r)
+pub field-out : {s : List ℕ} {u : ℕ} {members weights : List ℕ} → Recipe s u members weights → (r : ℕ) (field : List ℕ) → r < byte s 5
+    → r < listedFill (view s) u → field ≡ weighed weights (λ i. holds (view s) (u / 4) r (getD members i 0)) → field ≡ drop keyBytes (wholeSlot (view s) u r)
 field-out {s} {u} recipe r field l k e =
     sym (drop-at (listedKey (view s) u r) field keyBytes (out-key-long (recipe .unit) r l (recipe .out)))
     ∙ ap (drop keyBytes) (slot-rebuilt recipe r field (listed-some (view s) u r k) (e ∙ field-rebuilt recipe r _ (λ i q. refl)))

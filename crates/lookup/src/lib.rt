@@ -24,7 +24,7 @@ ghost use Rattle.lookup.specs.Groups.{Recoverable, goneIn};
 ghost use Rattle.lookup.specs.Slots.{heldAt, Recipe};
 
 // The header of a store: what byte 0 holds, where the length, b, M, K and the states of data units and check units stand, and where the slots begin.
-pub const VERSION: u8 = 3;
+pub const VERSION: u8 = 4;
 
 pub const LENGTH_AT: usize = 1;
 
@@ -161,7 +161,7 @@ pub fn first_check(s: &[u8], g: u8) -> u8
     3 * g + 3
 }
 
-// Where c, the first check unit in service of its group, lists the keys of data unit u: the first, and each next one 32 bytes on.
+// Where c, the first check unit in service of its group, lists the keys of data unit u: the first, and each next one a check record on.
 pub fn keys_at(s: &[u8], u: u8, c: u8) -> usize
     requires { ⌜ Sized (now s) × (c ≡ firstCheck (view (now s)) (u / 4)) ⌝ }
     ensures { λ at. ⌜ at ≡ keysAt (now (s .entry)) u ⌝ }

@@ -1,26 +1,35 @@
 -- Demand 2, with nothing assumed. Its parts are shown in code and group, in the other files here, and, for histories, from the ledger's picture.
-use Prim.Native.Nat.{ℕ, _+_, _*_}
-use mathlib.Core.Path.{_≡_, sym, _∙_}
+use Prim.Native.Nat.{ℕ, _+_, _*_, _<_}
+use mathlib.Core.Path.{_≡_, sym, ap, _∙_}
 use mathlib.Core.List.{List}
 use native.Mathlib.Omega.{arith}
-use lib.ListN.{drop}
+use lib.ListN.{take, drop}
+use lib.Seq.{drop-drop, drop-at}
 use borrow.Author.Tests.{eq-eqb}
 use Rattle.code.specs.Columns.{FourColumns}
 use Rattle.code.specs.Fixing.{fixes}
 use Rattle.code.specs.Rebuilding.{answered, only, returned}
-use Rattle.group.specs.Parity.{parity}
+use Rattle.buffer.specs.Bytes.{bytes32, part}
+use Rattle.buffer.specs.Table.{tab}
+use Rattle.group.specs.Widths.{keysBytes, bodyBytes}
+use Rattle.group.specs.Parity.{bodyAt, parity}
+use Rattle.group.specs.ParityLaws.{at-ext}
+use Rattle.group.specs.CutLaws.{take-at-column, drop-at-column}
 use Rattle.group.specs.RebuildingLaws.{bodies-fixed, rebuilt-from-is, rebuilt-from-has, rebuilt-from-back}
-use Rattle.model.specs.Layout.{view, storeBytes}
+use Rattle.model.specs.Layout.{Store, view, storeBytes}
+use Rattle.model.specs.Field.{bodyOf}
+use Rattle.model.specs.FieldLaws.{stamp-bytes}
 use Rattle.model.specs.GrantedLayout.{Granted, layout-granted}
 use Rattle.model.specs.Numbers.{Call}
 use Rattle.model.specs.Perform.{layOutNumber}
-use Rattle.model.specs.Demand2.{HoldsLedger, SymbolsFixed, BodiesFixed, Demand2}
-use Rattle.model.specs.history.Ledger.{Ledger, opened, state}
+use Rattle.model.specs.Demand2.{HoldsLedger, CoversStamps, SymbolsFixed, BodiesFixed, Demand2}
+use Rattle.model.specs.history.Ledger.{Rec, Ledger, opened, recordAt, state}
 use Rattle.model.specs.history.Picture.{checkOver, picture}
 use Rattle.model.specs.history.Answers.{final}
 use Rattle.model.specs.history.Typed.{AllTyped}
 use Rattle.model.specs.history.Claims.{left}
-use Rattle.model.proofs.history.ledger.Valid.{Valid}
+use Rattle.model.proofs.history.ledger.Valid.{Goods, Valid}
+use Rattle.model.proofs.history.picture.Records.{length-keys}
 use Rattle.model.proofs.history.picture.Seen.{size-seen, cstate-is}
 use Rattle.model.proofs.history.picture.Listed.{check-kept}
 use Rattle.model.proofs.history.calls.Opened.{opened-valid}
@@ -38,12 +47,37 @@ picture-holds l rest h g j r hg hj hr e =
     check-kept l rest h g hg r (omega (arith, size-seen l rest h)) j hj
     (eq-eqb (state l (16 + (3 * g + j))) 1 (sym (cstate-is l rest h (3 * g + j) (omega arith)) ∙ e))
 
-in-histories : (s : List ℕ) (b : ℕ) → layOutNumber s b ≡ 0 → (cs : List Call) → AllTyped cs → HoldsLedger (view (left s b cs)) (final (opened b) cs)
-in-histories s b zero cs typed =
-    let a : Granted s b = layout-granted s b zero in
-    let rest : List ℕ = drop (storeBytes b) s in
-    rw (outlives s b zero cs typed .histories .pictured)
-    (picture-holds (final (opened b) cs) rest (run cs (opened b) rest (opened-valid b (a .least) (a .most)) typed .valid))
+-- the parity of fields is that of their bodies, and behind it that of their stamps
+covered : (v : Store) (l : Ledger) (g j r : ℕ) → Goods l → drop keysBytes (v .check (3 * g + j) r) ≡ bodyAt (4 + j) (λ p. recordAt l (4 * g + p) r .field)
+    → CoversStamps v l g j r
+unfolding bodyOf part
+covered v l g j r good e =
+    let fields : ℕ → List ℕ = λ p. recordAt l (4 * g + p) r .field in
+    record {
+      bodies = ap (take bodyBytes) e ∙ take-at-column bodyBytes (4 + j) fields;
+      stamps =
+          sym (drop-drop bodyBytes keysBytes (v .check (3 * g + j) r))
+          ∙ ap (drop bodyBytes) e
+          ∙ drop-at-column bodyBytes (4 + j) fields
+          ∙ at-ext (4 + j) _ _ (λ p _. sym (stamp-bytes (fields p) (good (4 * g + p) r .field)));
+    }
+
+module _ (s : List ℕ) (b : ℕ) (zero : layOutNumber s b ≡ 0) (cs : List Call) (typed : AllTyped cs) where
+  abbrev rest : List ℕ
+  rest = drop (storeBytes b) s
+
+  valid : Valid (final (opened b) cs)
+  valid = let a : Granted s b = layout-granted s b zero in run cs (opened b) rest (opened-valid b (a .least) (a .most)) typed .valid
+
+  in-histories : HoldsLedger (view (left s b cs)) (final (opened b) cs)
+  in-histories = rw (outlives s b zero cs typed .histories .pictured) (picture-holds (final (opened b) cs) rest valid)
+
+  covers-stamps : (g j r : ℕ) → g < 4 → j < 3 → r < view (left s b cs) .size → view (left s b cs) .cstate (3 * g + j) ≡ 1
+      → CoversStamps (view (left s b cs)) (final (opened b) cs) g j r
+  covers-stamps g j r hg hj hr e =
+      let records : ℕ → Rec = λ p. recordAt (final (opened b) cs) (4 * g + p) r in
+      covered (view (left s b cs)) (final (opened b) cs) g j r (valid .good)
+      (ap (drop keysBytes) (in-histories g j r hg hj hr e) ∙ drop-at (tab 4 (λ p. bytes32 (records p .key))) _ keysBytes (length-keys records))
 
 symbols-fixed : (cs : List ℕ) → FourColumns cs → SymbolsFixed cs
 symbols-fixed cs four = record { fixed = fixes cs (four .long) (four .low) (four .apart); returned = returned cs four }
@@ -62,6 +96,7 @@ demand-2 = record {
   hashed = linear-hashing;
   reached = units-reached;
   in-histories = in-histories;
+  covers-stamps = covers-stamps;
   made-anew = made-anew;
   symbols = symbols-fixed;
   bodies = bodies-are-fixed;

@@ -37,7 +37,7 @@ pub record Misused (s : List ℕ) : Type 0 where
   pub group-not-in-place : (g : ℕ) → g ≤ 3 → sound s ≡ true → unitsIn (view s) ≤ 4 * g → RefusedWith s 3 (repair g ∷ [])
   pub short : (x : List ℕ) → sound s ≡ true → lostIn (view s) ≡ false → length x < slotBytes * totalIn (view s) → RefusedWith s 7 (list x ∷ [])
 
--- reading in place, in any bytes: the store is as it was, and the part is the 16 bytes of a field, the one that read, given a buffer that fits, hands
+-- reading in place, in any bytes: the store is as it was, and the part is a whole field, body and stamp, the one that read, given a buffer that fits, hands
 -- back, or it is empty, exactly where that read would refuse or the key's unit is out
 pub record InPlace (s : List ℕ) (k : ℕ) : Type 0 where
   pub untouched : perform s (readInPlace k) .store ≡ s

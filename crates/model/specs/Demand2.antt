@@ -5,17 +5,19 @@ use mathlib.Core.Path.{_≡_}
 use mathlib.Core.List.{List, _++_, map}
 use mathlib.Core.Bool.{true}
 use lib.Dec.{ltb}
-use lib.ListN.{length, getD}
+use lib.ListN.{length, getD, drop}
 use Rattle.buffer.specs.Choice.{pick}
-use Rattle.buffer.specs.Bytes.{bytes32}
+use Rattle.buffer.specs.Bytes.{bytes32, part}
 use Rattle.buffer.specs.Table.{tab}
 use Rattle.code.specs.Matrix.{encode, within, Rebuilds}
 use Rattle.code.specs.Columns.{FourColumns}
+use Rattle.group.specs.Widths.{keysBytes, bodyBytes}
 use Rattle.group.specs.Body.{Bodies}
 use Rattle.group.specs.Parity.{bodyAt}
 use Rattle.group.specs.Rebuilding.{rebuiltFrom}
 use Rattle.model.specs.Units.{digitSum, unitOf}
 use Rattle.model.specs.Layout.{Store, view}
+use Rattle.model.specs.Field.{bodyOf, stampOf}
 use Rattle.model.specs.Numbers.{Call}
 use Rattle.model.specs.Perform.{layOutNumber}
 use Rattle.model.specs.MadeAnew.{MadeAnew}
@@ -41,6 +43,11 @@ pub record UnitsReached (m : ℕ) : Type 0 where
 abbrev pub HoldsLedger : Store → Ledger → Type 0
 HoldsLedger v l = (g j r : ℕ) → g < 4 → j < 3 → r < v .size → v .cstate (3 * g + j) ≡ 1
     → v .check (3 * g + j) r ≡ tab 4 (λ p. bytes32 (recordAt l (4 * g + p) r .key)) ++ bodyAt (4 + j) (λ p. recordAt l (4 * g + p) r .field)
+
+-- the parity covers body and stamp: its front is the bodies of the ledger's records at that column, and what stands behind is the bytes of their stamps
+pub record CoversStamps (v : Store) (l : Ledger) (g j r : ℕ) : Type 0 where
+  pub bodies : part keysBytes bodyBytes (v .check (3 * g + j) r) ≡ bodyAt (4 + j) (λ p. bodyOf (recordAt l (4 * g + p) r .field))
+  pub stamps : drop (keysBytes + bodyBytes) (v .check (3 * g + j) r) ≡ bodyAt (4 + j) (λ p. bytes32 (stampOf (recordAt l (4 * g + p) r .field)))
 
 -- symbols at four columns
 pub record SymbolsFixed (cs : List ℕ) : Type 0 where
@@ -68,6 +75,8 @@ pub record Demand2 : Type 0 where
   pub reached : (m : ℕ) → 1 ≤ m → m ≤ 16 → UnitsReached m
   -- "Check records are the group's records times the paper's matrix": in every history, and of every check unit that a call makes anew
   pub in-histories : (s : List ℕ) (b : ℕ) → layOutNumber s b ≡ 0 → (cs : List Call) → AllTyped cs → HoldsLedger (view (left s b cs)) (final (opened b) cs)
+  pub covers-stamps : (s : List ℕ) (b : ℕ) → layOutNumber s b ≡ 0 → (cs : List Call) → AllTyped cs → (g j r : ℕ) → g < 4 → j < 3
+      → r < view (left s b cs) .size → view (left s b cs) .cstate (3 * g + j) ≡ 1 → CoversStamps (view (left s b cs)) (final (opened b) cs) g j r
   pub made-anew : (s : List ℕ) → MadeAnew s
   -- "Four members under any four different columns fix the data, and rebuilding returns just that data": of symbols and of bodies of any width
   pub symbols : (cs : List ℕ) → FourColumns cs → SymbolsFixed cs

@@ -9,13 +9,13 @@ use Rattle.group.specs.Widths.{slotBytes, checkBytes}
 
 -- byte 0: the version
 abbrev pub version : ℕ
-version = 3
+version = 4
 
 -- version, length, b, M, K and the states of 16 data units and 12 check units
 abbrev pub headerBytes : ℕ
 headerBytes = 36
 
--- the whole store: 36 + 704b
+-- the whole store: 36 + 816b
 abbrev pub storeBytes : ℕ → ℕ
 storeBytes b = headerBytes + (16 * slotBytes + 12 * checkBytes) * b
 

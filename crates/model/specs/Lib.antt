@@ -2,6 +2,8 @@ pub mod Units
 pub mod UnitLaws
 pub mod DigitLaws
 pub mod Layout
+pub mod Field
+pub mod FieldLaws
 pub mod Places
 pub mod Parts
 pub mod RunLaws

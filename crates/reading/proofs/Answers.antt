@@ -82,7 +82,7 @@ module _ (s : List ℕ) (k : ℕ) where
       let here : [] ≡ part (placeIn s k .at) (placeIn s k .size) s = sym (ap (λ (q : Place). part (q .at) (q .size) s) e) in
       (lent-part [] here, (here, λ h. absurd (omega arith)))
 
-  -- or the 16 bytes behind the key of a slot
+  -- or the field behind the key of a slot
   pub lent-field : (block o slot at : ℕ) → placeIn s k ≡ record { at = slot + keyBytes; size = fieldBytes } → at ≡ slot
       → (outcome (lent (take (at + slotBytes - (at + 4)) (drop (at + 4) s))) s ≡ perform s (Call.readInPlace k))
       × ((take (at + slotBytes - (at + 4)) (drop (at + 4) s) ≡ part (placeIn s k .at) (placeIn s k .size) s)

@@ -85,7 +85,7 @@ fn copy_field(s: &[u8], u: u8, r: u8, out: &mut [u8])
     }
 }
 
-// Reads the field of a key into a buffer of 16 bytes.
+// Reads the field of a key, body and stamp, into a buffer of its width.
 pub fn read(s: &[u8], key: u32, out: &mut [u8]) -> u8
     ensures { λ r. ⌜ outcome (copied r (now (out .exit))) (now (s .entry)) ≡ perform (now (s .entry)) (Call.read key (now (out .entry))) ⌝ }
 {
@@ -229,7 +229,7 @@ fn write_records(
     }
 }
 
-// Writes key and field of every record, 20 bytes each, by unit and then rank; bytes behind are not written.
+// Writes key and field of every record, one slot each, by unit and then rank; bytes behind are not written.
 pub fn list(s: &[u8], out: &mut [u8]) -> Listing
     ensures { λ r. ⌜ outcome (listed (r .number) (r .count) (now (out .exit))) (now (s .entry)) ≡ perform (now (s .entry)) (Call.list (now (out .entry))) ⌝ }
 {

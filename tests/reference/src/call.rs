@@ -1,13 +1,14 @@
 //! The calls of a store with their arguments, and what they answer.
 
+use crate::record::FIELD;
 use std::fmt;
 
 /// One call. The lengths of the lent slices are arguments too.
 #[derive(Clone, Debug, PartialEq, Eq)]
 pub enum Call {
     LayOut { b: u32 },
-    Teach { key: u32, body: Vec<u8> },
-    Correct { key: u32, body: Vec<u8> },
+    Teach { key: u32, field: Vec<u8> },
+    Correct { key: u32, field: Vec<u8> },
     Erase { key: u32 },
     Read { key: u32, out: usize },
     ReadInPlace { key: u32 },
@@ -24,9 +25,9 @@ pub enum Call {
 pub enum Answer {
     /// The number alone.
     Number(u8),
-    /// The number of a read, and the body where it is granted.
-    Read(u8, Option<[u8; 16]>),
-    /// The part of read in place: a body or nothing.
+    /// The number of a read, and the field where it is granted.
+    Read(u8, Option<[u8; FIELD]>),
+    /// The part of read in place: a field or nothing.
     Part(Vec<u8>),
     /// Number and count of a list, and the bytes written.
     List(u8, u32, Vec<u8>),
@@ -95,9 +96,9 @@ impl Call {
     /// Whether a line of hallrun can say it.
     pub fn has_line(&self) -> bool {
         match self {
-            Call::Teach { body, .. } | Call::Correct { body, .. } => body.len() == 16,
+            Call::Teach { field, .. } | Call::Correct { field, .. } => field.len() == FIELD,
             Call::LayOut { b: n } | Call::Out { unit: n } | Call::Repair { group: n } => *n <= 255,
-            Call::Read { out, .. } => *out == 16,
+            Call::Read { out, .. } => *out == FIELD,
             Call::ReadInPlace { .. } => false,
             _ => true,
         }
@@ -114,10 +115,10 @@ impl fmt::Display for Call {
     fn fmt(&self, f: &mut fmt::Formatter) -> fmt::Result {
         match self {
             Call::LayOut { b } => write!(f, "L {b:02X}"),
-            Call::Teach { key, body } => write!(f, "T {key:08X} {}", hex(body)),
-            Call::Correct { key, body } => write!(f, "C {key:08X} {}", hex(body)),
+            Call::Teach { key, field } => write!(f, "T {key:08X} {}", hex(field)),
+            Call::Correct { key, field } => write!(f, "C {key:08X} {}", hex(field)),
             Call::Erase { key } => write!(f, "E {key:08X}"),
-            Call::Read { key, out: 16 } => write!(f, "R {key:08X}"),
+            Call::Read { key, out: FIELD } => write!(f, "R {key:08X}"),
             Call::Read { key, out } => write!(f, "R {key:08X} (output of {out} bytes)"),
             Call::ReadInPlace { key } => write!(f, "read in place {key:08X}"),
             Call::List { out } => write!(f, "P (output of {out} bytes)"),

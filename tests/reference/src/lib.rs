@@ -1,8 +1,10 @@
 //! A second implementation of the record store and of the byte coder beside it, written from document
 //! 01, the requests of document 02 that have landed, and the readings of both in docs/DECISIONS.md.
 //!
-//! `ledger` and `store` are independent of each other: each has its own field arithmetic, its own
-//! coefficients and its own addressing rule. The tests hold them to each other.
+//! `ledger` and `store` are independent of each other: each has its own products of symbols, its
+//! own coefficients and its own addressing rule. The tests hold them to each other.
+//!
+//! What they share is `call`, the calls with their arguments, and `record`, the widths of these.
 //!
 //! `segment` is the byte coder, by schoolbook arithmetic: products by the polynomial rule, inverses by
 //! search, and the polynomial through the members by Newton's divided differences. It shares nothing
@@ -14,5 +16,6 @@ pub mod generate;
 pub mod hallrun;
 pub mod ledger;
 pub mod random;
+pub mod record;
 pub mod segment;
 pub mod store;

@@ -5,9 +5,12 @@ use reference::compare::case::Step;
 use reference::generate::cases::damaged_case;
 use reference::generate::{history, losses, LOSSES};
 use reference::ledger::{digit_sum, split_unit, Ledger};
+use reference::record::{body_of, stamp_of, BODY, FIELD, KEY, STAMP};
 use reference::store;
-use reference::store::layout::{unit_of_number, View, VERSION};
+use reference::store::layout::{length, unit_of_number, View, HEADER, VERSION};
+use std::cmp::Ordering::{Equal, Greater, Less};
 use std::collections::{BTreeSet, HashSet};
+use std::ops::RangeInclusive;
 
 /// Every number that the table gives to a kind of call, but 1.
 const NUMBERS: [(Kind, &[u8]); 11] = [
@@ -29,7 +32,7 @@ type Reached = HashSet<(Kind, u8)>;
 /// Runs a history on both and adds the numbers that it reached.
 fn agree(calls: &[Call], reached: &mut Reached) {
     let Call::LayOut { b } = calls[0] else { panic!("a history starts with a layout") };
-    let length = 36 + 704 * b as usize;
+    let length = length(b as usize);
     let mut bytes = vec![0xEE; length + 10];
     let mut ledger = Ledger::open(b, bytes.len()).unwrap();
     assert_eq!(store::lay_out(&mut bytes, b), 0);
@@ -184,6 +187,77 @@ fn histories_fill_every_unit() {
     assert_eq!(same_sum, (0..16).collect());
 }
 
+/// Kinds of stamps: 0, small, any with the highest bit 0 and with 1, and the largest.
+const STAMPS: [RangeInclusive<u32>; 5] =
+    [0..=0, 1..=1000, 1001..=0x7FFF_FFFF, 0x8000_0000..=u32::MAX - 1, u32::MAX..=u32::MAX];
+
+/// Teaches are granted with stamps of each kind, with an earlier stamp than the teach granted before
+/// and with a later one, and with a field of zeros.
+#[test]
+fn histories_teach_stamps_of_every_kind() {
+    let (mut kinds, mut orders) = (HashSet::new(), HashSet::new());
+    let mut zeros = false;
+    for seed in 0..400 {
+        let mut last = None;
+        walk(&history(seed), |ledger, call| {
+            let Call::Teach { field, .. } = call else { return };
+            if ledger.number(call) != 0 {
+                return;
+            }
+            let field: &[u8; FIELD] = field[..].try_into().unwrap();
+            let stamp = stamp_of(field);
+            kinds.extend(STAMPS.iter().filter(|kind| kind.contains(&stamp)));
+            orders.extend(last.replace(stamp).map(|last| stamp.cmp(&last)));
+            zeros |= *field == [0; FIELD];
+        });
+    }
+    assert_eq!(kinds, STAMPS.iter().collect());
+    assert!(orders.contains(&Less) && orders.contains(&Greater));
+    assert!(zeros);
+}
+
+/// Corrects are granted with an earlier stamp than the key's own, with the same and with a later one,
+/// each with the body kept and with another.
+#[test]
+fn histories_correct_to_stamps_of_every_kind() {
+    let mut met = HashSet::new();
+    for seed in 0..400 {
+        walk(&history(seed), |ledger, call| {
+            let Call::Correct { key, field } = call else { return };
+            if ledger.number(call) == 0 {
+                let old = ledger.find(*key).unwrap().field;
+                let new: &[u8; FIELD] = field[..].try_into().unwrap();
+                let kept = body_of(new) == body_of(&old);
+                met.insert((stamp_of(new).cmp(&stamp_of(&old)), kept));
+            }
+        });
+    }
+    let due = [Less, Equal, Greater].into_iter().flat_map(|order| [(order, true), (order, false)]);
+    assert_eq!(met, due.collect());
+}
+
+/// Teaches, corrects and reads come with fields and outputs of 19 and of 21 bytes, and with 16, a
+/// body alone.
+#[test]
+fn histories_lend_wrong_lengths() {
+    let mut met = HashSet::new();
+    for seed in 0..400 {
+        walk(&history(seed), |_, call| {
+            let length = match call {
+                Call::Teach { field, .. } | Call::Correct { field, .. } => field.len(),
+                Call::Read { out, .. } => *out,
+                _ => return,
+            };
+            met.insert((call.kind(), length));
+        });
+    }
+    for kind in [Kind::Teach, Kind::Correct, Kind::Read] {
+        for length in [BODY, 19, 20, 21] {
+            assert!(met.contains(&(kind, length)), "{kind:?}, {length} bytes");
+        }
+    }
+}
+
 #[test]
 fn every_choice_of_losses() {
     (0..LOSSES).for_each(|choice| agree(&losses(choice), &mut Reached::new()));
@@ -269,4 +343,58 @@ fn damaged_stores_tell_sums_from_keys() {
     for (by_sums, by_themselves) in [(true, false), (false, true)] {
         assert!(met.contains(&(2, by_sums, by_themselves)), "{by_sums}, {by_themselves}");
     }
+}
+
+/// Some damaged stores say version 1, 2, 3 or 5 and are sound but for that.
+#[test]
+fn damaged_stores_say_other_versions() {
+    let mut met = HashSet::new();
+    for index in 0..3000 {
+        let (mut bytes, _) = damaged(index, |_, _, _| {});
+        let Some(version) = bytes.first().copied() else { continue };
+        bytes[0] = VERSION;
+        if store::sound(&bytes) {
+            met.insert(version);
+        }
+    }
+    for version in [1, 2, 3, 5] {
+        assert!(met.contains(&version), "version {version}");
+    }
+}
+
+/// Widths of version 3, which had no stamps: a slot, a check record, and a rank of all units.
+const SLOT_3: usize = KEY + BODY;
+const CHECK_RECORD_3: usize = 4 * KEY + BODY;
+const RANK_3: usize = 704;
+
+/// A store of version 3 with stamps of 0 put in, and with the version and the length of today; None
+/// where the version or the length is another one.
+fn with_stamps(bytes: &[u8]) -> Option<Vec<u8>> {
+    let b = *bytes.get(5)? as usize;
+    let old_length = HEADER + RANK_3 * b;
+    let says = [&[3], &(old_length as u32).to_be_bytes()[..]].concat();
+    if bytes.len() < old_length || bytes[..says.len()] != says {
+        return None;
+    }
+    let (slots, records) = bytes[HEADER..old_length].split_at(16 * b * SLOT_3);
+    let stamped = |record: &[u8]| [record, &[0; STAMP]].concat();
+    let mut new = [&[VERSION], &(length(b) as u32).to_be_bytes()[..]].concat();
+    new.extend(&bytes[says.len()..HEADER]);
+    new.extend(slots.chunks_exact(SLOT_3).flat_map(stamped));
+    new.extend(records.chunks_exact(CHECK_RECORD_3).flat_map(stamped));
+    Some(new)
+}
+
+/// Some damaged stores are as version 3 had them: they become sound when stamps are put in. Some of
+/// these have records, and none is sound as it is.
+#[test]
+fn damaged_stores_are_as_version_3_had_them() {
+    let mut with_records = 0;
+    for index in 0..3000 {
+        let (bytes, _) = damaged(index, |_, _, _| {});
+        let Some(new) = with_stamps(&bytes).filter(|new| store::sound(new)) else { continue };
+        assert!(!store::sound(&bytes));
+        with_records += (View::new(&new).unwrap().count(0) > 0) as usize;
+    }
+    assert!(with_records > 0);
 }

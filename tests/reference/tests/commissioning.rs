@@ -1,27 +1,29 @@
-//! The commissioning values of document 01, values 7 and 8 with digit sums (document 02, request 2).
+//! The commissioning values of document 01, values 7 and 8 with digit sums (document 02, request 2),
+//! values 9 and 11 with the widths of request 4.
 
 use reference::ledger;
-use reference::store::layout::{check_at, unit_of};
-use reference::store::{
-    correct, field, grow, lay_out, matrix, raise, read, repair, teach, unit_out,
-};
+use reference::record::FIELD;
+use reference::store::field as gf16;
+use reference::store::layout::{length, parity_at, unit_of};
+use reference::store::{correct, grow, lay_out, matrix, raise, read, repair, teach, unit_out};
 
-fn body(start: &[u8]) -> Vec<u8> {
-    let mut body = start.to_vec();
-    body.resize(16, 0);
-    body
+/// A record's field whose body starts so; the rest and the stamp are zeros.
+fn field(start: &[u8]) -> Vec<u8> {
+    let mut field = start.to_vec();
+    field.resize(FIELD, 0);
+    field
 }
 
 fn laid_out(b: u32) -> Vec<u8> {
-    let mut bytes = vec![0; 36 + 704 * b as usize];
+    let mut bytes = vec![0; length(b as usize)];
     assert_eq!(lay_out(&mut bytes, b), 0);
     bytes
 }
 
 #[test]
 fn value_1_products() {
-    assert_eq!(field::product(0xA, 0xB), 2);
-    assert_eq!(field::product(0xA, field::inverse(0xB)), 4);
+    assert_eq!(gf16::product(0xA, 0xB), 2);
+    assert_eq!(gf16::product(0xA, gf16::inverse(0xB)), 4);
     assert_eq!(ledger::product(0xA, 0xB), 2);
 }
 
@@ -55,7 +57,7 @@ fn paper_store(raise_first: bool) -> Vec<u8> {
     }
     let texts = [b"En A", b"Am A", b"Dans", b"In p"];
     for (key, text) in [4, 1, 2, 3].into_iter().zip(texts) {
-        assert_eq!(teach(&mut bytes, key, &body(text)), 0);
+        assert_eq!(teach(&mut bytes, key, &field(text)), 0);
     }
     if !raise_first {
         assert_eq!(raise(&mut bytes), 0);
@@ -63,8 +65,9 @@ fn paper_store(raise_first: bool) -> Vec<u8> {
     bytes
 }
 
+/// The first four parity bytes of a check unit of the paper's store.
 fn parity(bytes: &[u8], check: usize) -> &[u8] {
-    &bytes[check_at(2, check, 0) + 16..][..4]
+    &bytes[parity_at(2, check, 0)..][..4]
 }
 
 #[test]
@@ -80,7 +83,7 @@ fn value_5_parity() {
 fn value_6_changed_parity() {
     for raise_first in [true, false] {
         let mut bytes = paper_store(raise_first);
-        assert_eq!(correct(&mut bytes, 4, &body(&[0x49, 0x6E, 0x20, 0x69])), 0);
+        assert_eq!(correct(&mut bytes, 4, &field(&[0x49, 0x6E, 0x20, 0x69])), 0);
         assert_eq!(parity(&bytes, 0), [0x45, 0x63, 0x6E, 0xD8]);
         assert_eq!(parity(&bytes, 1), [0x40, 0x6E, 0xDC, 0x3F]);
     }
@@ -96,34 +99,36 @@ fn values_7_and_8_units_of_keys() {
 
 #[test]
 fn value_9_slices() {
-    assert_eq!(lay_out(&mut [0xEE; 740], 1), 0);
-    let mut short = [0xEE; 739];
+    assert_eq!(lay_out(&mut [0xEE; 852], 1), 0);
+    let mut short = [0xEE; 851];
     assert_eq!(lay_out(&mut short, 1), 7);
-    assert_eq!(short, [0xEE; 739]);
-    assert_eq!(lay_out(&mut [0; 50_000], 65), 2);
-    assert_eq!(lay_out(&mut [0; 50_000], 0), 2);
+    assert_eq!(short, [0xEE; 851]);
+    assert_eq!(lay_out(&mut [0; 60_000], 65), 2);
+    assert_eq!(lay_out(&mut [0; 60_000], 0), 2);
 }
 
 #[test]
 fn value_10_losses() {
     let mut bytes = laid_out(1);
     assert_eq!([grow(&mut bytes), grow(&mut bytes)], [0, 0]);
-    assert_eq!(teach(&mut bytes, 1, &body(b"one")), 0);
+    assert_eq!(teach(&mut bytes, 1, &field(b"one")), 0);
     let before = bytes.clone();
     assert_eq!([unit_out(&mut bytes, 1), repair(&mut bytes, 0)], [0, 0]);
     assert_eq!(bytes, before);
     assert_eq!([unit_out(&mut bytes, 1), unit_out(&mut bytes, 0)], [0, 0]);
     let lost = bytes.clone();
     assert_eq!(repair(&mut bytes, 0), 8);
-    assert_eq!(read(&bytes, 1, &mut [0; 16]), 8);
+    assert_eq!(read(&bytes, 1, &mut [0; FIELD]), 8);
     assert_eq!(bytes, lost);
 }
 
 #[test]
-fn value_11_bodies() {
+fn value_11_fields() {
     let mut bytes = laid_out(1);
-    for length in [15, 17] {
+    for length in [19, 21] {
         assert_eq!(teach(&mut bytes, 1, &vec![0; length]), 2);
         assert_eq!(correct(&mut bytes, 1, &vec![0; length]), 2);
     }
+    assert_eq!(teach(&mut bytes, 1, &[0; 20]), 0);
+    assert_eq!(correct(&mut bytes, 1, &[0; 20]), 0);
 }

@@ -2,7 +2,8 @@
 
 use reference::call::{Answer, Call, Kind};
 use reference::generate::history;
-use reference::store::layout::{unit_range, View, IN_SERVICE, OUT};
+use reference::record::FIELD;
+use reference::store::layout::{length, unit_range, View, IN_SERVICE, OUT};
 use reference::store::{lay_out, perform, read, repair};
 use std::collections::{BTreeSet, HashMap};
 
@@ -14,7 +15,7 @@ struct Past {
 
 fn laid_out(calls: &[Call]) -> Vec<u8> {
     let Call::LayOut { b } = calls[0] else { panic!("a history starts with a layout") };
-    let mut bytes = vec![0; 36 + 704 * b as usize];
+    let mut bytes = vec![0; length(b as usize)];
     assert_eq!(lay_out(&mut bytes, b), 0);
     bytes
 }
@@ -104,21 +105,21 @@ fn equally_many_raises_leave_equally_many_check_units() {
     assert_eq!(met, all.collect());
 }
 
-/// The body of each key by its last granted teach, correct or erase.
+/// The field of each key by its last granted teach, correct or erase.
 fn taught(granted: &[Call]) -> HashMap<u32, Option<&[u8]>> {
-    let mut bodies = HashMap::new();
+    let mut fields = HashMap::new();
     for call in granted {
         match call {
-            Call::Teach { key, body } | Call::Correct { key, body } => {
-                bodies.insert(*key, Some(&body[..]));
+            Call::Teach { key, field } | Call::Correct { key, field } => {
+                fields.insert(*key, Some(&field[..]));
             }
             Call::Erase { key } => {
-                bodies.insert(*key, None);
+                fields.insert(*key, None);
             }
             _ => {}
         }
     }
-    bodies
+    fields
 }
 
 #[test]
@@ -130,7 +131,7 @@ fn keys_read_as_taught() {
         let others = 1..40;
         let keys = taught.keys().copied().chain(others).collect::<Vec<u32>>();
         for key in keys {
-            let answer = perform(&mut bytes, &Call::Read { key, out: 16 });
+            let answer = perform(&mut bytes, &Call::Read { key, out: FIELD });
             let view = View::new(&bytes).unwrap();
             let unit = view.unit_of(key);
             let due = if view.state(unit) == OUT && view.beyond_recovery(unit / 4) {
@@ -138,7 +139,7 @@ fn keys_read_as_taught() {
                 Answer::Read(8, None)
             } else {
                 match taught.get(&key) {
-                    Some(Some(body)) => Answer::Read(0, Some((*body).try_into().unwrap())),
+                    Some(Some(field)) => Answer::Read(0, Some((*field).try_into().unwrap())),
                     _ => Answer::Read(6, None),
                 }
             };
@@ -170,7 +171,7 @@ fn repair_says_8_only_beyond_recovery() {
 fn same_reads(before: View, after: &[u8], group: usize) {
     for unit in 4 * group..(4 * group + 4).min(before.units()) {
         for key in before.keys(unit).unwrap().into_iter().filter(|&key| key != 0) {
-            let (mut old, mut new) = ([0; 16], [0; 16]);
+            let (mut old, mut new) = ([0; FIELD], [0; FIELD]);
             assert_eq!(read(before.bytes, key, &mut old), 0);
             assert_eq!(read(after, key, &mut new), 0);
             assert_eq!(old, new);

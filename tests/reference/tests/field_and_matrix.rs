@@ -1,13 +1,13 @@
-//! The two implementations' fields, coefficients and addressing against each other.
+//! The two implementations' products of symbols, coefficients and addressing against each other.
 
 use reference::ledger;
-use reference::store::{field, layout, matrix};
+use reference::store::{field as gf16, layout, matrix};
 
 #[test]
 fn products_agree() {
     for a in 0..16 {
         for b in 0..16 {
-            assert_eq!(field::product(a, b), ledger::product(a, b), "{a} times {b}");
+            assert_eq!(gf16::product(a, b), ledger::product(a, b), "{a} times {b}");
         }
     }
 }

@@ -24,16 +24,17 @@ const NUMBERS: [(u8, &[u8]); 11] = [
 ];
 
 /// Values 9 to 11 of document 01 as far as lines can show them, each line with what it prints: b 65
-/// and b 1, bodies of 15 and 17 bytes, and at level 1 one unit out and two.
+/// and b 1, fields of 19 and 21 bytes and a body alone, and at level 1 one unit out and two.
 const VALUES_9_TO_11: &str = "
 L 41 > 2
 L 01 > 0
-T 00000001 000000000000000000000000000000 > 10
-T 00000001 0000000000000000000000000000000000 > 10
-T 00000001 4F6E6500000000000000000000000000 > 0
+T 00000001 00000000000000000000000000000000000000 > 10
+T 00000001 000000000000000000000000000000000000000000 > 10
+T 00000001 00000000000000000000000000000000 > 10
+T 00000001 4F6E650000000000000000000000000020260105 > 0
 O 00 > 0
 F 00 > 0
-R 00000001 > 0 4F6E6500000000000000000000000000
+R 00000001 > 0 4F6E650000000000000000000000000020260105
 O 00 > 0
 O 10 > 0
 F 00 > 8
@@ -51,7 +52,7 @@ K > 4
 F 00 > 0
 O 01 > 0
 O 02 > 0
-R 00000002 > 0 44616E73000000000000000000000000
+R 00000002 > 0 44616E7300000000000000000000000020260303
 F 00 > 0
 ",
     "
@@ -60,15 +61,15 @@ G > 0
 G > 0
 G > 0
 G > 0
-T 00000004 04040404040404040404040404040404 > 0
-T 00000005 05050505050505050505050505050505 > 0
+T 00000004 0404040404040404040404040404040420260404 > 0
+T 00000005 0505050505050505050505050505050520260505 > 0
 K > 0
 O 04 > 0
 O 05 > 0
-R 00000004 > 0 04040404040404040404040404040404
+R 00000004 > 0 0404040404040404040404040404040420260404
 K > 4
 F 01 > 0
-R 00000005 > 0 05050505050505050505050505050505
+R 00000005 > 0 0505050505050505050505050505050520260505
 ",
     "
 G > 9
@@ -76,7 +77,7 @@ K > 0
 O 08 > 0
 O 09 > 0
 O 16 > 0
-R FFFFFFFF > 0 FEDCBA98765432100123456789ABCDEF
+R FFFFFFFF > 0 FEDCBA98765432100123456789ABCDEF89ABCDEF
 K > 9
 F 02 > 0
 ",
@@ -87,56 +88,94 @@ F 02 > 0
 /// with those of value 8.
 const DIGIT_SUMS: [&str; 2] = [
     "
-T FFFFFFFF FFFFFFFFFFFFFFFFFFFFFFFFFFFFFFFF > 7
+T FFFFFFFF FFFFFFFFFFFFFFFFFFFFFFFFFFFFFFFFFFFFFFFF > 7
 P > 0
-00 01 00000010 10101010101010101010101010101010
-00 02 00000020 20202020202020202020202020202020
-00 03 00000030 30303030303030303030303030303030
-00 04 0000001F 1F1F1F1F1F1F1F1F1F1F1F1F1F1F1F1F
+00 01 00000010 1010101010101010101010101010101020260110
+00 02 00000020 2020202020202020202020202020202020260120
+00 03 00000030 3030303030303030303030303030303020260130
+00 04 0000001F 1F1F1F1F1F1F1F1F1F1F1F1F1F1F1F1F2026011F
 G > 0
-T FFFFFFFF FFFFFFFFFFFFFFFFFFFFFFFFFFFFFFFF > 0
+T FFFFFFFF FFFFFFFFFFFFFFFFFFFFFFFFFFFFFFFFFFFFFFFF > 0
 P > 0
-00 01 00000020 20202020202020202020202020202020
-00 02 0000001F 1F1F1F1F1F1F1F1F1F1F1F1F1F1F1F1F
-00 03 FFFFFFFF FFFFFFFFFFFFFFFFFFFFFFFFFFFFFFFF
-01 01 00000010 10101010101010101010101010101010
-01 02 00000030 30303030303030303030303030303030
+00 01 00000020 2020202020202020202020202020202020260120
+00 02 0000001F 1F1F1F1F1F1F1F1F1F1F1F1F1F1F1F1F2026011F
+00 03 FFFFFFFF FFFFFFFFFFFFFFFFFFFFFFFFFFFFFFFFFFFFFFFF
+01 01 00000010 1010101010101010101010101010101020260110
+01 02 00000030 3030303030303030303030303030303020260130
 G > 0
 G > 0
 P > 0
-00 01 0000001F 1F1F1F1F1F1F1F1F1F1F1F1F1F1F1F1F
-00 02 FFFFFFFF FFFFFFFFFFFFFFFFFFFFFFFFFFFFFFFF
-01 01 00000010 10101010101010101010101010101010
-02 01 00000020 20202020202020202020202020202020
-03 01 00000030 30303030303030303030303030303030
-T 000000F1 F1F1F1F1F1F1F1F1F1F1F1F1F1F1F1F1 > 0
-R 000000F1 > 0 F1F1F1F1F1F1F1F1F1F1F1F1F1F1F1F1
+00 01 0000001F 1F1F1F1F1F1F1F1F1F1F1F1F1F1F1F1F2026011F
+00 02 FFFFFFFF FFFFFFFFFFFFFFFFFFFFFFFFFFFFFFFFFFFFFFFF
+01 01 00000010 1010101010101010101010101010101020260110
+02 01 00000020 2020202020202020202020202020202020260120
+03 01 00000030 3030303030303030303030303030303020260130
+T 000000F1 F1F1F1F1F1F1F1F1F1F1F1F1F1F1F1F120260131 > 0
+R 000000F1 > 0 F1F1F1F1F1F1F1F1F1F1F1F1F1F1F1F120260131
 R 000000E2 > 6
 S > 0
 P > 0
-00 01 0000001F 1F1F1F1F1F1F1F1F1F1F1F1F1F1F1F1F
-00 02 FFFFFFFF FFFFFFFFFFFFFFFFFFFFFFFFFFFFFFFF
-00 03 000000F1 F1F1F1F1F1F1F1F1F1F1F1F1F1F1F1F1
-01 01 00000010 10101010101010101010101010101010
-01 02 00000030 30303030303030303030303030303030
-02 01 00000020 20202020202020202020202020202020
+00 01 0000001F 1F1F1F1F1F1F1F1F1F1F1F1F1F1F1F1F2026011F
+00 02 FFFFFFFF FFFFFFFFFFFFFFFFFFFFFFFFFFFFFFFFFFFFFFFF
+00 03 000000F1 F1F1F1F1F1F1F1F1F1F1F1F1F1F1F1F120260131
+01 01 00000010 1010101010101010101010101010101020260110
+01 02 00000030 3030303030303030303030303030303020260130
+02 01 00000020 2020202020202020202020202020202020260120
 ",
     "
 P > 0
-01 01 00000010 00000000000000000000000000000002
-02 01 8000000A 00000000000000000000000000000003
-04 01 00000004 04040404040404040404040404040404
-05 01 00000005 05050505050505050505050505050505
-08 01 FFFFFFFF FEDCBA98765432100123456789ABCDEF
-0F 01 0000000F 00000000000000000000000000000001
+01 01 00000010 0000000000000000000000000000000200000002
+02 01 8000000A 0000000000000000000000000000000380000000
+04 01 00000004 0404040404040404040404040404040420260404
+05 01 00000005 0505050505050505050505050505050520260505
+08 01 FFFFFFFF FEDCBA98765432100123456789ABCDEF89ABCDEF
+0F 01 0000000F 0000000000000000000000000000000100000001
+",
+];
+
+/// Stamps: one corrected with its body and one alone, both to earlier ones, read with their units out
+/// and listed and read after a repair; and a field of zeros, which is read like any other.
+const STAMPS: [&str; 4] = [
+    "
+T 00000004 456E204100000000000000000000000020260301 > 0
+T 00000001 416D204100000000000000000000000020260302 > 0
+T 00000002 44616E7300000000000000000000000020260303 > 0
+T 00000003 496E207000000000000000000000000020260304 > 0
+C 00000004 496E206900000000000000000000000020260228 > 0
+",
+    "
+C 00000001 416D204100000000000000000000000020251231 > 0
+O 01 > 0
+R 00000001 > 0 416D204100000000000000000000000020251231
+F 00 > 0
+R 00000001 > 0 416D204100000000000000000000000020251231
+",
+    "
+O 00 > 0
+O 01 > 0
+O 02 > 0
+K > 9
+P > 0
+00 01 00000004 496E206900000000000000000000000020260228
+00 02 0000001F 0000000000000000000000000000000000000000
+00 03 0000000C 000102030405060708090A0B0C0D0E0F10111213
+01 01 00000001 416D204100000000000000000000000020251231
+01 02 00000005 0123456789ABCDEF0123456789ABCDEF01234567
+02 01 00000002 44616E7300000000000000000000000020260303
+03 01 00000003 496E207000000000000000000000000020260304
+R 00000004 > 0 496E206900000000000000000000000020260228
+",
+    "
+C 00000001 0000000000000000000000000000000000000000 > 0
+R 00000001 > 0 0000000000000000000000000000000000000000
 ",
 ];
 
 #[test]
 fn example() {
-    let input = b"L 02\nT 00000005 456E2041000000000000000000000000\nP\nO 00\nR 00000005\nO 10\nR 00000005\n";
-    let output = "0\n0\n0\n00 01 00000005 456E2041000000000000000000000000\n0\n\
-                  0 456E2041000000000000000000000000\n0\n8\n";
+    let input = b"L 02\nT 00000005 456E204100000000000000000000000000000000\nP\nO 00\nR 00000005\nO 10\nR 00000005\n";
+    let output = "0\n0\n0\n00 01 00000005 456E204100000000000000000000000000000000\n0\n\
+                  0 456E204100000000000000000000000000000000\n0\n8\n";
     assert_eq!(run(input), output);
     assert_eq!(run(&input[..input.len() - 1]), output);
 }
@@ -165,7 +204,7 @@ fn a_line_is_cut_at_4096_bytes() {
 
 #[test]
 fn a_refused_layout_keeps_the_store() {
-    let taught = "L 01\nT 00000001 00000000000000000000000000000000\n";
+    let taught = format!("L 01\nT 00000001 {:040}\n", 0);
     assert_eq!(run(format!("{taught}L 00\nE 00000001\n").as_bytes()), "0\n0\n2\n0\n");
     assert_eq!(run(format!("{taught}L 01\nE 00000001\n").as_bytes()), "0\n0\n0\n6\n");
 }
@@ -225,6 +264,12 @@ fn the_stored_input_shows_digit_sums() {
 }
 
 #[test]
+fn the_stored_input_shows_stamps() {
+    let transcript = stored_transcript();
+    assert!(STAMPS.iter().all(|part| transcript.contains(part)));
+}
+
+#[test]
 fn generated_inputs_reach_every_number_of_every_letter() {
     let inputs: Vec<Vec<u8>> = (0..100).map(input).collect();
     assert_every_number(&inputs);
@@ -243,48 +288,61 @@ fn lists(name: &str) -> Vec<(u8, usize)> {
     answered.map(|(_, answer)| (number(&answer), answer.lines().count() - 1)).collect()
 }
 
+/// The most records that 4,096 bytes of lines can teach and then list.
+const MOST_RECORDS: usize = 78;
+
 #[test]
 fn the_fullest_list() {
     let input = fixed_input("fullest-list");
     let text = String::from_utf8(input.clone()).unwrap();
     let mut taught: Vec<&str> = text.lines().filter_map(|line| line.strip_prefix("T ")).collect();
     assert!(input.len() <= 4096);
-    assert_eq!(taught.len(), 92);
+    assert_eq!(taught.len(), MOST_RECORDS);
 
     // L, G and every T are granted; P prints its number and every record.
     let answered = answers(&input);
     let (list, before) = answered.split_last().unwrap();
-    assert_eq!(before.len(), 2 + 92);
+    assert_eq!(before.len(), 2 + MOST_RECORDS);
     assert!(before.iter().all(|(_, answer)| answer == "0\n"));
     let list: Vec<&str> = list.1.lines().collect();
-    assert_eq!(list.len(), 93);
+    assert_eq!(list.len(), 1 + MOST_RECORDS);
     assert_eq!(list[0], "0");
     let listed = list[1..].iter().map(|line| line.split_at(6));
     let (places, mut records): (Vec<&str>, Vec<&str>) = listed.unzip();
     let of_unit_0 = (1..=64).map(|rank| format!("00 {rank:02X} "));
-    let of_unit_1 = (1..=28).map(|rank| format!("01 {rank:02X} "));
+    let of_unit_1 = (1..=MOST_RECORDS - 64).map(|rank| format!("01 {rank:02X} "));
     assert!(of_unit_0.chain(of_unit_1).eq(places));
     taught.sort();
     records.sort();
     assert_eq!(records, taught);
 
     // One more T leaves no room for the P, even without its 0A.
-    let more = [input.strip_suffix(b"P\n").unwrap(), b"T 00000001 ", &[b'0'; 32], b"\nP"].concat();
+    let more = [input.strip_suffix(b"P\n").unwrap(), b"T 00000001 ", &[b'0'; 40], b"\nP"].concat();
     assert!(more.len() > 4096);
     assert!(answers(&more).iter().all(|(line, _)| *line != b"P"));
 }
 
 #[test]
 fn lists_of_the_other_fixed_inputs() {
-    assert_eq!(lists("fullest-list-of-sixteen-units"), [(0, 92)]);
+    assert_eq!(lists("fullest-list-of-sixteen-units"), [(0, MOST_RECORDS)]);
     let listed = run(&fixed_input("fullest-list-of-sixteen-units"));
-    assert!((0..16).all(|unit| listed.contains(&format!("\n{unit:02X} 03 "))));
-    assert_eq!(fixed_input("raised-at-sixteen-units").len(), 4096);
-    let raised = run(&fixed_input("raised-at-sixteen-units"));
-    let records = listed.strip_suffix('\n').unwrap().rsplit_once("\n0\n").unwrap().1;
-    assert!(raised.ends_with(&format!("\n0\n0\n0\n0\n{records}\n")));
-    assert_eq!(lists("lists-up-to-the-cut"), [(0, 92); 21]);
+    assert!((0..16).all(|unit| listed.contains(&format!("\n{unit:02X} 04 "))));
+    assert_eq!(lists("lists-up-to-the-cut"), [(0, MOST_RECORDS); 17]);
     assert_eq!(fixed_input("lists-up-to-the-cut")[4095..4097], *b"P\n");
-    assert_eq!(lists("full-unit-out"), [(0, 92), (8, 0)]);
-    assert_eq!(lists("laid-out-anew"), [(0, 92), (0, 92), (0, 0), (0, 0)]);
+    assert_eq!(lists("full-unit-out"), [(0, MOST_RECORDS), (8, 0)]);
+    let most = (0, MOST_RECORDS);
+    assert_eq!(lists("laid-out-anew"), [most, most, (0, 0), (0, 0)]);
+}
+
+/// With two units out behind the raise the list is that of the same lines without raise and losses.
+#[test]
+fn the_list_behind_a_raise() {
+    let input = fixed_input("raised-at-twelve-units");
+    assert_eq!(input.len(), 4096);
+    let taught = input.strip_suffix(b"K\nO 00\nO 01\nP").unwrap();
+    let listed = run(&[taught, b"P"].concat());
+    let (before, records) = listed.strip_suffix('\n').unwrap().rsplit_once("\n0\n").unwrap();
+    assert_eq!(records.lines().count(), MOST_RECORDS);
+    assert!((0..12).all(|unit| records.contains(&format!("{unit:02X} 04 "))));
+    assert_eq!(run(&input), format!("{before}\n0\n0\n0\n0\n{records}\n"));
 }

@@ -2,7 +2,8 @@
 //! check units and of the version.
 
 use reference::call::{Answer, Call, KINDS};
-use reference::store::layout::{check_at, unit_range, View};
+use reference::record::{FIELD, RECORD};
+use reference::store::layout::{length, parity_at, unit_range, View};
 use reference::store::{grow, lay_out, perform, raise, read, repair, sound, teach, unit_out};
 
 const SLOTS: u32 = 3;
@@ -10,11 +11,11 @@ const SLOTS: u32 = 3;
 /// A store of so many units at a level, with two or three records in each unit. It grows at level 1
 /// and is raised afterwards.
 fn store(units: usize, level: usize) -> Vec<u8> {
-    let mut bytes = vec![0; 36 + 704 * SLOTS as usize];
+    let mut bytes = vec![0; length(SLOTS as usize)];
     assert_eq!(lay_out(&mut bytes, SLOTS), 0);
     (1..units).for_each(|_| assert_eq!(grow(&mut bytes), 0));
     for key in keys(units) {
-        assert_eq!(teach(&mut bytes, key, &body(key)), 0);
+        assert_eq!(teach(&mut bytes, key, &field(key)), 0);
     }
     (1..level).for_each(|_| assert_eq!(raise(&mut bytes), 0));
     bytes
@@ -30,7 +31,7 @@ fn keys(units: usize) -> Vec<u32> {
     (0..units).flat_map(of_unit).collect()
 }
 
-fn body(key: u32) -> [u8; 16] {
+fn field(key: u32) -> [u8; FIELD] {
     std::array::from_fn(|i| (key as usize % 251 * 29 * (i + 1)) as u8)
 }
 
@@ -79,9 +80,9 @@ fn the_new_check_unit_rebuilds() {
                     assert_eq!(unit_out(&mut bytes, unit as u32), 0);
                 }
                 for key in keys(units) {
-                    let mut out = [0; 16];
+                    let mut out = [0; FIELD];
                     assert_eq!(read(&bytes, key, &mut out), 0);
-                    assert_eq!(out, body(key));
+                    assert_eq!(out, field(key));
                 }
                 assert_eq!(repair(&mut bytes, group as u32), 0);
                 assert!(bytes == whole, "{units} units, level {level}, group {group}");
@@ -94,12 +95,12 @@ fn the_new_check_unit_rebuilds() {
 #[test]
 fn it_does_not_matter_when_the_level_is_raised() {
     for units in 1..=16 {
-        let mut early = vec![0; 36 + 704 * SLOTS as usize];
+        let mut early = vec![0; length(SLOTS as usize)];
         assert_eq!(lay_out(&mut early, SLOTS), 0);
         assert_eq!([raise(&mut early), raise(&mut early)], [0, 0]);
         (1..units).for_each(|_| assert_eq!(grow(&mut early), 0));
         for key in keys(units) {
-            assert_eq!(teach(&mut early, key, &body(key)), 0);
+            assert_eq!(teach(&mut early, key, &field(key)), 0);
         }
         assert!(early == store(units, 3), "{units} units");
     }
@@ -111,8 +112,8 @@ fn check_units_that_stand_there_stay_as_they_are() {
         for level in [1, 2] {
             let mut bytes = store(units, level);
             let wrong = 3 * ((units - 1) / 4) + level - 1;
-            let parity = check_at(SLOTS as usize, wrong, 1) + 16;
-            bytes[parity..parity + 16].fill(0x5A);
+            let parity = parity_at(SLOTS as usize, wrong, 1);
+            bytes[parity..parity + FIELD].fill(0x5A);
             let before = bytes.clone();
             assert_eq!(raise(&mut bytes), 0);
             for unit in (0..28).filter(|unit| *unit < 16 || (unit - 16) % 3 < level) {
@@ -155,14 +156,14 @@ fn grow_gives_new_groups_the_level_and_adds_none_to_old_ones() {
 
 /// Every call but a layout on a store, with arguments in their ranges.
 fn calls() -> Vec<Call> {
-    let body = vec![1; 16];
+    let field = vec![1; FIELD];
     let calls = vec![
-        Call::Teach { key: 100, body: body.clone() },
-        Call::Correct { key: 1, body },
+        Call::Teach { key: 100, field: field.clone() },
+        Call::Correct { key: 1, field },
         Call::Erase { key: 1 },
-        Call::Read { key: 1, out: 16 },
+        Call::Read { key: 1, out: FIELD },
         Call::ReadInPlace { key: 1 },
-        Call::List { out: 2000 },
+        Call::List { out: 100 * RECORD },
         Call::Out { unit: 0 },
         Call::Repair { group: 0 },
         Call::Grow,
@@ -188,16 +189,16 @@ fn assert_not_sound(bytes: &[u8], what: &str) {
 }
 
 #[test]
-fn only_version_3_is_sound() {
+fn only_version_4_is_sound() {
     let bytes = store(6, 2);
-    assert_eq!(bytes[0], 3);
-    for version in (0..=255).filter(|&version| version != 3) {
+    assert_eq!(bytes[0], 4);
+    for version in (0..=255).filter(|&version| version != 4) {
         let mut other = bytes.clone();
         other[0] = version;
         assert_not_sound(&other, &format!("version {version}"));
     }
     let mut old = bytes;
-    old[0] = 2;
+    old[0] = 3;
     assert_eq!(perform(&mut old, &Call::Out { unit: 28 }).number(), Some(2));
     assert_eq!(lay_out(&mut old, SLOTS), 0);
     assert!(sound(&old));

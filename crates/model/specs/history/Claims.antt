@@ -3,20 +3,26 @@
 use Prim.Native.Nat.{ℕ, _*_, _/_, _<_, _≤_}
 use mathlib.Core.Path.{_≡_}
 use mathlib.Core.List.{List}
-use mathlib.Core.Option.{none}
-use mathlib.Core.Bool.{true, _&&_}
+use mathlib.Core.Option.{none, some}
+use mathlib.Core.Bool.{true, false, _&&_}
 use lib.Dec.{eqb, ltb, leb}
 use lib.ListN.{length, drop}
 use Rattle.buffer.specs.Choice.{pick}
-use Rattle.group.specs.Widths.{fieldBytes}
-use Rattle.model.specs.Layout.{view, storeBytes, unitsIn}
+use Rattle.buffer.specs.Bytes.{part}
+use Rattle.group.specs.Widths.{bodyBytes, fieldBytes, slotBytes}
+use Rattle.model.specs.Layout.{view, storeBytes, unitsIn, slotOf}
+use Rattle.model.specs.Field.{stamped, bodyOf, stampOf}
 use Rattle.model.specs.Reads.{homeIn, stateIn, beyondIn}
-use Rattle.model.specs.Numbers.{Call, read, repair, numberIn}
-use Rattle.model.specs.Perform.{copied, perform, layOut}
+use Rattle.model.specs.Numbers.{Call, read, readInPlace, list, repair, numberIn}
+use Rattle.model.specs.Perform.{copied, lent, listed, perform, layOut}
 use Rattle.model.specs.history.Ledger.{opened}
 use Rattle.model.specs.history.Picture.{picture}
 use Rattle.model.specs.history.Answers.{answers, final}
 use Rattle.model.specs.history.Runs.{answersIn, finalIn, aloneIn, allGranted, unitIn, lastTaught, asTaught}
+
+-- a field has this body and this stamp
+abbrev pub HasParts : List ℕ → ℕ → List ℕ → Type 0
+HasParts body stamp x = (bodyOf x ≡ body) × (stampOf x ≡ stamp)
 
 module _ (s : List ℕ) (b : ℕ) (cs : List Call) where
   -- the store as laid out, and as the list leaves it
@@ -46,6 +52,25 @@ module _ (s : List ℕ) (b : ℕ) (cs : List Call) where
       ≡ pick (eqb (view left .dstate (homeIn (view left) k)) 2 && beyondIn (view left) (homeIn (view left) k / 4)) (copied 8 out)
       (asTaught out (lastTaught k laid cs none))
 
+  -- the last granted teach or correct of a key gave it this body and this stamp, which may have any value
+  pub record TaughtWith (k : ℕ) (body : List ℕ) (stamp : ℕ) : Type 0 where
+    pub key : 1 ≤ k
+    pub long : length body ≡ bodyBytes
+    pub small : stamp < 4294967296
+    pub last : lastTaught k laid cs none ≡ some (stamped body stamp)
+
+  -- what is handed back of the key has both: by a read, where it is not refused as beyond recovery; in place, where the key's unit is not out; and in a
+  -- granted list, of which one entry is the key's
+  pub record HandsBackBoth (k : ℕ) (body : List ℕ) (stamp : ℕ) : Type 0 where
+    pub by-read : (out : List ℕ) → length out ≡ fieldBytes
+        → (eqb (view left .dstate (homeIn (view left) k)) 2 && beyondIn (view left) (homeIn (view left) k / 4)) ≡ false
+        → (x : List ℕ) × (perform left (read k out) .answer ≡ copied 0 x) × HasParts body stamp x
+    pub in-place : eqb (view left .dstate (homeIn (view left) k)) 2 ≡ false
+        → (x : List ℕ) × (perform left (readInPlace k) .answer ≡ lent x) × HasParts body stamp x
+    pub by-list : (out : List ℕ) → numberIn left (list out) ≡ 0
+        → (n : ℕ) × (i : ℕ) × (x : List ℕ) × (y : List ℕ) × (perform left (list out) .answer ≡ listed 0 n x)
+        × (i < n) × (part (slotBytes * i) slotBytes x ≡ slotOf k y) × HasParts body stamp y
+
   -- the repair of a group in place is refused as beyond recovery exactly where it has more units out than check units, and else granted
   abbrev pub BeyondRecovery : Type 0
   BeyondRecovery = (g : ℕ) → numberIn left (repair g)
@@ -56,4 +81,5 @@ module _ (s : List ℕ) (b : ℕ) (cs : List Call) where
     pub histories : Histories
     pub unlost : Unlost
     pub reads-as-taught : ReadsAsTaught
+    pub with-stamps : (k : ℕ) (body : List ℕ) (stamp : ℕ) → TaughtWith k body stamp → HandsBackBoth k body stamp
     pub beyond-recovery : BeyondRecovery

@@ -15,7 +15,7 @@ use Rattle.reading.proofs.Answers.{nowhere, out-unit, stands, lent-noth
 use Rattle.reading.proofs.read_in_place.Statement.{statement}
 use Rattle.reading.proofs.read_in_place.Tie as tie
 
--- ---- the number of a read into 16 bytes, and where that is 0 the key's place
+-- ---- the number of a read into a buffer that fits, and where that is 0 the key's place
 abbrev start : tie.After-look-up → tie.Start
 start c = c .before .before .before
 

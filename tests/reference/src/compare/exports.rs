@@ -4,8 +4,13 @@
 use super::faults::{seeded, spoil};
 use super::misplaced::read_misses;
 use super::segment_faults::rebuild_or_fail;
+use super::stamp_faults::{
+    clear_listed_stamps_of_units_out, lies_in_a_unit_out, list_without_stamps,
+};
 use crate::call::Kind;
-use crate::segment::field;
+use crate::record::{BODY, FIELD, RECORD};
+use crate::segment::field::product;
+use crate::store::layout::field_at;
 use crate::store::{self, matrix};
 use std::slice;
 
@@ -34,11 +39,11 @@ unsafe extern "C" fn lhrs_teach(
     store: *mut u8,
     len: usize,
     key: u32,
-    body: *const u8,
-    body_len: usize,
+    field: *const u8,
+    field_len: usize,
 ) -> u8 {
-    let body = lent(body, body_len);
-    spoil(Kind::Teach, lent_mut(store, len), |store| store::teach(store, key, body))
+    let field = lent(field, field_len);
+    spoil(Kind::Teach, lent_mut(store, len), |store| store::teach(store, key, field))
 }
 
 #[no_mangle]
@@ -46,11 +51,11 @@ unsafe extern "C" fn lhrs_correct(
     store: *mut u8,
     len: usize,
     key: u32,
-    body: *const u8,
-    body_len: usize,
+    field: *const u8,
+    field_len: usize,
 ) -> u8 {
-    let body = lent(body, body_len);
-    spoil(Kind::Correct, lent_mut(store, len), |store| store::correct(store, key, body))
+    let field = lent(field, field_len);
+    spoil(Kind::Correct, lent_mut(store, len), |store| store::correct(store, key, field))
 }
 
 #[no_mangle]
@@ -60,17 +65,23 @@ unsafe extern "C" fn lhrs_erase(store: *mut u8, len: usize, key: u32) -> u8 {
 
 #[no_mangle]
 unsafe extern "C" fn lhrs_read(
-    store: *mut u8,
+    store: *const u8,
     len: usize,
     key: u32,
     out: *mut u8,
     out_len: usize,
 ) -> u8 {
     let out = lent_mut(out, out_len);
-    if seeded("read-by-the-key-itself") && read_misses(lent(store, len), key) {
+    let store = lent(store, len);
+    if seeded("read-by-the-key-itself") && read_misses(store, key) {
         return 6;
     }
-    spoil(Kind::Read, lent_mut(store, len), |store| store::read(store, key, out))
+    let number = store::read(store, key, out);
+    let stamp_lost = seeded("read-of-a-unit-out-yields-stamp-0");
+    if stamp_lost && number == 0 && lies_in_a_unit_out(store, key) {
+        out[BODY..].fill(0);
+    }
+    number
 }
 
 #[no_mangle]
@@ -82,10 +93,15 @@ unsafe extern "C" fn lhrs_list(
     count: *mut usize,
 ) -> u8 {
     let out = lent_mut(out, out_len);
-    let (number, listed) = store::list(lent(store, len), out);
-    let end = 20 * listed as usize;
+    let store = lent(store, len);
+    let list = if seeded("list-without-stamps") { list_without_stamps } else { store::list };
+    let (number, listed) = list(store, out);
+    let end = RECORD * listed as usize;
     if seeded("list-writes-behind") && number == 0 && end < out_len {
         out[end] ^= 1;
+    }
+    if seeded("list-of-a-unit-out-yields-stamp-0") && number == 0 {
+        clear_listed_stamps_of_units_out(store, &mut out[..end]);
     }
     let count_left = seeded("list-leaves-the-count-when-refused") && number != 0;
     if !count_left {
@@ -104,8 +120,12 @@ unsafe extern "C" fn compared_read_in_place(
 ) -> usize {
     let store = lent(store, len);
     let mut part = store::read_in_place(store, key);
-    if seeded("read-in-place-of-a-unit-out") && store::read(store, key, &mut [0; 16]) == 0 {
-        part = if part.is_empty() { &store[40..56] } else { part };
+    let of_a_unit_out = seeded("read-in-place-of-a-unit-out") && part.is_empty();
+    if of_a_unit_out && store::read(store, key, &mut [0; FIELD]) == 0 {
+        part = &store[field_at(1, 0, 0)..][..FIELD];
+    }
+    if seeded("read-in-place-of-the-body-alone") && !part.is_empty() {
+        part = &part[..BODY];
     }
     if part.len() <= out_len {
         lent_mut(out, part.len()).copy_from_slice(part);
@@ -175,7 +195,7 @@ unsafe extern "C" fn lhrs_rebuild_segment(
 #[no_mangle]
 extern "C" fn compared_product(a: u8, b: u8) -> u8 {
     if seeded("zero-with-logarithm-0") {
-        return field::product(a.max(1), b.max(1));
+        return product(a.max(1), b.max(1));
     }
-    field::product(a, b)
+    product(a, b)
 }

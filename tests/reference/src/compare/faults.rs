@@ -5,18 +5,20 @@ use super::misplaced::{
     seven_digits, teach_by, teach_compares_sums,
 };
 use super::segment_faults::SEGMENT_FAULTS;
+use super::stamp_faults::STAMP_FAULTS;
 use crate::call::Kind;
+use crate::record::FIELD;
 use crate::store;
-use crate::store::layout::{check_at, length, state_at, unit_range, View};
+use crate::store::layout::{check_at, length, parity_at, state_at, unit_range, View};
 use crate::store::layout::{CHECK_RECORD, HEADER, OUT, VERSION};
 use std::env;
 use std::sync::OnceLock;
 
 /// A fault: the kind of call it spoils, and how. It is given the bytes before the call, the slice
 /// after it and the number, and returns the number to hand back.
-type Fault = (&'static str, Kind, fn(&[u8], &mut [u8], u8) -> u8);
+pub type Fault = (&'static str, Kind, fn(&[u8], &mut [u8], u8) -> u8);
 
-const FAULTS: [Fault; 25] = [
+const FAULTS: [Fault; 26] = [
     ("teach-does-nothing", Kind::Teach, |before, after, number| {
         after.copy_from_slice(before);
         number
@@ -91,7 +93,12 @@ const FAULTS: [Fault; 25] = [
         }
         number
     }),
-    ("version-2-accepted", Kind::Grow, version_2_accepted),
+    ("version-2-accepted", Kind::Grow, |before, after, number| {
+        version_accepted(2, before, after, number)
+    }),
+    ("version-3-accepted", Kind::Grow, |before, after, number| {
+        version_accepted(3, before, after, number)
+    }),
     ("fewer-check-units-accepted", Kind::Repair, fewer_check_units_accepted),
     ("teach-by-the-key-itself", Kind::Teach, |before, after, number| {
         teach_by(key_itself, before, after, number)
@@ -111,12 +118,16 @@ const FAULTS: [Fault; 25] = [
 ];
 
 /// Faults by an argument, or of what is handed back beside a number: `exports` asks for them by name.
-const SEEDED: [&str; 9] = [
+const SEEDED: [&str; 13] = [
     "read-by-the-key-itself",
+    "read-of-a-unit-out-yields-stamp-0",
     "list-invents-its-count",
     "list-leaves-the-count-when-refused",
     "list-writes-behind",
+    "list-without-stamps",
+    "list-of-a-unit-out-yields-stamp-0",
     "read-in-place-of-a-unit-out",
+    "read-in-place-of-the-body-alone",
     "rebuild-leaves-data-when-refused",
     "rebuild-without-column-16",
     "a-wrong-coefficient",
@@ -124,7 +135,7 @@ const SEEDED: [&str; 9] = [
 ];
 
 pub fn fault_names() -> impl Iterator<Item = &'static str> {
-    let of_calls = FAULTS.iter().map(|(name, _, _)| *name);
+    let of_calls = FAULTS.iter().chain(&STAMP_FAULTS).map(|(name, _, _)| *name);
     of_calls.chain(SEEDED).chain(SEGMENT_FAULTS.iter().map(|(name, _)| *name))
 }
 
@@ -157,7 +168,7 @@ pub fn spoil(kind: Kind, store: &mut [u8], call: impl FnOnce(&mut [u8]) -> u8) -
 }
 
 fn chosen() -> Option<&'static Fault> {
-    FAULTS.iter().find(|fault| Some(fault.0) == name_chosen())
+    FAULTS.iter().chain(&STAMP_FAULTS).find(|fault| Some(fault.0) == name_chosen())
 }
 
 /// Puts the check units back as they were, where the call was granted.
@@ -189,10 +200,12 @@ fn erase_forgets_the_rank_left(before: &[u8], after: &mut [u8], number: u8) -> u
     }
     let b = before[5] as usize;
     for check in 0..12 {
-        let mut records: Vec<usize> = (0..b).map(|rank| check_at(b, check, rank)).collect();
-        records.retain(|&at| before[at..at + CHECK_RECORD] != after[at..at + CHECK_RECORD]);
-        if let [_, last] = records[..] {
-            after[last + 16..last + 32].copy_from_slice(&before[last + 16..last + 32]);
+        let record = |rank| check_at(b, check, rank)..check_at(b, check, rank) + CHECK_RECORD;
+        let changed: Vec<usize> =
+            (0..b).filter(|&rank| before[record(rank)] != after[record(rank)]).collect();
+        if let [_, last] = changed[..] {
+            let parity = parity_at(b, check, last)..parity_at(b, check, last) + FIELD;
+            after[parity.clone()].copy_from_slice(&before[parity]);
         }
     }
     number
@@ -209,14 +222,14 @@ fn raise_makes_all_check_units_anew(before: &[u8], after: &mut [u8], number: u8)
     number
 }
 
-/// Grows a store of version 2 that would be sound by its other bytes.
-fn version_2_accepted(before: &[u8], after: &mut [u8], number: u8) -> u8 {
-    if number != 1 || before.first() != Some(&2) {
+/// Grows a store that says another version and would be sound by its other bytes.
+fn version_accepted(version: u8, before: &[u8], after: &mut [u8], number: u8) -> u8 {
+    if number != 1 || before.first() != Some(&version) {
         return number;
     }
     after[0] = VERSION;
     let number = store::grow(after);
-    after[0] = 2;
+    after[0] = version;
     number
 }
 

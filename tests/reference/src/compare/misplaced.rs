@@ -1,6 +1,7 @@
 //! Faults of where a key lies: it is placed or looked for by another number than its digit sum, or
 //! taken for another key of the same sum.
 
+use crate::record::FIELD;
 use crate::store;
 use crate::store::layout::{digit_sum, parent, unit_of_number, View, IN_SERVICE, OUT};
 use crate::store::recover::records;
@@ -46,7 +47,7 @@ pub fn teach_by(sum: Sum, before: &[u8], after: &mut [u8], number: u8) -> u8 {
         return number;
     }
     let (unit, rank) = taught(before, after);
-    let record = (view(after).key(unit, rank), view(after).body(unit, rank));
+    let record = (view(after).key(unit, rank), view(after).field(unit, rank));
     let other = unit_of_number(view(before).units(), sum(record.0));
     if other == unit {
         return 0;
@@ -84,7 +85,7 @@ pub fn teach_compares_sums(before: &[u8], after: &mut [u8], number: u8) -> u8 {
 
 /// Whether a read that is granted would look for its key in another unit, by the key itself.
 pub fn read_misses(bytes: &[u8], key: u32) -> bool {
-    let granted = store::read(bytes, key, &mut [0; 16]) == 0;
+    let granted = store::read(bytes, key, &mut [0; FIELD]) == 0;
     granted && unit_of_number(view(bytes).units(), key_itself(key)) != view(bytes).unit_of(key)
 }
 

@@ -22,6 +22,8 @@ mod run;
 mod segment_faults;
 #[cfg(feature = "subject")]
 mod segments;
+#[cfg(feature = "self")]
+mod stamp_faults;
 #[cfg(feature = "subject")]
 mod subject;
 

@@ -19,7 +19,7 @@ impl Returned {
         match self {
             Returned::Number(number) | Returned::Listed(number, _) => number.to_string(),
             Returned::Part(0) => "empty".into(),
-            Returned::Part(_) => "a body".into(),
+            Returned::Part(_) => "a field".into(),
         }
     }
 }

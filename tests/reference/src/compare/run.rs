@@ -6,10 +6,11 @@ use super::returned::{Returned, Tally};
 use super::subject;
 use crate::call::{Answer, Call};
 use crate::ledger::Ledger;
+use crate::record::FIELD;
 use crate::store;
 
-/// A body that stands nowhere in a generated store.
-const MARK: &[u8; 16] = b"the body is here";
+/// A field that stands nowhere in a generated store.
+const MARK: &[u8; FIELD] = b"the field lies here!";
 
 pub struct Outcome {
     pub tally: Tally,
@@ -75,15 +76,15 @@ impl Run {
         }
         self.tally.add(call.kind(), returned);
         self.subject.same(&self.reference, "store")?;
-        lent.same(&expected_lent, "body or output")?;
+        lent.same(&expected_lent, "field or output")?;
         if let Call::ReadInPlace { key } = call {
             self.place(*key)?;
         }
         self.ask_ledger(call, returned, &mut lent)
     }
 
-    /// The part that read in place hands back lies where the reference finds the body: a mark
-    /// written there is what comes back. Bodies are no part of soundness.
+    /// The part that read in place hands back lies where the reference finds the field: a mark
+    /// written there is what comes back. Fields of records are no part of soundness.
     fn place(&mut self, key: u32) -> Result<(), String> {
         let bytes = self.reference.slice(self.lent);
         let start = bytes.as_ptr() as usize;
@@ -92,12 +93,12 @@ impl Run {
             return Ok(());
         }
         let at = part.as_ptr() as usize - start;
-        let body = part.to_vec();
+        let field = part.to_vec();
         let call = Call::ReadInPlace { key };
         let mut lent = lent_to(&call);
         self.subject.write(at, MARK);
         subject::call(&mut self.subject, self.lent, &call, &mut lent);
-        self.subject.write(at, &body);
+        self.subject.write(at, &field);
         if lent.slice(MARK.len()) != MARK {
             return Err(format!("the part handed back does not start at byte {at}"));
         }
@@ -119,8 +120,8 @@ impl Run {
         let Some(ledger) = &mut self.ledger else { return Ok(()) };
         let (expected, bytes) = match ledger.perform(call) {
             Answer::Number(number) => (Returned::Number(number), Vec::new()),
-            Answer::Read(number, body) => {
-                (Returned::Number(number), body.map_or(Vec::new(), |body| body.to_vec()))
+            Answer::Read(number, field) => {
+                (Returned::Number(number), field.map_or(Vec::new(), |field| field.to_vec()))
             }
             Answer::Part(part) => (Returned::Part(part.len()), part),
             Answer::List(number, count, records) => {
@@ -141,12 +142,12 @@ impl Run {
     }
 }
 
-/// The arena of the body or the output of a call.
+/// The arena of the field or the output of a call.
 fn lent_to(call: &Call) -> Arena {
     match call {
-        Call::Teach { body, .. } | Call::Correct { body, .. } => Arena::holding(31, body),
+        Call::Teach { field, .. } | Call::Correct { field, .. } => Arena::holding(31, field),
         Call::Read { out, .. } => Arena::new(29, *out),
-        Call::ReadInPlace { .. } => Arena::new(27, 16),
+        Call::ReadInPlace { .. } => Arena::new(27, FIELD),
         Call::List { out } => Arena::new(25, *out),
         _ => Arena::new(0, 0),
     }

@@ -7,8 +7,9 @@ use crate::call::Call;
 // What a library exports for C.
 extern "C" {
     fn lhrs_lay_out(store: *mut u8, len: usize, b: u32) -> u8;
-    fn lhrs_teach(store: *mut u8, len: usize, key: u32, body: *const u8, body_len: usize) -> u8;
-    fn lhrs_correct(store: *mut u8, len: usize, key: u32, body: *const u8, body_len: usize) -> u8;
+    fn lhrs_teach(store: *mut u8, len: usize, key: u32, field: *const u8, field_len: usize) -> u8;
+    fn lhrs_correct(store: *mut u8, len: usize, key: u32, field: *const u8, field_len: usize)
+        -> u8;
     fn lhrs_erase(store: *mut u8, len: usize, key: u32) -> u8;
     fn lhrs_read(store: *const u8, len: usize, key: u32, out: *mut u8, out_len: usize) -> u8;
     fn lhrs_list(
@@ -46,7 +47,7 @@ extern "C" {
     fn compared_product(a: u8, b: u8) -> u8;
 }
 
-/// Makes a call on the first `len` bytes of a store's arena. `lent` is the arena of the body or of
+/// Makes a call on the first `len` bytes of a store's arena. `lent` is the arena of the field or of
 /// the output; the part of read in place is copied to its front.
 pub fn call(store: &mut Arena, len: usize, call: &Call, lent: &mut Arena) -> Returned {
     let store = store.start();

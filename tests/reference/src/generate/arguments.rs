@@ -3,14 +3,20 @@
 use crate::call::{Call, Kind};
 use crate::ledger::{digit_sum, Ledger};
 use crate::random::Random;
+use crate::record::{body_of, field_of, stamp_of, BODY, FIELD, KEY, RECORD, STAMP};
 
 /// Numbers that are too large for a unit or a group, some of them small modulo 256.
 const TOO_LARGE: [u32; 8] = [28, 29, 255, 256, 257, 272, 65_536, u32::MAX];
+
+/// Lengths that neither a field nor the output of a read may have.
+const OTHER_LENGTHS: [usize; 8] = [0, 1, STAMP, BODY, FIELD - 1, FIELD + 1, RECORD, 2 * FIELD];
 
 pub struct Arguments {
     pub random: Random,
     /// The keys that calls are made with in the main.
     pub pool: Vec<u32>,
+    /// The stamp of the field made last.
+    last_stamp: u32,
 }
 
 impl Arguments {
@@ -26,15 +32,22 @@ impl Arguments {
             5 => small.map(|_| key_of_sum(sum, any_up_to(&mut random, u32::MAX / 16))).collect(),
             _ => small.map(|_| any_up_to(&mut random, u32::MAX)).collect(),
         };
-        Arguments { random, pool }
+        let last_stamp = random.next_u64() as u32;
+        Arguments { random, pool, last_stamp }
     }
 
     /// A call of a kind, with arguments that suit a ledger or just miss.
     pub fn call(&mut self, kind: Kind, ledger: &Ledger) -> Call {
         match kind {
             Kind::LayOut => Call::LayOut { b: self.random.pick(&[0, 65, 255, 256, 257, 65_537]) },
-            Kind::Teach => Call::Teach { key: self.new_key(ledger), body: self.body() },
-            Kind::Correct => Call::Correct { key: self.known_key(ledger), body: self.body() },
+            Kind::Teach => {
+                let key = self.new_key(ledger);
+                Call::Teach { key, field: self.field(ledger, key) }
+            }
+            Kind::Correct => {
+                let key = self.known_key(ledger);
+                Call::Correct { key, field: self.field(ledger, key) }
+            }
             Kind::Erase => Call::Erase { key: self.known_key(ledger) },
             Kind::Read => Call::Read { key: self.known_key(ledger), out: self.output() },
             Kind::ReadInPlace => Call::ReadInPlace { key: self.known_key(ledger) },
@@ -84,29 +97,61 @@ impl Arguments {
         self.random.pick(&keys)
     }
 
-    pub fn body(&mut self) -> Vec<u8> {
-        let length =
-            if self.random.chance(1, 25) { self.random.pick(&[0, 1, 15, 17, 20, 32]) } else { 16 };
+    /// A field for a key, at times of a wrong length. For a key that is present the stamp goes by the
+    /// one that it has, otherwise by that of the field made last.
+    pub fn field(&mut self, ledger: &Ledger, key: u32) -> Vec<u8> {
+        let present = ledger.find(key).map(|record| record.field);
+        let before = present.map_or(self.last_stamp, |field| stamp_of(&field));
+        let body = match present {
+            Some(field) if self.random.chance(1, 6) => body_of(&field),
+            _ => self.body(),
+        };
+        self.last_stamp = self.stamp(before);
+        let mut field = field_of(body, self.last_stamp).to_vec();
+        if self.random.chance(1, 25) {
+            field.resize(self.random.pick(&OTHER_LENGTHS), 0);
+        }
+        field
+    }
+
+    fn body(&mut self) -> [u8; BODY] {
         match self.random.below(8) {
-            0 => vec![0; length],
-            1 => vec![255; length],
-            2 => (0..length).map(|i| (i == 3) as u8).collect(),
-            _ => self.random.bytes(length),
+            0 => [0; BODY],
+            1 => [255; BODY],
+            2 => std::array::from_fn(|i| (i == 3) as u8),
+            _ => std::array::from_fn(|_| self.random.next_u64() as u8),
+        }
+    }
+
+    /// A stamp: 0, a small one, the largest, one earlier than `before`, a later one, the same or any.
+    fn stamp(&mut self, before: u32) -> u32 {
+        let step = 1 + self.random.below(1000) as u32;
+        match self.random.below(10) {
+            0 => 0,
+            1 => step,
+            2 => u32::MAX,
+            3 | 4 => before.saturating_sub(step),
+            5 => before.saturating_add(step),
+            6 => before,
+            _ => self.random.next_u64() as u32,
         }
     }
 
     fn output(&mut self) -> usize {
         if self.random.chance(1, 20) {
-            self.random.pick(&[0, 1, 15, 17, 32])
+            self.random.pick(&OTHER_LENGTHS)
         } else {
-            16
+            FIELD
         }
     }
 
+    /// The length of a list's output: it fits, is longer, or is too short, also by the stamps alone.
     fn list_output(&mut self, ledger: &Ledger) -> usize {
-        let fits = 20 * ledger.records();
-        let lengths = [fits, fits + 1, fits + 300, fits.saturating_sub(1), fits / 2];
-        self.random.pick(&lengths)
+        let fits = RECORD * ledger.records();
+        let without_stamps = (KEY + BODY) * ledger.records();
+        let short = [fits.saturating_sub(1), without_stamps, fits / 2];
+        let short = self.random.pick(&short);
+        self.random.pick(&[fits, fits + 1, fits + 300, short, short])
     }
 
     fn unit(&mut self, ledger: &Ledger) -> u32 {

@@ -8,11 +8,12 @@ use crate::compare::case::{Case, Step};
 use crate::ledger::Ledger;
 use crate::random::Random;
 use crate::store;
+use crate::store::layout::length;
 
 /// The ledger and the bytes after the calls of a generated history.
 fn after(calls: &[Call]) -> (Ledger, Vec<u8>) {
     let Call::LayOut { b } = calls[0] else { panic!("a history starts with a layout") };
-    let mut bytes = vec![0; slice_length(b)];
+    let mut bytes = vec![0; length(b as usize)];
     let mut ledger = Ledger::open(b, bytes.len()).expect("the layout is granted");
     for call in calls {
         store::perform(&mut bytes, call);
@@ -23,13 +24,9 @@ fn after(calls: &[Call]) -> (Ledger, Vec<u8>) {
     (ledger, bytes)
 }
 
-fn slice_length(b: u32) -> usize {
-    36 + 704 * b as usize
-}
-
 /// Lends a slice and lays it out, at times after a refused layout or in a longer slice.
 fn opening(random: &mut Random, b: u32) -> Vec<Step> {
-    let length = slice_length(b);
+    let length = length(b as usize);
     let mut steps = Vec::new();
     if random.chance(1, 4) {
         steps.push(Step::Lend(random.pick(&[0, 1, 35, 36, length / 2, length - 1])));

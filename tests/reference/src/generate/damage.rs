@@ -1,10 +1,12 @@
-//! Damage to a store: header, states, check units, keys, bodies, parity, and the length of the slice.
+//! Damage to a store: header, states, check units, keys, bodies, stamps, parity, and the length of
+//! the slice; and stores as earlier versions had them.
 
 use crate::compare::case::Step;
 use crate::random::Random;
+use crate::record::{BODY, FIELD, KEY, STAMP};
 use crate::store::layout::{
-    check_at, length, slot_at, state_at, unit_of_number, unit_range, View, CHECK_RECORD,
-    IN_SERVICE, OUT, VERSION,
+    check_at, field_at, length, listed_key_at, parity_at, slot_at, state_at, unit_of_number,
+    unit_range, View, CHECK_RECORD, HEADER, IN_SERVICE, OUT, SLOT, VERSION,
 };
 use crate::store::recover::records;
 use crate::store::write::{make_check, set_unit, Record};
@@ -12,7 +14,7 @@ use crate::store::write::{make_check, set_unit, Record};
 /// Some damage to a sound store.
 pub fn damage(random: &mut Random, bytes: &[u8]) -> Vec<Step> {
     let view = View::new(bytes).expect("a sound store");
-    match random.below(20) {
+    match random.below(22) {
         0 | 1 => header(random, view),
         2 => vec![state(random)],
         3 => vec![units(random, view)],
@@ -23,11 +25,13 @@ pub fn damage(random: &mut Random, bytes: &[u8]) -> Vec<Step> {
         8 => vec![listed_key(random, view)],
         9..=12 => key_everywhere(random, view),
         13 => vec![empty_slot(random, view)],
-        14 => vec![wrong_body(random, view)],
-        15 => wrong_parity(random, bytes),
-        16 => vec![other_version(random)],
-        17 => version_before(random, view),
-        18 => check_units(random, view),
+        14 => vec![wrong_field(random, view)],
+        15 => vec![lone_stamp(random, view)],
+        16 => wrong_parity(random, bytes),
+        17 => vec![other_version(random)],
+        18 => keys_by_themselves(random, view),
+        19 => without_stamps(random, view),
+        20 => check_units(random, view),
         _ => vec![anywhere(random, view)],
     }
 }
@@ -47,14 +51,14 @@ fn header(random: &mut Random, view: View) -> Vec<Step> {
     vec![write(at, vec![near(random, view.bytes[at])])]
 }
 
-/// Another version, mostly that of the stores before.
+/// Another version, mostly an earlier one.
 fn other_version(random: &mut Random) -> Step {
-    write(0, vec![random.pick(&[2, 2, 2, 2, 1, 0, 4])])
+    write(0, vec![random.pick(&[3, 3, 3, 2, 2, 1, 0, 5])])
 }
 
-/// The records of the units in service lie as they did in the version before, by the keys themselves,
-/// as far as they fit; the store says that version or the present one.
-fn version_before(random: &mut Random, view: View) -> Vec<Step> {
+/// The records of the units in service lie as they did in version 2, by the keys themselves, as far
+/// as they fit; the store says that version or the present one.
+fn keys_by_themselves(random: &mut Random, view: View) -> Vec<Step> {
     let mut bytes = view.bytes.to_vec();
     let serving: Vec<usize> =
         (0..view.units()).filter(|&unit| view.state(unit) == IN_SERVICE).collect();
@@ -67,6 +71,23 @@ fn version_before(random: &mut Random, view: View) -> Vec<Step> {
     let checks = (0..4).flat_map(|group| view.checks_in(group, IN_SERVICE));
     checks.for_each(|check| make_check(&mut bytes, check));
     bytes[0] = random.pick(&[2, VERSION]);
+    vec![write(0, bytes)]
+}
+
+/// The store as version 3 had it: slots and check records without stamps, and its length; it says
+/// that version or the present one. Each parity byte comes from the bytes at its own place, so what is
+/// left is the parity of the bodies.
+fn without_stamps(random: &mut Random, view: View) -> Vec<Step> {
+    let units = HEADER..check_at(view.b, 0, 0);
+    let checks = units.end..length(view.b);
+    let slots = view.bytes[units].chunks_exact(SLOT).map(|slot| &slot[..SLOT - STAMP]);
+    let records = view.bytes[checks].chunks_exact(CHECK_RECORD);
+    let records = records.map(|record| &record[..CHECK_RECORD - STAMP]);
+    let shorter: Vec<u8> = slots.chain(records).flatten().copied().collect();
+    let mut bytes = vec![random.pick(&[3, VERSION])];
+    bytes.extend(((HEADER + shorter.len()) as u32).to_be_bytes());
+    bytes.extend(&view.bytes[bytes.len()..HEADER]);
+    bytes.extend(shorter);
     vec![write(0, bytes)]
 }
 
@@ -127,7 +148,7 @@ fn slice(random: &mut Random, view: View) -> Step {
 fn data_key(random: &mut Random, view: View) -> Step {
     let unit = random.below(view.units());
     let rank = random.below(view.b);
-    let at = slot_at(view.b, unit, rank) + random.below(4);
+    let at = slot_at(view.b, unit, rank) + random.below(KEY);
     write(at, vec![near(random, view.bytes[at])])
 }
 
@@ -135,12 +156,13 @@ fn data_key(random: &mut Random, view: View) -> Step {
 fn listed_key(random: &mut Random, view: View) -> Step {
     let check = random.below(12);
     let rank = random.below(view.b);
-    let at = check_at(view.b, check, rank) + random.below(16);
+    let at = listed_key_at(view.b, check, rank, random.below(4)) + random.below(KEY);
     write(at, vec![near(random, view.bytes[at])])
 }
 
 /// A key that is wrong in its data unit, where that is in service, and in all lists alike: given
-/// twice, of another unit, missing, or behind the last record.
+/// twice, of another unit, missing, or behind the last record. Where it is missing, its field is
+/// cleared, or its body alone, or nothing.
 fn key_everywhere(random: &mut Random, view: View) -> Vec<Step> {
     let group = random.below(view.units().div_ceil(4));
     let place = random.below(4);
@@ -151,12 +173,13 @@ fn key_everywhere(random: &mut Random, view: View) -> Vec<Step> {
     let mut steps = Vec::new();
     if view.state(unit) == IN_SERVICE {
         steps.push(write(slot_at(view.b, unit, rank), key.clone()));
-        if key == [0; 4] && random.chance(3, 4) {
-            steps.push(write(slot_at(view.b, unit, rank) + 4, vec![0; 16]));
+        if key == [0; KEY] {
+            let cleared = random.pick(&[FIELD, FIELD, FIELD, BODY, 0]);
+            steps.push(write(field_at(view.b, unit, rank), vec![0; cleared]));
         }
     }
     for check in view.checks_in(group, IN_SERVICE) {
-        steps.push(write(check_at(view.b, check, rank) + 4 * place, key.clone()));
+        steps.push(write(listed_key_at(view.b, check, rank, place), key.clone()));
     }
     steps
 }
@@ -170,7 +193,7 @@ fn other_key(random: &mut Random, unit: usize, first: u32, key: u32) -> u32 {
     random.pick(&keys)
 }
 
-/// A byte in a slot or a unit that ought to be zero, or in a record's body.
+/// A byte in a slot or a unit that ought to be zero, or in a record's field.
 fn empty_slot(random: &mut Random, view: View) -> Step {
     let unit = random.below(28);
     let range = unit_range(view.b, unit);
@@ -179,21 +202,32 @@ fn empty_slot(random: &mut Random, view: View) -> Step {
     write(at, vec![1 + random.next_u64() as u8 % 255])
 }
 
-fn wrong_body(random: &mut Random, view: View) -> Step {
+/// A byte of a body or of a stamp.
+fn wrong_field(random: &mut Random, view: View) -> Step {
     let unit = random.below(view.units());
     let rank = random.below(view.b);
-    let at = slot_at(view.b, unit, rank) + 4 + random.below(16);
+    let at = field_at(view.b, unit, rank) + random.below(FIELD);
     write(at, vec![random.next_u64() as u8])
 }
 
-/// Wrong parity, in one to three records of check units in service, at ranks without a key too.
+/// A byte of the stamp in a unit's first slot without a record, or in its last one where it is full.
+fn lone_stamp(random: &mut Random, view: View) -> Step {
+    let unit = random.below(view.units());
+    let rank = view.count(unit).min(view.b - 1);
+    let at = field_at(view.b, unit, rank) + BODY + random.below(STAMP);
+    write(at, vec![1 + random.next_u64() as u8 % 255])
+}
+
+/// Wrong parity, in one to three records of check units in service, at ranks without a key too: of
+/// all bytes or of the stamps alone.
 pub fn wrong_parity(random: &mut Random, bytes: &[u8]) -> Vec<Step> {
     let view = View::new(bytes).expect("a sound store");
     let checks: Vec<usize> = (0..4).flat_map(|group| view.checks_in(group, IN_SERVICE)).collect();
     let records = if checks.is_empty() { 0 } else { 1 + random.below(3) };
     let mut record = || {
-        let at = check_at(view.b, random.pick(&checks), random.below(view.b)) + 16;
-        write(at, random.bytes(16))
+        let at = parity_at(view.b, random.pick(&checks), random.below(view.b));
+        let right = random.pick(&[0, 0, BODY]);
+        write(at + right, random.bytes(FIELD - right))
     };
     (0..records).map(|_| record()).collect()
 }

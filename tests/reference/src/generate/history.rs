@@ -83,8 +83,8 @@ impl Maker {
 
     fn teach_of_pool(&mut self) {
         let key = self.arguments.random.pick(&self.arguments.pool);
-        let body = self.arguments.body();
-        self.push(Call::Teach { key, body });
+        let field = self.arguments.field(&self.ledger, key);
+        self.push(Call::Teach { key, field });
     }
 
     /// Teaches until about so many of a hundred slots are used, as far as the keys reach.

@@ -29,7 +29,7 @@ pub fn input(index: u64) -> Vec<u8> {
 /// The lines of a history, thinned where it is long, so that late calls come within the input.
 fn chosen(random: &mut Random, calls: &[Call]) -> Vec<Vec<u8>> {
     let teaches = calls.iter().filter(|call| call.kind() == Kind::Teach).count();
-    let most = random.pick(&[30, 50, 100]);
+    let most = random.pick(&[25, 45, 85]);
     let kept = |random: &mut Random, call: &Call| {
         call.kind() != Kind::Teach || teaches < most || random.chance(most, teaches)
     };

@@ -1,6 +1,7 @@
 //! Reading a line.
 
 use crate::call::Call;
+use crate::record::FIELD;
 
 /// The call of a line, None where it is not readable. `list` is the length of the list buffer.
 pub fn parse(line: &[u8], list: usize) -> Option<Call> {
@@ -8,10 +9,10 @@ pub fn parse(line: &[u8], list: usize) -> Option<Call> {
     let (letter, arguments) = words.split_first()?;
     Some(match (*letter, arguments) {
         (b"L", [b]) => Call::LayOut { b: number(b, 2)? },
-        (b"T", [key, body]) => Call::Teach { key: number(key, 8)?, body: body_of(body)? },
-        (b"C", [key, body]) => Call::Correct { key: number(key, 8)?, body: body_of(body)? },
+        (b"T", [key, field]) => Call::Teach { key: number(key, 8)?, field: field_of(field)? },
+        (b"C", [key, field]) => Call::Correct { key: number(key, 8)?, field: field_of(field)? },
         (b"E", [key]) => Call::Erase { key: number(key, 8)? },
-        (b"R", [key]) => Call::Read { key: number(key, 8)?, out: 16 },
+        (b"R", [key]) => Call::Read { key: number(key, 8)?, out: FIELD },
         (b"O", [unit]) => Call::Out { unit: number(unit, 2)? },
         (b"F", [group]) => Call::Repair { group: number(group, 2)? },
         (b"G", []) => Call::Grow,
@@ -38,8 +39,9 @@ fn digit(byte: u8) -> Option<u32> {
     }
 }
 
-fn body_of(word: &[u8]) -> Option<Vec<u8>> {
-    if word.len() != 32 {
+/// The field of its digits, body and stamp.
+fn field_of(word: &[u8]) -> Option<Vec<u8>> {
+    if word.len() != 2 * FIELD {
         return None;
     }
     word.chunks(2).map(|pair| number(pair, 2).map(|byte| byte as u8)).collect()

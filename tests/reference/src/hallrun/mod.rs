@@ -3,12 +3,13 @@
 mod line;
 
 use crate::call::{hex, Answer, Call};
+use crate::record::{KEY, RECORD};
 use crate::store;
 pub use line::parse;
 
 const INPUT: usize = 4096;
-const STORE: usize = 45_092;
-const LIST: usize = 1024 * 20;
+const STORE: usize = 52_260;
+const LIST: usize = 1024 * RECORD;
 
 /// What hallrun prints for an input.
 pub fn run(input: &[u8]) -> String {
@@ -35,22 +36,22 @@ fn answer(bytes: &mut [u8], line: &[u8]) -> String {
     let Some(call) = parse(line, LIST) else { return "10\n".into() };
     match store::perform(bytes, &call) {
         Answer::Number(number) | Answer::Read(number, None) => format!("{number}\n"),
-        Answer::Read(number, Some(body)) => format!("{number} {}\n", hex(&body)),
+        Answer::Read(number, Some(field)) => format!("{number} {}\n", hex(&field)),
         Answer::List(number, _, records) => format!("{number}\n{}", listing(bytes, &records)),
         Answer::Part(_) => unreachable!("no line reads in place"),
     }
 }
 
-/// A line for each record of a list: unit, rank, key, body.
+/// A line for each record of a list: unit, rank, key, field.
 fn listing(bytes: &[u8], records: &[u8]) -> String {
     let mut ranks = [0; 16];
     let line = |record: &[u8]| {
-        let key = u32::from_be_bytes(record[..4].try_into().unwrap());
+        let key = u32::from_be_bytes(record[..KEY].try_into().unwrap());
         let unit = store::layout::unit_of(bytes[6] as usize, key);
         ranks[unit] += 1;
-        format!("{unit:02X} {:02X} {key:08X} {}\n", ranks[unit], hex(&record[4..]))
+        format!("{unit:02X} {:02X} {key:08X} {}\n", ranks[unit], hex(&record[KEY..]))
     };
-    records.chunks_exact(20).map(line).collect()
+    records.chunks_exact(RECORD).map(line).collect()
 }
 
 /// The line of a call, where it has one. The program's list buffer is one for all lines.

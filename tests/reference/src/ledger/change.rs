@@ -6,8 +6,8 @@ use crate::call::Call;
 impl Ledger {
     pub(super) fn change(&mut self, call: &Call) {
         match call {
-            Call::Teach { key, body } => self.teach(*key, body),
-            Call::Correct { key, body } => self.correct(*key, body),
+            Call::Teach { key, field } => self.teach(*key, field),
+            Call::Correct { key, field } => self.correct(*key, field),
             Call::Erase { key } => self.erase(*key),
             Call::Out { unit } => self.out[*unit as usize] = true,
             Call::Repair { group } => self.repair(*group as usize),
@@ -19,15 +19,15 @@ impl Ledger {
         }
     }
 
-    fn teach(&mut self, key: u32, body: &[u8]) {
+    fn teach(&mut self, key: u32, field: &[u8]) {
         let unit = self.unit_of(key);
-        self.lists[unit].push(Record { key, body: body.try_into().unwrap() });
+        self.lists[unit].push(Record { key, field: field.try_into().unwrap() });
     }
 
-    fn correct(&mut self, key: u32, body: &[u8]) {
+    fn correct(&mut self, key: u32, field: &[u8]) {
         let unit = self.unit_of(key);
         let record = self.lists[unit].iter_mut().find(|r| r.key == key).unwrap();
-        record.body = body.try_into().unwrap();
+        record.field = field.try_into().unwrap();
     }
 
     fn erase(&mut self, key: u32) {

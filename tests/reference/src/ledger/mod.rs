@@ -6,12 +6,13 @@ mod picture;
 mod symbols;
 
 use crate::call::{Answer, Call};
+use crate::record::FIELD;
 pub use symbols::{coefficient, product};
 
 #[derive(Clone, Debug, PartialEq, Eq)]
 pub struct Record {
     pub key: u32,
-    pub body: [u8; 16],
+    pub field: [u8; FIELD],
 }
 
 #[derive(Clone, Debug, PartialEq, Eq)]
@@ -24,6 +25,16 @@ pub struct Ledger {
     pub lists: Vec<Vec<Record>>,
     /// Units out: data units 0 to 15, check unit j of group g at 16 + 3g + j.
     pub out: [bool; 28],
+}
+
+/// Bytes of a store before its units, and bytes of each rank in all of them, as document 02 has them;
+/// the byte store works the latter out from the widths.
+const HEADER: usize = 36;
+const RANK: usize = 816;
+
+/// The length of a store of units of b slots.
+pub fn length(b: usize) -> usize {
+    HEADER + RANK * b
 }
 
 /// The sum of a key's eight hexadecimal digits: the digit at place i is how often 16 to the power i
@@ -59,7 +70,7 @@ impl Ledger {
         if !(1..=64).contains(&b) {
             return Err(2);
         }
-        if slice < 36 + 704 * b as usize {
+        if slice < length(b as usize) {
             return Err(7);
         }
         Ok(Ledger { b: b as usize, level: 1, lists: vec![Vec::new()], out: [false; 28] })
@@ -115,8 +126,8 @@ impl Ledger {
         let number = self.number(call);
         match call {
             Call::Read { key, .. } => {
-                let body = if number == 0 { self.find(*key).map(|r| r.body) } else { None };
-                Answer::Read(number, body)
+                let field = if number == 0 { self.find(*key).map(|r| r.field) } else { None };
+                Answer::Read(number, field)
             }
             Call::ReadInPlace { key } => Answer::Part(self.part(*key)),
             Call::List { .. } if number == 0 => {
@@ -127,17 +138,17 @@ impl Ledger {
         }
     }
 
-    /// The body of a key, or nothing where a read would be refused or the key's unit is out.
+    /// The field of a key, or nothing where a read would be refused or the key's unit is out.
     fn part(&self, key: u32) -> Vec<u8> {
-        let refused = self.number(&Call::Read { key, out: 16 }) != 0;
+        let refused = self.number(&Call::Read { key, out: FIELD }) != 0;
         if refused || self.out[self.unit_of(key)] {
             return Vec::new();
         }
-        self.find(key).unwrap().body.to_vec()
+        self.find(key).unwrap().field.to_vec()
     }
 
     fn listing(&self) -> Vec<u8> {
         let records = self.lists.iter().flatten();
-        records.flat_map(|r| r.key.to_be_bytes().into_iter().chain(r.body)).collect()
+        records.flat_map(|r| r.key.to_be_bytes().into_iter().chain(r.field)).collect()
     }
 }

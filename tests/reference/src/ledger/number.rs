@@ -2,6 +2,7 @@
 
 use super::{split_unit, Ledger};
 use crate::call::Call;
+use crate::record::{FIELD, RECORD};
 
 /// The order in which the conditions are asked. 1, not sound, never applies to a ledger.
 const ORDER: [u8; 8] = [2, 3, 9, 4, 8, 5, 6, 7];
@@ -95,7 +96,7 @@ impl Ledger {
                 let last = self.units() - 1;
                 self.lists[last].len() + self.lists[split_unit(last)].len() > self.b
             }
-            Call::List { out } => *out < 20 * self.records(),
+            Call::List { out } => *out < RECORD * self.records(),
             _ => false,
         }
     }
@@ -104,8 +105,10 @@ impl Ledger {
 fn bad_argument(call: &Call) -> bool {
     match call {
         Call::LayOut { b } => !(1..=64).contains(b),
-        Call::Teach { key, body } | Call::Correct { key, body } => *key == 0 || body.len() != 16,
-        Call::Read { key, out } => *key == 0 || *out != 16,
+        Call::Teach { key, field } | Call::Correct { key, field } => {
+            *key == 0 || field.len() != FIELD
+        }
+        Call::Read { key, out } => *key == 0 || *out != FIELD,
         Call::Erase { key } => *key == 0,
         Call::Out { unit } => *unit > 27,
         Call::Repair { group } => *group > 3,

@@ -1,13 +1,17 @@
 //! The picture of a ledger: the bytes of its store.
 
 use super::symbols::{coefficient, product};
-use super::Ledger;
+use super::{length, Ledger};
+use crate::record::{FIELD, KEY, RECORD};
+
+const VERSION: u8 = 4;
+const CHECK_RECORD: usize = 4 * KEY + FIELD;
 
 impl Ledger {
     /// The bytes of the store, of its length, put together from the front.
     pub fn picture(&self) -> Vec<u8> {
-        let mut bytes = vec![3];
-        bytes.extend((36 + 704 * self.b as u32).to_be_bytes());
+        let mut bytes = vec![VERSION];
+        bytes.extend((length(self.b) as u32).to_be_bytes());
         bytes.extend([self.b as u8, self.units() as u8, self.level as u8]);
         bytes.extend((0..16).map(|unit| self.state(unit, unit < self.units())));
         for group in 0..4 {
@@ -31,25 +35,25 @@ impl Ledger {
         }
     }
 
-    fn slot(&self, unit: usize, place: usize) -> [u8; 20] {
-        let mut slot = [0; 20];
+    fn slot(&self, unit: usize, place: usize) -> [u8; RECORD] {
+        let mut slot = [0; RECORD];
         if !self.out[unit] {
-            let (key, body) = self.record(unit, place);
-            slot[..4].copy_from_slice(&key.to_be_bytes());
-            slot[4..].copy_from_slice(&body);
+            let (key, field) = self.record(unit, place);
+            slot[..KEY].copy_from_slice(&key.to_be_bytes());
+            slot[KEY..].copy_from_slice(&field);
         }
         slot
     }
 
-    /// Key and body at a place of a list, a missing record as zeros.
-    fn record(&self, unit: usize, place: usize) -> (u32, [u8; 16]) {
+    /// Key and field at a place of a list, a missing record as zeros.
+    fn record(&self, unit: usize, place: usize) -> (u32, [u8; FIELD]) {
         let record = self.lists.get(unit).and_then(|list| list.get(place));
-        record.map_or((0, [0; 16]), |r| (r.key, r.body))
+        record.map_or((0, [0; FIELD]), |r| (r.key, r.field))
     }
 
     fn check_unit(&self, group: usize, j: usize) -> Vec<u8> {
         if j >= self.checks(group) || self.out[16 + 3 * group + j] {
-            return vec![0; 32 * self.b];
+            return vec![0; CHECK_RECORD * self.b];
         }
         (0..self.b).flat_map(|place| self.check_record(group, j, place)).collect()
     }
@@ -58,7 +62,7 @@ impl Ledger {
         let records = [0, 1, 2, 3].map(|i| self.record(4 * group + i, place));
         let coefficients = [0, 1, 2, 3].map(|i| coefficient(i, 4 + j as u8));
         let mut bytes: Vec<u8> = records.iter().flat_map(|(key, _)| key.to_be_bytes()).collect();
-        for at in 0..16 {
+        for at in 0..FIELD {
             let terms = (0..4).map(|i| times(coefficients[i], records[i].1[at]));
             bytes.push(terms.fold(0, |sum, term| sum ^ term));
         }

@@ -52,11 +52,12 @@ pub fn byte(symbols: [u8; 2]) -> u8 {
     symbols[0] << 4 | symbols[1]
 }
 
-/// A symbol times each symbol of a body.
-pub fn scaled(symbol: u8, body: [u8; 16]) -> [u8; 16] {
-    body.map(|b| byte(symbols(b).map(|s| product(symbol, s))))
+/// A symbol times both symbols of each byte.
+pub fn scaled<const N: usize>(symbol: u8, bytes: [u8; N]) -> [u8; N] {
+    bytes.map(|b| byte(symbols(b).map(|s| product(symbol, s))))
 }
 
-pub fn sum(a: [u8; 16], b: [u8; 16]) -> [u8; 16] {
+/// The sum of the symbols of each two bytes.
+pub fn sum<const N: usize>(a: [u8; N], b: [u8; N]) -> [u8; N] {
     std::array::from_fn(|i| a[i] ^ b[i])
 }

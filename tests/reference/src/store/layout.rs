@@ -1,24 +1,48 @@
 //! "Bytes of a store": where its parts lie, and reading them. Ranks count from 0 here.
 
-pub const VERSION: u8 = 3;
+use crate::record::{FIELD, KEY, RECORD};
+
+pub const VERSION: u8 = 4;
 pub const HEADER: usize = 36;
-pub const SLOT: usize = 20;
-pub const CHECK_RECORD: usize = 32;
+/// A slot: key and field.
+pub const SLOT: usize = RECORD;
+/// The keys of a check record: one for each place of its group.
+const LISTED_KEYS: usize = 4 * KEY;
+/// A check record: the keys, then the parity of the fields.
+pub const CHECK_RECORD: usize = LISTED_KEYS + FIELD;
+/// One rank of all 16 data units and all 12 check units.
+const RANK: usize = 16 * SLOT + 12 * CHECK_RECORD;
 
 pub const IN_SERVICE: u8 = 1;
 pub const OUT: u8 = 2;
 
 /// The length of a store of units of b slots.
 pub fn length(b: usize) -> usize {
-    HEADER + 704 * b
+    HEADER + RANK * b
 }
 
 pub fn slot_at(b: usize, unit: usize, rank: usize) -> usize {
     HEADER + (unit * b + rank) * SLOT
 }
 
+/// Where the field of a slot starts.
+pub fn field_at(b: usize, unit: usize, rank: usize) -> usize {
+    slot_at(b, unit, rank) + KEY
+}
+
+/// Where a record of check unit 0 to 11 starts.
 pub fn check_at(b: usize, check: usize, rank: usize) -> usize {
     HEADER + 16 * b * SLOT + (check * b + rank) * CHECK_RECORD
+}
+
+/// Where a check record lists the key of a place of its group.
+pub fn listed_key_at(b: usize, check: usize, rank: usize, place: usize) -> usize {
+    check_at(b, check, rank) + KEY * place
+}
+
+/// Where the parity of a check record starts.
+pub fn parity_at(b: usize, check: usize, rank: usize) -> usize {
+    check_at(b, check, rank) + LISTED_KEYS
 }
 
 /// Where the state of unit 0 to 27 lies.
@@ -37,6 +61,11 @@ pub fn unit_range(b: usize, unit: usize) -> std::ops::Range<usize> {
 
 fn word(bytes: &[u8], at: usize) -> u32 {
     u32::from_be_bytes(bytes[at..at + 4].try_into().unwrap())
+}
+
+/// As many bytes as a field has, from `at` on.
+fn field_in(bytes: &[u8], at: usize) -> [u8; FIELD] {
+    bytes[at..at + FIELD].try_into().unwrap()
 }
 
 /// A store whose header is in order.
@@ -81,19 +110,17 @@ impl<'a> View<'a> {
         word(self.bytes, slot_at(self.b, unit, rank))
     }
 
-    pub fn body(&self, unit: usize, rank: usize) -> [u8; 16] {
-        let at = slot_at(self.b, unit, rank) + 4;
-        self.bytes[at..at + 16].try_into().unwrap()
+    pub fn field(&self, unit: usize, rank: usize) -> [u8; FIELD] {
+        field_in(self.bytes, field_at(self.b, unit, rank))
     }
 
     /// The key that check unit 0 to 11 lists for a place of its group.
     pub fn listed_key(&self, check: usize, rank: usize, place: usize) -> u32 {
-        word(self.bytes, check_at(self.b, check, rank) + 4 * place)
+        word(self.bytes, listed_key_at(self.b, check, rank, place))
     }
 
-    pub fn parity(&self, check: usize, rank: usize) -> [u8; 16] {
-        let at = check_at(self.b, check, rank) + 16;
-        self.bytes[at..at + 16].try_into().unwrap()
+    pub fn parity(&self, check: usize, rank: usize) -> [u8; FIELD] {
+        field_in(self.bytes, parity_at(self.b, check, rank))
     }
 
     /// Check units of a group in a state, in number order.

@@ -10,6 +10,7 @@ mod units;
 pub(crate) mod write;
 
 use crate::call::{Answer, Call};
+use crate::record::RECORD;
 pub use records::{correct, erase, list, read, read_in_place, teach};
 pub use sound::{broken_clauses, clause_names, sound};
 pub use units::{grow, lay_out, raise, repair, shrink, unit_out};
@@ -21,8 +22,8 @@ const UNWRITTEN: u8 = 0xA5;
 pub fn perform(bytes: &mut [u8], call: &Call) -> Answer {
     Answer::Number(match call {
         Call::LayOut { b } => lay_out(bytes, *b),
-        Call::Teach { key, body } => teach(bytes, *key, body),
-        Call::Correct { key, body } => correct(bytes, *key, body),
+        Call::Teach { key, field } => teach(bytes, *key, field),
+        Call::Correct { key, field } => correct(bytes, *key, field),
         Call::Erase { key } => erase(bytes, *key),
         Call::Read { key, out } => return perform_read(bytes, *key, *out),
         Call::ReadInPlace { key } => return Answer::Part(read_in_place(bytes, *key).to_vec()),
@@ -48,7 +49,7 @@ fn perform_read(bytes: &[u8], key: u32, out: usize) -> Answer {
 fn perform_list(bytes: &[u8], out: usize) -> Answer {
     let mut buffer = vec![UNWRITTEN; out];
     let (number, count) = list(bytes, &mut buffer);
-    let written = 20 * count as usize;
+    let written = RECORD * count as usize;
     assert!(buffer[written..].iter().all(|&x| x == UNWRITTEN));
     buffer.truncate(written);
     Answer::List(number, count, buffer)

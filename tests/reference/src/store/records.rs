@@ -1,17 +1,18 @@
 //! The calls on records: teach, correct, erase, read, read in place, list.
 
-use super::layout::{slot_at, View, OUT};
+use super::layout::{field_at, View, OUT};
 use super::recover;
 use super::sound::sound;
-use super::write::change_slot;
+use super::write::{change_slot, EMPTY};
+use crate::record::{FIELD, KEY, RECORD};
 
 /// The view of a store that has passed the test of soundness.
 fn tested(bytes: &[u8]) -> Option<View<'_>> {
     View::new(bytes).filter(|_| sound(bytes))
 }
 
-pub fn teach(bytes: &mut [u8], key: u32, body: &[u8]) -> u8 {
-    let Ok(body) = body.try_into() else { return 2 };
+pub fn teach(bytes: &mut [u8], key: u32, field: &[u8]) -> u8 {
+    let Ok(field) = field.try_into() else { return 2 };
     if key == 0 {
         return 2;
     }
@@ -27,12 +28,12 @@ pub fn teach(bytes: &mut [u8], key: u32, body: &[u8]) -> u8 {
     if rank == view.b {
         return 7;
     }
-    change_slot(bytes, unit, rank, (key, body));
+    change_slot(bytes, unit, rank, (key, field));
     0
 }
 
-pub fn correct(bytes: &mut [u8], key: u32, body: &[u8]) -> u8 {
-    let Ok(body) = body.try_into() else { return 2 };
+pub fn correct(bytes: &mut [u8], key: u32, field: &[u8]) -> u8 {
+    let Ok(field) = field.try_into() else { return 2 };
     if key == 0 {
         return 2;
     }
@@ -42,7 +43,7 @@ pub fn correct(bytes: &mut [u8], key: u32, body: &[u8]) -> u8 {
         return 4;
     }
     let Some(rank) = view.rank_of(key) else { return 6 };
-    change_slot(bytes, unit, rank, (key, body));
+    change_slot(bytes, unit, rank, (key, field));
     0
 }
 
@@ -57,14 +58,14 @@ pub fn erase(bytes: &mut [u8], key: u32) -> u8 {
     }
     let Some(rank) = view.rank_of(key) else { return 6 };
     let last = view.count(unit) - 1;
-    let moved = (view.key(unit, last), view.body(unit, last));
+    let moved = (view.key(unit, last), view.field(unit, last));
     change_slot(bytes, unit, rank, moved);
-    change_slot(bytes, unit, last, (0, [0; 16]));
+    change_slot(bytes, unit, last, EMPTY);
     0
 }
 
 pub fn read(bytes: &[u8], key: u32, out: &mut [u8]) -> u8 {
-    if key == 0 || out.len() != 16 {
+    if key == 0 || out.len() != FIELD {
         return 2;
     }
     let Some(view) = tested(bytes) else { return 1 };
@@ -73,7 +74,7 @@ pub fn read(bytes: &[u8], key: u32, out: &mut [u8]) -> u8 {
         return 8;
     }
     let Some(rank) = view.rank_of(key) else { return 6 };
-    out.copy_from_slice(&recover::body(view, unit, rank));
+    out.copy_from_slice(&recover::record_field(view, unit, rank));
     0
 }
 
@@ -81,9 +82,9 @@ pub fn read_in_place(bytes: &[u8], key: u32) -> &[u8] {
     let found = tested(bytes).filter(|_| key != 0).and_then(|view| {
         let unit = view.unit_of(key);
         let rank = view.rank_of(key).filter(|_| view.state(unit) != OUT)?;
-        Some(slot_at(view.b, unit, rank) + 4)
+        Some(field_at(view.b, unit, rank))
     });
-    found.map_or(&[], |at| &bytes[at..at + 16])
+    found.map_or(&[], |at| &bytes[at..at + FIELD])
 }
 
 /// Number and count.
@@ -94,12 +95,12 @@ pub fn list(bytes: &[u8], out: &mut [u8]) -> (u8, u32) {
         return (8, 0);
     }
     let records: Vec<_> = units.flat_map(|unit| recover::records(view, unit)).collect();
-    if out.len() < 20 * records.len() {
+    if out.len() < RECORD * records.len() {
         return (7, 0);
     }
-    for (entry, (key, body)) in out.chunks_exact_mut(20).zip(&records) {
-        entry[..4].copy_from_slice(&key.to_be_bytes());
-        entry[4..].copy_from_slice(body);
+    for (entry, (key, field)) in out.chunks_exact_mut(RECORD).zip(&records) {
+        entry[..KEY].copy_from_slice(&key.to_be_bytes());
+        entry[KEY..].copy_from_slice(field);
     }
     (0, records.len() as u32)
 }

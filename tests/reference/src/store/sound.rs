@@ -1,6 +1,7 @@
 //! Soundness, clause by clause.
 
 use super::layout::{unit_of, unit_range, View, IN_SERVICE, OUT};
+use crate::record::FIELD;
 
 /// A clause by name.
 type Clause = (&'static str, fn(View) -> bool);
@@ -55,7 +56,7 @@ fn check_units_in_place(view: View) -> bool {
 fn zero_where_nothing_is(view: View) -> bool {
     let empty_unit = |unit: usize| view.bytes[unit_range(view.b, unit)].iter().all(|&x| x == 0);
     let empty_slots = |unit: usize| {
-        (0..view.b).all(|rank| view.key(unit, rank) != 0 || view.body(unit, rank) == [0; 16])
+        (0..view.b).all(|rank| view.key(unit, rank) != 0 || view.field(unit, rank) == [0; FIELD])
     };
     (0..28).all(|unit| match view.state(unit) {
         IN_SERVICE => unit >= 16 || empty_slots(unit),

@@ -1,14 +1,24 @@
 //! Writing records, and making check units.
 
 use super::field::{scaled, sum};
-use super::layout::{check_at, slot_at, state_at, unit_range, View, IN_SERVICE};
+use super::layout::{
+    field_at, listed_key_at, parity_at, slot_at, state_at, unit_range, View, IN_SERVICE,
+};
 use super::matrix::entry;
+use crate::record::FIELD;
 
-/// A record as it stands in a slot; key 0 is an empty slot.
-pub type Record = (u32, [u8; 16]);
+/// A record as it stands in a slot: key and field.
+pub type Record = (u32, [u8; FIELD]);
+
+/// What stands in a slot without a record.
+pub const EMPTY: Record = (0, [0; FIELD]);
 
 fn view(bytes: &[u8]) -> View<'_> {
     View::new(bytes).expect("a sound store")
+}
+
+fn put(bytes: &mut [u8], at: usize, content: &[u8]) {
+    bytes[at..at + content.len()].copy_from_slice(content);
 }
 
 pub fn set_state(bytes: &mut [u8], unit: usize, state: u8) {
@@ -17,24 +27,24 @@ pub fn set_state(bytes: &mut [u8], unit: usize, state: u8) {
 
 /// Writes a slot, and nothing else.
 pub fn set_slot(bytes: &mut [u8], unit: usize, rank: usize, record: Record) {
-    let at = slot_at(view(bytes).b, unit, rank);
-    bytes[at..at + 4].copy_from_slice(&record.0.to_be_bytes());
-    bytes[at + 4..at + 20].copy_from_slice(&record.1);
+    let b = view(bytes).b;
+    put(bytes, slot_at(b, unit, rank), &record.0.to_be_bytes());
+    put(bytes, field_at(b, unit, rank), &record.1);
 }
 
 /// Writes a slot of a group without losses, with its keys in the check units, and adds the change
-/// of body times the coefficient to their parity.
+/// of field times the coefficient to their parity.
 pub fn change_slot(bytes: &mut [u8], unit: usize, rank: usize, record: Record) {
-    let before = view(bytes).body(unit, rank);
+    let b = view(bytes).b;
+    let before = view(bytes).field(unit, rank);
     let change = sum(before, record.1);
     set_slot(bytes, unit, rank, record);
     let (group, place) = (unit / 4, unit % 4);
     for check in view(bytes).checks_in(group, IN_SERVICE) {
         let coefficient = entry(place, 4 + check % 3);
         let parity = sum(view(bytes).parity(check, rank), scaled(coefficient, change));
-        let at = check_at(view(bytes).b, check, rank);
-        bytes[at + 4 * place..at + 4 * place + 4].copy_from_slice(&record.0.to_be_bytes());
-        bytes[at + 16..at + 32].copy_from_slice(&parity);
+        put(bytes, listed_key_at(b, check, rank, place), &record.0.to_be_bytes());
+        put(bytes, parity_at(b, check, rank), &parity);
     }
 }
 
@@ -56,15 +66,14 @@ pub fn make_check(bytes: &mut [u8], check: usize) {
     let b = view(bytes).b;
     set_state(bytes, 16 + check, IN_SERVICE);
     for rank in 0..b {
-        let mut parity = [0; 16];
-        let at = check_at(b, check, rank);
+        let mut parity = [0; FIELD];
         for place in 0..4 {
             let unit = 4 * (check / 3) + place;
             let key = view(bytes).key(unit, rank);
-            let body = view(bytes).body(unit, rank);
-            parity = sum(parity, scaled(entry(place, 4 + check % 3), body));
-            bytes[at + 4 * place..at + 4 * place + 4].copy_from_slice(&key.to_be_bytes());
+            let field = view(bytes).field(unit, rank);
+            parity = sum(parity, scaled(entry(place, 4 + check % 3), field));
+            put(bytes, listed_key_at(b, check, rank, place), &key.to_be_bytes());
         }
-        bytes[at + 16..at + 32].copy_from_slice(&parity);
+        put(bytes, parity_at(b, check, rank), &parity);
     }
 }

@@ -48,7 +48,8 @@ returns-2 c =
 returns-3 : tie.Need-returns-3
 returns-3 c =
     let i = c .before in
-    c .without-field .ensures ∙ bare _ _ _ (i .before .before .before .before .before .byte-at .ensures) (i .before .before .before .before .digits-of .ensures .0)
+    c .without-field .ensures
+    ∙ bare _ _ _ (i .before .before .before .before .before .byte-at .ensures) (i .before .before .before .before .digits-of .ensures .0)
     (i .if3 .taken) (i .before .if2 .left ∙ i .before .before .length-of .ensures)
 
 shared-slice-read-if4 : tie.Need-shared-slice-read-if4

@@ -2,7 +2,7 @@
 use Prim.Native.Nat.{ℕ, _*_, _/_, _≤_}
 use mathlib.Core.Path.{_≡_, refl, sym, ap, _∙_}
 use mathlib.Core.List.{List}
-use mathlib.Core.Option.{none}
+use mathlib.Core.Option.{none, some}
 use mathlib.Core.Bool.{Bool, _&&_}
 use native.Mathlib.Omega.{arith}
 use lib.Dec.{eqb, ltb, leb}
@@ -14,6 +14,8 @@ use Rattle.model.specs.Layout.{view, storeBytes, unitsIn, Store}
 use Rattle.model.specs.Reads.{homeIn, beyondIn}
 use Rattle.model.specs.Numbers.{Call, read, repair, firstOf, numberIn}
 use Rattle.model.specs.Perform.{copied, perform, layOutNumber, layOut}
+use Rattle.model.specs.Field.{stamped}
+use Rattle.model.specs.FieldLaws.{body-back, stamp-back}
 use Rattle.model.specs.GrantedLayout.{layout-granted}
 use Rattle.model.specs.history.Ledger.{Ledger, opened, home}
 use Rattle.model.specs.history.Picture.{picture}
@@ -21,7 +23,7 @@ use Rattle.model.specs.history.Table.{refusals, number}
 use Rattle.model.specs.history.Answers.{final}
 use Rattle.model.specs.history.Runs.{answersIn, finalIn, aloneIn, allGranted, lastTaught, asTaught}
 use Rattle.model.specs.history.Typed.{AllTyped}
-use Rattle.model.specs.history.Claims.{Histories, Unlost, ReadsAsTaught, BeyondRecovery, Outlives}
+use Rattle.model.specs.history.Claims.{HasParts, Histories, Unlost, ReadsAsTaught, TaughtWith, HandsBackBoth, BeyondRecovery, Outlives}
 use Rattle.group.specs.Widths.{fieldBytes}
 use Rattle.model.proofs.history.ledger.Valid.{Valid}
 use Rattle.model.proofs.history.taught.Recorded.{recorded}
@@ -34,6 +36,7 @@ use Rattle.model.proofs.history.calls.Repair.{repair-simulated}
 use Rattle.model.proofs.history.alone.Lossless.{lossless, alone, allGrantedBy, final-lossless, alone-again, lossless-opened, lossless-state, alone-typed}
 use Rattle.model.proofs.history.alone.Unlost.{lossless-valid, same-unit}
 use Rattle.model.proofs.history.claims.History.{Run, ordered-of, run}
+use Rattle.model.proofs.history.claims.Stamps.{lent-in-place, listed-as-entry}
 
 -- ---- on the picture of a valid ledger
 
@@ -119,6 +122,20 @@ module _ (s : List ℕ) (b : ℕ) (zero : layOutNumber s b ≡ 0) (cs : List Cal
   reads-as-taught : ReadsAsTaught s b cs
   reads-as-taught k a out fits = rw (left-is, ← (stands k)) (tells end rest (whole .valid) k a out fits)
 
+  -- body and stamp as taught
+  with-stamps : (k : ℕ) (body : List ℕ) (stamp : ℕ) → TaughtWith s b cs k body stamp → HandsBackBoth s b cs k body stamp
+  unfolding asTaught pick
+  with-stamps k body stamp t =
+      let x : List ℕ = stamped body stamp in
+      let held : recorded end k ≡ some x = stands k ∙ t .last in
+      let both : HasParts body stamp x = (body-back body stamp (t .long), stamp-back body stamp (t .long) (t .small)) in
+      record {
+        by-read = λ out fits ok. (x, reads-as-taught k (t .key) out fits ∙ rw (ok, t .last), both);
+        in-place = rw left-is (λ on. (x, lent-in-place end rest (whole .valid) k x held (t .key) on, both));
+        by-list = rw left-is (λ out zero.
+            let e = listed-as-entry end rest (whole .valid) k x held out zero in (e .0, e .1, e .2, x, e .3, e .4, e .5, both));
+      }
+
   beyond-recovery : BeyondRecovery s b cs
   beyond-recovery g = rw left-is (repairs end rest (whole .valid) g)
 
@@ -128,5 +145,6 @@ outlives s b zero cs typed = record {
   histories = histories s b zero cs typed;
   unlost = unlost s b zero cs typed;
   reads-as-taught = reads-as-taught s b zero cs typed;
+  with-stamps = with-stamps s b zero cs typed;
   beyond-recovery = beyond-recovery s b zero cs typed;
 }
