@@ -3,12 +3,14 @@
 use Prim.Native.Nat.{ℕ, _+_, _*_, _/_, _%_, _<_}
 use mathlib.Core.Path.{_≡_, refl, sym, ap, _∙_}
 use mathlib.Core.List.{List}
+use native.Mathlib.Nat.{add-zero}
 use native.Mathlib.Omega.{arith}
 use lib.Dec.{eqb}
 use borrow.Author.Tests.{eqb-true, eq-eqb}
 use Rattle.buffer.specs.Bytes.{byte, be32}
-use Rattle.buffer.specs.ByteOrder.{le32, turn}
+use Rattle.buffer.specs.ByteOrder.{le32, turn, lowByte}
 use Rattle.buffer.specs.ByteLaws.{low-byte, above-byte}
+use Rattle.buffer.specs.RangeLaws.{below-four}
 use Rattle.buffer.specs.TestLaws.{same-test}
 
 -- what stands above two bytes of a number, and above three
@@ -21,6 +23,17 @@ above24 x r q h e = omega arith
 joined : (p q r s a b c d : ℕ) → p ≡ a → q ≡ b → r ≡ c → s ≡ d → p * 16777216 + q * 65536 + r * 256 + s ≡ a * 16777216 + b * 65536 + c * 256 + d
 joined p q r s a b c d ea eb ec ed = omega arith
 
+-- the bytes of a number made of four
+pub low-bytes : (a b c d x : ℕ) → a < 256 → b < 256 → c < 256 → d < 256 → x ≡ a + b * 256 + c * 65536 + d * 16777216
+    → (lowByte x 0 ≡ a) × (lowByte x 1 ≡ b) × (lowByte x 2 ≡ c) × (lowByte x 3 ≡ d)
+unfolding lowByte
+low-bytes a b c d x ha hb hc hd e = (
+  low-byte (x / 1) a (b + c * 256 + d * 65536) ha (omega (arith, e)),
+  low-byte (x / 256) b (c + d * 256) hb (above-byte x a (b + (c + d * 256) * 256) ha (omega (arith, e))),
+  low-byte (x / 65536) c d hc (above16 x (a + b * 256) (c + d * 256) (omega (arith, ha, hb)) (omega (arith, e))),
+  low-byte (x / 16777216) d 0 hd (above24 x (a + b * 256 + c * 65536) d (omega (arith, ha, hb, hc)) (omega (arith, e)) ∙ omega arith),
+)
+
 pub turn-low : (a b c d x : ℕ) → a < 256 → b < 256 → c < 256 → d < 256 → x ≡ a + b * 256 + c * 65536 + d * 16777216
     → turn x ≡ a * 16777216 + b * 65536 + c * 256 + d
 turn-low a b c d x ha hb hc hd e =
@@ -29,6 +42,13 @@ turn-low a b c d x ha hb hc hd e =
     (low-byte (x / 256) b (c + d * 256) hb (above-byte x a (b + (c + d * 256) * 256) ha (omega (arith, e))))
     (low-byte (x / 65536) c d hc (above16 x (a + b * 256) (c + d * 256) (omega (arith, ha, hb)) (omega (arith, e))))
     (above24 x (a + b * 256 + c * 65536) d (omega (arith, ha, hb, hc)) (omega (arith, e)))
+
+pub byte-le : (s : List ℕ) (x : ℕ) → ((k : ℕ) → k < 4 → byte s (x + k) < 256) → (k : ℕ) → k < 4 → lowByte (le32 s x) k ≡ byte s (x + k)
+unfolding le32
+byte-le s x h =
+    let front : byte s (x + 0) ≡ byte s x = ap (λ i. byte s i) (add-zero x) in
+    let e = low-bytes _ _ _ _ (le32 s x) (omega (arith, front, h 0 (omega arith))) (h 1 (omega arith)) (h 2 (omega arith)) (h 3 (omega arith)) refl in
+    below-four (λ k. lowByte (le32 s x) k ≡ byte s (x + k)) (e .0 ∙ sym front) (e .1) (e .2) (e .3)
 
 module _ (s : List ℕ) (bound : (i : ℕ) → byte s i < 256) where
   pub turn-le : (x : ℕ) → turn (le32 s x) ≡ be32 s x

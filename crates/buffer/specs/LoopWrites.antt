@@ -3,15 +3,15 @@
 use mathlib.Core.Path.{_≡_, refl, sym, ap, _∙_}
 use mathlib.Core.List.{List, [], _∷_, _++_, append-assoc, append-nil}
 use Prim.Native.Nat.{ℕ, zero, suc, _+_, _*_, _≤_, _<_}
-use native.Mathlib.Nat.{le-of-suc-le-suc, not-suc-le-zero}
+use native.Mathlib.Nat.{zero-add, suc-add, le-of-suc-le-suc, not-suc-le-zero}
 use native.Mathlib.Numerals.{add-one}
 use native.Mathlib.Omega.{arith}
 use lib.ListN.{length, getD, set, drop, length-append, length-set, take-append-drop, drop-of-length-le, List·getD-eq-default, List·getD-append}
 use lib.Seq.{take-at, drop-at, drop-drop}
 use Rattle.buffer.specs.Loops.{entries}
-use Rattle.buffer.specs.RangeLaws.{length-entries, getD-entries}
+use Rattle.buffer.specs.RangeLaws.{length-entries, getD-entries, entries-ext}
 use Rattle.buffer.specs.Bytes.{byte, splice}
-use Rattle.buffer.specs.SpliceLaws.{length-splice, splice-next, set-splice}
+use Rattle.buffer.specs.SpliceLaws.{length-splice, splice-next}
 use Rattle.buffer.specs.ByteLaws.{byte-splice-before}
 use Rattle.buffer.specs.Table.{tab}
 use Rattle.buffer.specs.TableLaws.{Wide, tab-more, length-tab}
@@ -78,29 +78,32 @@ filling-end {f} {l₀} {l} {i} g h =
     let e : i ≡ length l₀ = omega arith in
     g .bytes ∙ rw e (filled-all f l₀ (length l₀) (omega arith))
 
--- ---- from a place on, an entry a turn; what stands before it may be read meanwhile
+-- ---- from a place on, some entries a turn; what stands before it may be read meanwhile
 pub record FillingFrom (f : ℕ → ℕ) (at : ℕ) (l₀ l : List ℕ) (i : ℕ) : Type 0 where
   pub long : length l ≡ length l₀
   pub bytes : l ≡ splice at i (entries i f) l₀
 
-entries-more : (f : ℕ → ℕ) (i : ℕ) → entries i f ++ (f i ∷ []) ≡ entries (suc i) f
+entries-append : (i w : ℕ) (f : ℕ → ℕ) → entries i f ++ entries w (λ k. f (i + k)) ≡ entries (i + w) f
 unfolding entries
-entries-more f zero = refl
-entries-more f (suc i) = ap (λ (t : List ℕ). f 0 ∷ t) (entries-more (λ (k : ℕ). f (suc k)) i)
+entries-append zero w f = rw zero-add (entries-ext w (λ k. f (0 + k)) f (λ k _. rw zero-add))
+entries-append (suc i) w f =
+    rw (suc-add i w)
+    (ap (λ (t : List ℕ). f 0 ∷ (entries i (λ k. f (suc k)) ++ t)) (entries-ext w (λ k. f (suc i + k)) (λ k. f (suc (i + k))) (λ k _. rw (suc-add i k)))
+    ∙ ap (λ (t : List ℕ). f 0 ∷ t) (entries-append i w (λ k. f (suc k))))
 
 pub from-start : {f : ℕ → ℕ} {at : ℕ} {l : List ℕ} → FillingFrom f at l l 0
 unfolding splice entries
 from-start {f} {at} {l} = record { long = refl; bytes = sym (take-append-drop at l) }
 
-pub from-turn : {f : ℕ → ℕ} {at : ℕ} {l₀ l : List ℕ} {i : ℕ} (v : ℕ) → FillingFrom f at l₀ l i → at + i < length l → v ≡ f i
-    → FillingFrom f at l₀ (set l (at + i) v) (i + 1)
-from-turn {f} {at} {l₀} {l} {i} v g h q = record {
-  long = length-set l (at + i) v ∙ g .long;
+pub from-turn : {f : ℕ → ℕ} {at : ℕ} {l₀ l l′ : List ℕ} {i : ℕ} (w : ℕ) (y : List ℕ) → FillingFrom f at l₀ l i → at + i + w ≤ length l
+    → y ≡ entries w (λ k. f (i + k)) → l′ ≡ splice (at + i) w y l → FillingFrom f at l₀ l′ (i + w)
+from-turn {f} {at} {l₀} {l} {l′} {i} w y g h e q = record {
+  long = ap length q ∙ length-splice (at + i) w y l h (ap length e ∙ length-entries w _) ∙ g .long;
   bytes =
-      set-splice l (at + i) v h
-      ∙ ap (splice (at + i) 1 (v ∷ [])) (g .bytes)
-      ∙ splice-next at i 1 (entries i f) (v ∷ []) l₀ (omega (arith, g .long)) (length-entries i f)
-      ∙ rw (q, add-one) (ap (λ (x : List ℕ). splice at (suc i) x l₀) (entries-more f i));
+      q
+      ∙ ap (splice (at + i) w y) (g .bytes)
+      ∙ splice-next at i w (entries i f) y l₀ (omega (arith, g .long)) (length-entries i f)
+      ∙ ap (λ (x : List ℕ). splice at (i + w) x l₀) (ap (λ (x : List ℕ). entries i f ++ x) e ∙ entries-append i w f);
 }
 
 pub from-read : {f : ℕ → ℕ} {at : ℕ} {l₀ l : List ℕ} {i : ℕ} → FillingFrom f at l₀ l i → (k : ℕ) → at ≤ length l₀ → k < at → byte l k ≡ byte l₀ k

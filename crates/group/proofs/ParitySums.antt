@@ -1,14 +1,15 @@
 -- The bytes of the parities at the three check places, by rows of products: one sum gives them all, the bodies exchanged (`parity-place`).
 -- Assumes nothing.
-use Prim.Native.Nat.{ℕ, zero, suc, _≤_, _<_}
+use Prim.Native.Nat.{ℕ, zero, suc, _*_, _/_, _%_, _^_, _≤_, _<_}
 use mathlib.Core.Path.{_≡_, refl, sym, ap, ap₂, _∙_}
 use mathlib.Core.List.{List}
 use native.Mathlib.Omega.{arith}
-use lib.Bits.{bitXor, xor-comm}
+use lib.Bits.{bitXor, xor-comm, xor-shr, xor-mod}
 use lib.ListN.{length}
 use Rattle.buffer.specs.Loops.{entries}
 use Rattle.buffer.specs.RangeLaws.{getD-entries, entries-of}
 use Rattle.buffer.specs.Bytes.{byte}
+use Rattle.buffer.specs.ByteOrder.{lowByte}
 use Rattle.buffer.specs.LoopWrites.{Filling, filling-end}
 use Rattle.algebra.specs.Xor.{xor-assoc}
 use Rattle.code.specs.Scaling.{scale}
@@ -22,6 +23,7 @@ use Rattle.group.specs.ParityLaws.{byte-sum4, length-parity}
 use Rattle.group.specs.ExchangeLaws.{exchanged, parity-exchanged}
 use Rattle.group.specs.Four.{fourBodies}
 use Rattle.group.specs.ScaledRow.{scaledRow}
+use Rattle.group.specs.FirstSums.{firstSum}
 
 -- ---- four bytes, one of each place
 -- their sum
@@ -42,7 +44,7 @@ last-two a b c = xor-assoc a b c ∙ ap (bitXor a) (xor-comm b c) ∙ sym (xor-a
 -- the coefficients of check place 0 are 8, F, 1 and 7, and F is 8 + 7
 pub mixed : (a b c d : ℕ) → c < 256
     → bitXor (bitXor (scale 8 (bitXor a b)) (scale 7 (bitXor b d))) c
-    ≡ bitXor (bitXor (bitXor (scale (coefficient 0 0) a) (scale (coefficient 1 0) b)) (scale (coefficient 2 0) c)) (scale (coefficient 3 0) d)
+    ≡ firstSum a b c d
 unfolding coefficient entry matrix
 mixed a b c d hc =
     ap (λ x. bitXor x c) (
@@ -52,6 +54,28 @@ mixed a b c d hc =
     (xor-assoc (scale 8 a) (scale 8 b) (scale 7 b) ∙ ap (bitXor (scale 8 a)) (sym (add-scale 8 7 b (omega arith) (omega arith)))))
     ∙ last-two (bitXor (scale 8 a) (scale 15 b)) (scale 7 d) c
     ∙ ap (λ x. bitXor (bitXor (bitXor (scale 8 a) (scale 15 b)) x) (scale 7 d)) (sym (scale-one c hc))
+
+-- the same of a byte of four words
+sum-byte : (a b n : ℕ) → lowByte (bitXor a b) n ≡ bitXor (lowByte a n) (lowByte b n)
+unfolding lowByte
+sum-byte a b n = ap (λ x. x % 256) (xor-shr a b (8 * n)) ∙ xor-mod (a / 2 ^ (8 * n)) (b / 2 ^ (8 * n)) 8
+
+low-byte-lt : (x n : ℕ) → lowByte x n < 256
+unfolding lowByte
+low-byte-lt x n = omega arith
+
+low-zero : (x : ℕ) → lowByte x 0 ≡ x % 256
+unfolding lowByte
+low-zero x = omega arith
+
+pub mixed-byte : (a b c d n : ℕ)
+    → bitXor (bitXor (scale 8 (lowByte (bitXor a b) n)) (scale 7 (lowByte (bitXor b d) n))) (lowByte c n)
+    ≡ firstSum (lowByte a n) (lowByte b n) (lowByte c n) (lowByte d n)
+mixed-byte a b c d n = rw (sum-byte a b n, sum-byte b d n) (mixed (lowByte a n) (lowByte b n) (lowByte c n) (lowByte d n) (low-byte-lt c n))
+
+pub mixed-low : (a b c d : ℕ) → bitXor (bitXor (scale 8 (bitXor a b % 256)) (scale 7 (bitXor b d % 256))) (c % 256)
+    ≡ firstSum (lowByte a 0) (lowByte b 0) (lowByte c 0) (lowByte d 0)
+mixed-low a b c d = rw (← low-zero (bitXor a b), ← low-zero (bitXor b d), ← low-zero c) (mixed-byte a b c d 0)
 
 -- a row's entry
 pub row-byte : (w x : ℕ) → x < 256 → byte (scaledRow w) x ≡ scale w x

@@ -8,6 +8,7 @@ pub mod ParityLaws
 pub mod CutLaws
 pub mod ExchangeLaws
 pub mod ScaledRow
+pub mod FirstSums
 pub mod CheckRecord
 pub mod CheckRecordLaws
 pub mod FollowLaws
