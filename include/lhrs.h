@@ -57,10 +57,13 @@ extern "C" {
 #define LHRS_KEY 4u
 #define LHRS_RECORD (LHRS_KEY + LHRS_FIELD)
 
-/* The bytes of a store whose units have b slots. */
-#define LHRS_LENGTH(b) (36u + 816u * (b))
+/* The bytes of a store whose units have b slots, 36 + 816b: a header, 16 data units, whose slots
+   hold a record each, and 12 check units, with four keys and the parity of fields for each rank. */
+#define LHRS_LENGTH(b) \
+    (36u + (16u * LHRS_RECORD + 12u * (4u * LHRS_KEY + LHRS_FIELD)) * (b))
 
-/* Data units are 0 to 15; check unit j (0 to 2) of group g (0 to 3) is one of 16 to 27. */
+/* Units have numbers 0 to 27: data units 0 to 15, then check unit j (0 to 2) of group g (0 to
+   3). */
 #define LHRS_CHECK_UNIT(g, j) (16u + 3u * (g) + (j))
 
 /* Of a store that was laid out, by a pointer to its first byte: the number of its data units, 1 to

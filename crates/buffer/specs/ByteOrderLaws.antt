@@ -1,5 +1,5 @@
 -- Turned round, a little-endian number is the big-endian one of the same bytes, and the other way: so which numbers are 0 and which are the same does
--- not depend on the order. Assumes nothing.
+-- not depend on the order. Its bytes are those that it was read from (`byte-le`). Assumes nothing.
 use Prim.Native.Nat.{ℕ, _+_, _*_, _/_, _%_, _<_}
 use mathlib.Core.Path.{_≡_, refl, sym, ap, _∙_}
 use mathlib.Core.List.{List}
@@ -23,25 +23,22 @@ above24 x r q h e = omega arith
 joined : (p q r s a b c d : ℕ) → p ≡ a → q ≡ b → r ≡ c → s ≡ d → p * 16777216 + q * 65536 + r * 256 + s ≡ a * 16777216 + b * 65536 + c * 256 + d
 joined p q r s a b c d ea eb ec ed = omega arith
 
--- the bytes of a number made of four
-pub low-bytes : (a b c d x : ℕ) → a < 256 → b < 256 → c < 256 → d < 256 → x ≡ a + b * 256 + c * 65536 + d * 16777216
-    → (lowByte x 0 ≡ a) × (lowByte x 1 ≡ b) × (lowByte x 2 ≡ c) × (lowByte x 3 ≡ d)
-unfolding lowByte
-low-bytes a b c d x ha hb hc hd e = (
-  low-byte (x / 1) a (b + c * 256 + d * 65536) ha (omega (arith, e)),
-  low-byte (x / 256) b (c + d * 256) hb (above-byte x a (b + (c + d * 256) * 256) ha (omega (arith, e))),
-  low-byte (x / 65536) c d hc (above16 x (a + b * 256) (c + d * 256) (omega (arith, ha, hb)) (omega (arith, e))),
-  low-byte (x / 16777216) d 0 hd (above24 x (a + b * 256 + c * 65536) d (omega (arith, ha, hb, hc)) (omega (arith, e)) ∙ omega arith),
-)
+-- a number made of four bytes, lowest first: these come out of it again
+module _ (a b c d x : ℕ) (ha : a < 256) (hb : b < 256) (hc : c < 256) (hd : d < 256) (e : x ≡ a + b * 256 + c * 65536 + d * 16777216) where
+  parts : (x % 256 ≡ a) × (x / 256 % 256 ≡ b) × (x / 65536 % 256 ≡ c) × (x / 16777216 ≡ d)
+  parts = (
+    low-byte x a (b + c * 256 + d * 65536) ha (omega (arith, e)),
+    low-byte (x / 256) b (c + d * 256) hb (above-byte x a (b + (c + d * 256) * 256) ha (omega (arith, e))),
+    low-byte (x / 65536) c d hc (above16 x (a + b * 256) (c + d * 256) (omega (arith, ha, hb)) (omega (arith, e))),
+    above24 x (a + b * 256 + c * 65536) d (omega (arith, ha, hb, hc)) (omega (arith, e)),
+  )
 
-pub turn-low : (a b c d x : ℕ) → a < 256 → b < 256 → c < 256 → d < 256 → x ≡ a + b * 256 + c * 65536 + d * 16777216
-    → turn x ≡ a * 16777216 + b * 65536 + c * 256 + d
-turn-low a b c d x ha hb hc hd e =
-    joined (x % 256) (x / 256 % 256) (x / 65536 % 256) (x / 16777216) a b c d
-    (low-byte x a (b + c * 256 + d * 65536) ha (omega (arith, e)))
-    (low-byte (x / 256) b (c + d * 256) hb (above-byte x a (b + (c + d * 256) * 256) ha (omega (arith, e))))
-    (low-byte (x / 65536) c d hc (above16 x (a + b * 256) (c + d * 256) (omega (arith, ha, hb)) (omega (arith, e))))
-    (above24 x (a + b * 256 + c * 65536) d (omega (arith, ha, hb, hc)) (omega (arith, e)))
+  low-bytes : (lowByte x 0 ≡ a) × (lowByte x 1 ≡ b) × (lowByte x 2 ≡ c) × (lowByte x 3 ≡ d)
+  unfolding lowByte
+  low-bytes = (omega (arith, parts .0), parts .1, parts .2, omega (arith, parts .3, hd))
+
+  pub turn-low : turn x ≡ a * 16777216 + b * 65536 + c * 256 + d
+  turn-low = joined (x % 256) (x / 256 % 256) (x / 65536 % 256) (x / 16777216) a b c d (parts .0) (parts .1) (parts .2) (parts .3)
 
 pub byte-le : (s : List ℕ) (x : ℕ) → ((k : ℕ) → k < 4 → byte s (x + k) < 256) → (k : ℕ) → k < 4 → lowByte (le32 s x) k ≡ byte s (x + k)
 unfolding le32

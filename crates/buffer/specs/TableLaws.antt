@@ -110,24 +110,30 @@ pub part-chunk : (n w : ℕ) (f : ℕ → List ℕ) → Wide n w f → (i : ℕ)
 part-chunk n w f h i l =
     ap (λ j. part j w (tab n f)) (sym (add-zero (w * i))) ∙ part-tab n w f h i 0 w l (omega arith) ∙ part-whole w (f i) (omega (arith, h i l))
 
--- rows of chunks of w bytes, g i of them in row i, one behind the other: the chunk at place r of row i
-pub part-rows : (n w : ℕ) (g : ℕ → ℕ) (f : ℕ → ℕ → List ℕ) → ((i r : ℕ) → i < n → r < g i → length (f i r) ≡ w) → (i r : ℕ) → i < n → r < g i
-    → part (w * (sum i g + r)) w (tab n (λ i. tab (g i) (f i))) ≡ f i r
-part-rows n w g f h i r l m =
-    let row : ℕ → List ℕ = λ i. tab (g i) (f i) in
-    let k : ℕ = n - suc i in
-    let whole : n ≡ i + (1 + k) = omega arith in
-    let here : i + 0 ≡ i = omega arith in
-    let at : w * (sum i g + r) ≡ w * sum i g + w * r = omega arith in
-    let inside : w * suc r ≤ w * g i = mul-le-mul-left w m in
-    let long : length (row i) ≡ w * g i = length-tab (g i) w (f i) (λ q d. h i q l d) in
-    let before : length (tab i row) ≡ w * sum i g = length-tab-sum i w row g (λ q d. length-tab (g q) w (f q) (λ t e. h q t (omega arith) e)) in
-    ap₂ (λ (o : ℕ) (x : List ℕ). part o w x) at
-    (ap (λ j. tab j row) whole ∙ tab-append i (1 + k) row
-    ∙ ap (λ x. tab i row ++ x) (tab-append 1 k (λ j. row (i + j)) ∙ ap (λ x. x ++ tab k (λ j. row (i + (1 + j)))) (tab-one (λ j. row (i + j)) ∙ ap row here)))
-    ∙ part-right (w * sum i g) (w * r) w (tab i row) _ before
-    ∙ part-left (w * r) w (row i) _ (omega arith)
-    ∙ part-chunk (g i) w (f i) (λ q d. h i q l d) r m
+-- rows of chunks of w bytes, g i of them in row i, one behind the other: their length, and the chunk at place r of row i, whatever stands behind
+module _ (w : ℕ) (g : ℕ → ℕ) (f : ℕ → ℕ → List ℕ) where
+  pub length-rows : (n : ℕ) → ((i r : ℕ) → i < n → r < g i → length (f i r) ≡ w) → length (tab n (λ i. tab (g i) (f i))) ≡ w * sum n g
+  length-rows n h = length-tab-sum n w (λ i. tab (g i) (f i)) g (λ i l. length-tab (g i) w (f i) (λ r m. h i r l m))
+
+  pub part-rows : (n : ℕ) → ((i r : ℕ) → i < n → r < g i → length (f i r) ≡ w) → (rest : List ℕ) (i r : ℕ) → i < n → r < g i
+      → part (w * (sum i g + r)) w (tab n (λ i. tab (g i) (f i)) ++ rest) ≡ f i r
+  part-rows n h rest i r l m =
+      let row : ℕ → List ℕ = λ i. tab (g i) (f i) in
+      let k : ℕ = n - suc i in
+      let whole : n ≡ i + (1 + k) = omega arith in
+      let here : i + 0 ≡ i = omega arith in
+      let at : w * (sum i g + r) ≡ w * sum i g + w * r = omega arith in
+      let inside : w * suc r ≤ w * g i = mul-le-mul-left w m in
+      let long : length (row i) ≡ w * g i = length-tab (g i) w (f i) (λ q d. h i q l d) in
+      let split : tab n row ++ rest ≡ tab i row ++ (row i ++ (tab k (λ j. row (i + (1 + j))) ++ rest)) =
+      ap (λ x. x ++ rest) (ap (λ j. tab j row) whole ∙ tab-append i (1 + k) row
+      ∙ ap (λ x. tab i row ++ x) (tab-append 1 k (λ j. row (i + j)) ∙ ap (λ x. x ++ tab k (λ j. row (i + (1 + j)))) (tab-one (λ j. row (i + j)) ∙ ap row here)))
+      ∙ append-assoc (tab i row) (row i ++ tab k (λ j. row (i + (1 + j)))) rest
+      ∙ ap (λ x. tab i row ++ x) (append-assoc (row i) (tab k (λ j. row (i + (1 + j)))) rest) in
+      ap₂ (λ (o : ℕ) (x : List ℕ). part o w x) at split
+      ∙ part-right (w * sum i g) (w * r) w (tab i row) _ (length-rows i (λ q t d e. h q t (omega arith) e))
+      ∙ part-left (w * r) w (row i) _ (omega arith)
+      ∙ part-chunk (g i) w (f i) (λ q d. h i q l d) r m
 
 -- a byte, and a number, of a chunk
 pub byte-tab : (n w : ℕ) (f : ℕ → List ℕ) → Wide n w f → (i o : ℕ) → i < n → o < w → byte (tab n f) (w * i + o) ≡ byte (f i) o

@@ -32,7 +32,7 @@ total x = bitXor (bitXor (bitXor (x 0) (x 1)) (x 2)) (x 3)
 
 -- their sum, each times its coefficient in check place 0
 abbrev pub mixture : (ℕ → ℕ) → ℕ
-mixture x = total (λ p. scale (coefficient p 0) (x p))
+mixture x = firstSum (x 0) (x 1) (x 2) (x 3)
 
 total-ext : (x y : ℕ → ℕ) → ((p : ℕ) → p < 4 → x p ≡ y p) → total x ≡ total y
 total-ext x y h = rw (h 0 (omega arith), h 1 (omega arith), h 2 (omega arith), h 3 (omega arith))
@@ -42,9 +42,7 @@ last-two a b c = xor-assoc a b c ∙ ap (bitXor a) (xor-comm b c) ∙ sym (xor-a
 
 -- ---- rows of products
 -- the coefficients of check place 0 are 8, F, 1 and 7, and F is 8 + 7
-pub mixed : (a b c d : ℕ) → c < 256
-    → bitXor (bitXor (scale 8 (bitXor a b)) (scale 7 (bitXor b d))) c
-    ≡ firstSum a b c d
+pub mixed : (a b c d : ℕ) → c < 256 → bitXor (bitXor (scale 8 (bitXor a b)) (scale 7 (bitXor b d))) c ≡ firstSum a b c d
 unfolding coefficient entry matrix
 mixed a b c d hc =
     ap (λ x. bitXor x c) (

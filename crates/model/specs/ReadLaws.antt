@@ -14,10 +14,9 @@ use Rattle.buffer.specs.Choice.{pick}
 use Rattle.buffer.specs.ChoiceLaws.{pick-true, pick-false}
 use Rattle.buffer.specs.Range.{first, count, sum}
 use Rattle.buffer.specs.RangeLaws.{first-ext, first-le, first-misses, count-ext, count-append, count-not, count-pos, count-blocks}
-use Rattle.buffer.specs.RangeLaws.{sum-more, sum-mono, sum-add}
+use Rattle.buffer.specs.RangeLaws.{sum-add}
 use Rattle.buffer.specs.Bytes.{part}
-use Rattle.buffer.specs.SpliceLaws.{part-left}
-use Rattle.buffer.specs.TableLaws.{length-tab, length-tab-sum, part-rows}
+use Rattle.buffer.specs.TableLaws.{length-rows, part-rows}
 use Rattle.group.specs.Widths.{keyBytes, slotBytes}
 use Rattle.model.specs.Layout.{Store, keyOf}
 use Rattle.model.specs.LayoutLaws.{key-first}
@@ -69,15 +68,12 @@ module _ (v : Store) (u : ℕ) where
 module _ (v : Store) (long : (u r : ℕ) → u < 16 → r < listedFill v u → length (wholeSlot v u r) ≡ slotBytes) where
   pub listing-long : length (listingIn v) ≡ slotBytes * totalIn v
   unfolding listingIn totalIn
-  listing-long = length-tab-sum 16 slotBytes _ (listedFill v) (λ u l. length-tab (listedFill v u) slotBytes (wholeSlot v u) (λ r m. long u r l m))
+  listing-long = length-rows slotBytes (listedFill v) (wholeSlot v) 16 long
 
   pub record-at : (rest : List ℕ) (u r : ℕ) → u < 16 → r < listedFill v u
       → part (slotBytes * (sum u (listedFill v) + r)) slotBytes (listingIn v ++ rest) ≡ wholeSlot v u r
-  unfolding listingIn totalIn
-  record-at rest u r l m =
-      part-left (slotBytes * (sum u (listedFill v) + r)) slotBytes (listingIn v) rest
-      (omega (arith, listing-long, sum-more (listedFill v) u, sum-mono (u + 1) 16 (listedFill v) (omega arith)))
-      ∙ part-rows 16 slotBytes (listedFill v) (wholeSlot v) long u r l m
+  unfolding listingIn
+  record-at = part-rows slotBytes (listedFill v) (wholeSlot v) 16 long
 
 -- ---- a group that is not beyond recovery
 module _ (v : Store) (g : ℕ) (low : (j : ℕ) → j < 3 → v .cstate (3 * g + j) ≤ 2) (near : beyondIn v g ≡ false) where

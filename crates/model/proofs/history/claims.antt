@@ -1,7 +1,7 @@
 -- The theorems: every history is the ledger's, demand 3, the stores that a history leaves, demand 3 of functions that meet their contracts, and a sound
 -- store stays sound.
 pub mod History
-pub mod Stamps
+pub mod HandedBack
 pub mod Demand3
 pub mod Leaves
 pub mod StaysSound

@@ -36,7 +36,7 @@ use Rattle.model.proofs.history.calls.Repair.{repair-simulated}
 use Rattle.model.proofs.history.alone.Lossless.{lossless, alone, allGrantedBy, final-lossless, alone-again, lossless-opened, lossless-state, alone-typed}
 use Rattle.model.proofs.history.alone.Unlost.{lossless-valid, same-unit}
 use Rattle.model.proofs.history.claims.History.{Run, ordered-of, run}
-use Rattle.model.proofs.history.claims.Stamps.{lent-in-place, listed-as-entry}
+use Rattle.model.proofs.history.claims.HandedBack.{lent-in-place, listed-as-entry}
 
 -- ---- on the picture of a valid ledger
 

@@ -13,8 +13,7 @@ use Rattle.buffer.specs.Range.{sum}
 use Rattle.buffer.specs.RangeLaws.{sum-more, sum-mono}
 use Rattle.buffer.specs.Bytes.{bytes32, zeros, part}
 use Rattle.buffer.specs.ByteLaws.{length-zeros}
-use Rattle.buffer.specs.SpliceLaws.{part-left}
-use Rattle.buffer.specs.TableLaws.{length-tab-sum, length-tab, part-rows}
+use Rattle.buffer.specs.TableLaws.{part-rows}
 use Rattle.group.specs.Widths.{fieldBytes, slotBytes}
 use Rattle.model.specs.Layout.{view, slotOf}
 use Rattle.model.specs.Reads.{homeIn}
@@ -76,14 +75,10 @@ module _ (l : Ledger) (rest : List ℕ) (h : Valid l) (k : ℕ) (x : List ℕ) (
   unfolding total
   counted = omega (arith, ranked, sum-more lengths (home l k), sum-mono (home l k + 1) 16 lengths (omega (arith, low)))
 
-  length-listing : length (listing l) ≡ slotBytes * total l
-  unfolding listing total
-  length-listing = length-tab-sum 16 slotBytes _ lengths (λ u _. length-tab (lengths u) slotBytes _ (λ r _. length-record (recordAt l u r) (h .good u r)))
-
-  entry-is : part (slotBytes * entry) slotBytes (listing l) ≡ slotOf k x
+  entry-is : (behind : List ℕ) → part (slotBytes * entry) slotBytes (listing l ++ behind) ≡ slotOf k x
   unfolding listing slotOf recordBytes recordAt
-  entry-is =
-      part-rows 16 slotBytes lengths (λ u r. recordBytes (recordAt l u r)) (λ u r _ _. length-record (recordAt l u r) (h .good u r))
+  entry-is behind =
+      part-rows slotBytes lengths (λ u r. recordBytes (recordAt l u r)) 16 (λ u r _ _. length-record (recordAt l u r) (h .good u r)) behind
       (home l k) (rankOf rs k) low ranked
       ∙ ap₂ (λ (n : ℕ) (y : List ℕ). bytes32 n ++ y) (rank-key rs k ranked) (stands .1)
 
@@ -96,5 +91,5 @@ module _ (l : Ledger) (rest : List ℕ) (h : Valid l) (k : ℕ) (x : List ℕ) (
     listing l ++ drop (length (listing l)) out,
     answer-agrees l rest (list out) (list-simulated l rest h out) ∙ rw (sym (number-agrees l rest (list out) (list-simulated l rest h out)) ∙ zero),
     counted,
-    part-left (slotBytes * entry) slotBytes (listing l) _ (omega (arith, length-listing, counted)) ∙ entry-is,
+    entry-is (drop (length (listing l)) out),
   )
