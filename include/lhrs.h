@@ -31,8 +31,14 @@
  * hexadecimal digits of their keys: so keys numbered in sixteens (0x10, 0x20, 0x30) fall into
  * different units. Each four data units form a group (0-3, 4-7, 8-11, 12-15). The store has a
  * level, 1 to 3: each group with a data unit in place has that many check units, from which units
- * that are lost are rebuilt, with their bodies and stamps. So a group survives as many lost units,
- * data and check units together, as the level says.
+ * that are lost are rebuilt, with their bodies and stamps.
+ *
+ * Losses. The records of a unit stand in its slots from the first on, without a gap. Those in slot
+ * r of a group's data units, up to four, are rank r of the group. A rank can be rebuilt as long as
+ * no more of its records lie in units that are out than check units of the group are in service; a
+ * unit that is out and has no record there does not count. So a group always survives as many lost
+ * units, data and check units together, as the level says, and more where these have few ranks in
+ * common.
  *
  * Numbers. Each call returns one of the numbers below. A call that returns another number than 0
  * changes no byte. Where several numbers apply, the first of 2, 1, 3, 9, 4, 8, 5, 6, 7 is given; so
@@ -99,15 +105,18 @@ enum lhrs_number {
     LHRS_UNIT_OUT = 4,
     /* The key is taught already. lhrs_correct gives it a new body and stamp. */
     LHRS_KEY_PRESENT = 5,
-    /* The key is not taught. */
+    /* The key is not taught. Where its unit is out, a check unit in service says so (read). */
     LHRS_KEY_NOT_PRESENT = 6,
     /* There is no room: the key's unit is full (teach), the records of both units do not fit into
        one (shrink), the block is shorter than LHRS_LENGTH(b) (lay out), or the output is too short
        for all records (list). */
     LHRS_NO_ROOM = 7,
-    /* More units of a group are out than it has check units: nothing can be rebuilt (repair; read
-       of a key whose unit is out there; list with a data unit out there). Fewer than m members of a
-       segment are present (rebuild segment). */
+    /* Records cannot be rebuilt. Read: the key's unit is out, and the key's rank cannot be rebuilt.
+       Repair: some rank of the group cannot. List: some rank of some group cannot. All three also
+       where a data unit that they look at is out (read: the key's, repair: one of the group, list:
+       any) and no check unit of its group is in service: then nothing says which records it had, if
+       any. The number of units out does not matter by itself. Rebuild segment: fewer than m members
+       are present. */
     LHRS_BEYOND_RECOVERY = 8,
     /* A limit: grow at 16 units, shrink at 1, raise at level 3. */
     LHRS_LIMIT = 9
@@ -191,8 +200,8 @@ uint8_t lhrs_erase(uint8_t *store, size_t len, uint32_t key);
 
 /*
  * Writes the field of a key, its body and its stamp, to out; out_len is 20. Where the key's unit is
- * out, the field is rebuilt from the other units of its group. The store is not changed; out is
- * written only when 0 is returned.
+ * out, the field is rebuilt from the other units of its group, also where other ranks of the group
+ * are lost. The store is not changed; out is written only when 0 is returned.
  * Returns 0, 1, 2, 6 or 8.
  */
 uint8_t lhrs_read(const uint8_t *store, size_t len, uint32_t key, uint8_t *out, size_t out_len);
@@ -214,7 +223,7 @@ uint8_t lhrs_out(uint8_t *store, size_t len, uint32_t unit);
 
 /*
  * Rebuilds all units of a group (0 to 3) that are out and puts them in service. With none out it is
- * granted and changes nothing.
+ * granted and changes nothing. With no data unit out it is granted, however many check units are.
  * Returns 0, 1, 2, 3 or 8.
  */
 uint8_t lhrs_repair(uint8_t *store, size_t len, uint32_t group);

@@ -1,9 +1,10 @@
 /*
  * What include/lhrs.h says and the other tests do not show: a pointer with length 0 may be null,
  * and what its macros read, the check units of each group by the level too; widths; what its inline
- * functions make of a field and of a record, and that a stamp comes back as it was given; keys
- * numbered in sixteens lie in different units; the limits of a segment, which numbers it is refused
- * with, and how it is made and rebuilt. It is C99 and C++98. Build and run it with tests/header.
+ * functions make of a field and of a record, and that a stamp comes back as it was given; which
+ * losses are beyond recovery; keys numbered in sixteens lie in different units; the limits of a
+ * segment, which numbers it is refused with, and how it is made and rebuilt. It is C99 and C++98.
+ * Build and run it with tests/header.
  */
 #include "lhrs.h"
 
@@ -304,6 +305,72 @@ static void stamps_come_back(void)
     }
 }
 
+/* The numbers of reads of keys 1, 2, 5 and 9, of a list and of a repair, in this order. */
+static void expect_numbers(const char *what, const uint8_t *due)
+{
+    static const uint32_t keys[] = {1, 2, 5, 9};
+    uint8_t out[LHRS_FIELD], records[3 * LHRS_RECORD];
+    size_t count, i;
+    for (i = 0; i < 4; i++)
+        expect(what, lhrs_read(store, sizeof store, keys[i], out, sizeof out), due[i]);
+    expect(what, lhrs_list(store, sizeof store, records, sizeof records, &count), due[4]);
+    expect(what, count, due[4] == LHRS_GRANTED ? 3 : 0);
+    expect(what, lhrs_repair(store, sizeof store, 0), due[5]);
+}
+
+/* Four units of two slots at a level, with keys 1 and 5 in unit 1 and key 2 in unit 2, the first of
+   each at rank 1; 9 lies in unit 1 and is not taught. */
+static void three_records(unsigned level)
+{
+    static const uint32_t keys[] = {1, 2, 5};
+    uint8_t made[LHRS_FIELD];
+    size_t i;
+    expect("lay out", lhrs_lay_out(store, sizeof store, SLOTS), LHRS_GRANTED);
+    while (LHRS_UNITS(store) < 4)
+        expect("grow", lhrs_grow(store, sizeof store), LHRS_GRANTED);
+    while (LHRS_LEVEL(store) < level)
+        expect("raise", lhrs_raise(store, sizeof store), LHRS_GRANTED);
+    for (i = 0; i < 3; i++) {
+        field_of(made, keys[i], keys[i]);
+        expect("teach", lhrs_teach(store, sizeof store, keys[i], made, sizeof made), LHRS_GRANTED);
+    }
+}
+
+/* What is beyond recovery goes by ranks, not by the number of units out. At level 1 units 0, 1 and
+   3 have no rank in common; units 1 and 2 have rank 1, and key 5, at rank 2, is read all the same;
+   with the check unit out nothing is known of unit 1, nor of unit 0, which has no record. At level
+   3 all check units may be out where no data unit is. */
+static void losses_by_ranks(void)
+{
+    static const uint8_t granted[] = {0, 0, 0, 6, 0, 0};
+    static const uint8_t rank_1_lost[] = {8, 8, 0, 6, 8, 8};
+    static const uint8_t unit_1_unknown[] = {8, 0, 8, 8, 8, 8};
+    static const uint8_t unit_0_unknown[] = {0, 0, 0, 6, 8, 8};
+    unsigned j;
+    three_records(1);
+    expect("out", lhrs_out(store, sizeof store, 0), LHRS_GRANTED);
+    expect("out", lhrs_out(store, sizeof store, 1), LHRS_GRANTED);
+    expect("out", lhrs_out(store, sizeof store, 3), LHRS_GRANTED);
+    expect_numbers("units 0, 1 and 3 out", granted);
+    expect_numbers("repaired", granted);
+    expect("out", lhrs_out(store, sizeof store, 1), LHRS_GRANTED);
+    expect("out", lhrs_out(store, sizeof store, 2), LHRS_GRANTED);
+    expect_numbers("units 1 and 2 out", rank_1_lost);
+    three_records(1);
+    expect("out", lhrs_out(store, sizeof store, LHRS_CHECK_UNIT(0, 0)), LHRS_GRANTED);
+    expect("out", lhrs_out(store, sizeof store, 1), LHRS_GRANTED);
+    expect_numbers("unit 1 and the check unit out", unit_1_unknown);
+    three_records(1);
+    expect("out", lhrs_out(store, sizeof store, LHRS_CHECK_UNIT(0, 0)), LHRS_GRANTED);
+    expect("out", lhrs_out(store, sizeof store, 0), LHRS_GRANTED);
+    expect_numbers("unit 0 and the check unit out", unit_0_unknown);
+    three_records(3);
+    for (j = 0; j < 3; j++)
+        expect("out", lhrs_out(store, sizeof store, LHRS_CHECK_UNIT(0, j)), LHRS_GRANTED);
+    expect_numbers("all check units out", granted);
+    expect_numbers("repaired", granted);
+}
+
 /* Four units of two slots have room for 16 to 128, two in each unit by their digit sums; 144 lies
    in unit 1 with 16 and 80. */
 static void posts_in_sixteens(void)
@@ -418,6 +485,7 @@ int main(void)
     other_lengths();
     stamps_not_compared();
     stamps_come_back();
+    losses_by_ranks();
     posts_in_sixteens();
     null_segments();
     segment_limits();

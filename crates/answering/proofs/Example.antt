@@ -10,7 +10,8 @@ use Rattle.buffer.specs.Table.{tab, upd}
 use Rattle.model.specs.Units.{powerBelow, splitPointer, address, digitSum, unitOf}
 use Rattle.model.specs.Numbers.{firstOf}
 use Rattle.model.specs.Perform.{output, reply}
-use Rattle.model.specs.history.Ledger.{empty, opened, home, recordAt, rankOf, placed, isOut, state, outsOf, beyondOf, lost, total, withRecords, granted}
+use Rattle.model.specs.history.Ledger.{empty, opened, home, recordAt, rankOf, placed, isOut, state, outsOf, total, withRecords, granted}
+use Rattle.model.specs.history.Ledger.{missingOf, checksServingOf, rebuildableOf, keysLostOf, keyBeyondOf, beyondOf, lost}
 use Rattle.model.specs.history.Picture.{recordBytes}
 use Rattle.model.specs.history.Table.{refusals, number}
 use Rattle.model.specs.history.Answers.{fieldOf, listing, given, answer, after, final}
@@ -28,8 +29,9 @@ use Rattle.answering.proofs.ByLedger.{hallrun-by-ledger}
 computed : joined (saidBy none (linesOf (take textBytes exampleInput))) ≡ exampleOutput
 unfolding exampleInput exampleOutput lineOf textOf linesOf before joined saidBy answerBy historyAfter layoutNumber linesBy ledgerLines followed ledgerAfter
     commandOf parsed readable digitsOf hasField lengthOf hexAt numberAt bytesAt entries digit printed numberLine decimal fieldLine recordLine hex hexBytes
-    digitOf final after answer reply output given fieldOf listing granted number refusals firstOf lost total beyondOf outsOf state isOut placed recordAt
-    rankOf home withRecords opened empty recordBytes bytes32 zeros unitOf address digitSum powerBelow splitPointer tab upd all first count sum pick
+    digitOf final after answer reply output given fieldOf listing granted number refusals firstOf lost total beyondOf keyBeyondOf keysLostOf rebuildableOf
+    checksServingOf missingOf outsOf state isOut placed recordAt rankOf home withRecords opened empty recordBytes bytes32 zeros unitOf
+    address digitSum powerBelow splitPointer tab upd all first count sum pick
 computed = refl
 
 pub example : hallrun exampleInput ≡ exampleOutput

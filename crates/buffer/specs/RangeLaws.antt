@@ -81,6 +81,15 @@ count-le (suc n) p =
     let ih : count n p ≤ n = count-le n p in
     by-pick (λ c. count n p + c ≤ suc n) (p n) 1 0 (λ e. omega arith) (λ e. omega arith)
 
+-- a test that holds wherever another does counts no less
+pub count-mono : (n : ℕ) (p q : ℕ → Bool) → ((k : ℕ) → k < n → p k ≡ true → q k ≡ true) → count n p ≤ count n q
+unfolding count
+count-mono zero p q h = omega arith
+count-mono (suc n) p q h =
+    let ih : count n p ≤ count n q = count-mono n p q (λ k l. h k (omega arith)) in
+    by-pick (λ c. count n p + c ≤ count n q + pick (q n) 1 0) (p n) 1 0
+    (λ e. omega (arith, pick-true {A = ℕ} (h n (omega arith) e) 1 0)) (λ e. omega arith)
+
 -- nothing is counted where the test fails throughout, and the other way
 pub count-fails : (n : ℕ) (p : ℕ → Bool) → ((k : ℕ) → k < n → p k ≡ false) → count n p ≡ 0
 unfolding count

@@ -5,7 +5,7 @@ use Prim.Native.Nat.{ℕ, suc, _≤_, _<_}
 use native.Mathlib.Omega.{arith}
 use lib.Bits.{bitOr, or-add-and, and-le-l, and-le-r}
 use lib.Dec.{eqb, leb, ltb}
-use borrow.Author.Tests.{lt-ltb, le-ltb, le-leb, lt-leb, eq-eqb, ne-eqb, eqb-true, eqb-false, ltb-true, not-true, not-false}
+use borrow.Author.Tests.{lt-ltb, le-leb, lt-leb, eq-eqb, ne-eqb, eqb-true, eqb-false, ltb-true, not-true, not-false}
 use Rattle.buffer.specs.ChoiceLaws.{by-test}
 
 -- no test says both
@@ -18,12 +18,6 @@ is-eq p q e = eq-eqb _ _ (sym p ∙ e ∙ q)
 
 pub is-ne : {x y k l : ℕ} → x ≡ y → k ≡ l → (x ≡ k → ⊥) → eqb y l ≡ false
 is-ne p q e = ne-eqb _ _ (λ h. e (p ∙ h ∙ sym q))
-
-pub is-lt : {x y k l : ℕ} → x ≡ y → k ≡ l → x < k → ltb y l ≡ true
-is-lt {y = y} {l = l} p q e = lt-ltb y l (rw (← p, ← q) e)
-
-pub not-lt : {x y k l : ℕ} → x ≡ y → k ≡ l → k ≤ x → ltb y l ≡ false
-not-lt {y = y} {l = l} p q e = le-ltb y l (rw (← p, ← q) e)
 
 pub is-le : {x y k l : ℕ} → x ≡ y → k ≡ l → x ≤ k → leb y l ≡ true
 is-le {y = y} {l = l} p q e = le-leb y l (rw (← p, ← q) e)
@@ -68,6 +62,11 @@ pub and-ext : (s t u : Bool) → (s ≡ true → t ≡ u) → (s && t) ≡ (s &&
 and-ext true t u h = h refl
 and-ext false t u h = refl
 
+-- where both do not hold and the first does, the second does not
+pub and-other : (s t : Bool) → s ≡ true → (s && t) ≡ false → t ≡ false
+and-other true t e h = h
+and-other false t e h = not-both e refl
+
 -- two numbers compared at once
 pub by-both {ℓ} : (P : Bool → Type ℓ) (v u q r : ℕ) → (v ≡ u → q ≡ r → P true) → ((v ≡ u → q ≡ r → ⊥) → P false) → P (eqb v u && eqb q r)
 by-both P v u q r h k =
@@ -85,6 +84,18 @@ or-else false t h = h refl
 
 pub or-other : (s t : Bool) → s ≡ false → (s || t) ≡ true → t ≡ true
 or-other s t e h = rw e at h
+
+pub or-false-first : (s t : Bool) → (s || t) ≡ false → s ≡ false
+or-false-first true t h = h
+or-false-first false t h = refl
+
+pub or-false-second : (s t : Bool) → (s || t) ≡ false → t ≡ false
+or-false-second true t h = not-both refl h
+or-false-second false t h = h
+
+pub or-ext : (s t u : Bool) → (s ≡ false → t ≡ u) → (s || t) ≡ (s || u)
+or-ext true t u h = refl
+or-ext false t u h = h refl
 
 -- ---- two numbers joined by "or" are 0 where both are
 pub or-zero : (a b : ℕ) → eqb (bitOr a b) 0 ≡ (eqb a 0 && eqb b 0)

@@ -1,67 +1,66 @@
--- Laws of a group's members: a group that is not beyond recovery has four members in service (`enough`), and the first four are different, in
--- rising order and in service (`first-four`); with a data unit out a check unit serves (`check-serves`), and each data unit in service is among the
--- first four (`data-chosen`). Assumes nothing.
+-- Laws of a group's members at a rank: one that can be rebuilt has four members in service (`enough`), and the first four are different, in rising
+-- order and in service (`first-four`); each data unit in service is among them (`data-chosen`). Nothing looks at other places (`serves-ext`,
+-- `four-ext`). Assumes nothing.
 use mathlib.Core.Path.{_≡_, refl, ap, ap₂, _∙_}
-use mathlib.Core.Bool.{Bool, true, false, not}
+use mathlib.Core.Bool.{Bool, true, not}
 use mathlib.Core.List.{List, [], _∷_}
-use Prim.Native.Nat.{ℕ, zero, suc, _+_, _-_, _≤_, _<_}
+use Prim.Native.Nat.{ℕ, suc, _+_, _-_, _≤_, _<_}
 use native.Mathlib.Omega.{arith}
-use lib.Dec.{eqb, ltb}
+use lib.Dec.{eqb, ltb, leb}
 use lib.ListN.{length, getD}
-use borrow.Author.Tests.{eq-eqb, eqb-true, eqb-false, lt-ltb, le-ltb, ltb-false}
-use Rattle.buffer.specs.Choice.{pick}
-use Rattle.buffer.specs.ChoiceLaws.{by-test, pick-true, pick-false}
+use borrow.Author.Tests.{eqb-true, eqb-false, lt-ltb, le-ltb, ltb-true, ltb-false, leb-true}
+use Rattle.buffer.specs.ChoiceLaws.{by-test, pick-true, pick-false, pick-ext}
 use Rattle.buffer.specs.Range.{count, first}
-use Rattle.buffer.specs.RangeLaws.{below-four, count-ext, count-append, count-parts, count-not, count-pos, count-first, first-found, first-holds, first-le-at}
-use Rattle.group.specs.Members.{outs, checks, beyond, serves, next, firstFour}
+use Rattle.buffer.specs.RangeLaws.{below-four, count-ext, count-append, count-not, count-first, first-ext, first-found, first-holds, first-le-at}
+use Rattle.group.specs.Members.{checksServing, rebuildable, serves, next, firstFour}
 
--- ---- who is in service
-pub serves-data : (d c : ℕ → ℕ) (p : ℕ) → p < 4 → serves d c p ≡ not (eqb (d p) 2)
+-- ---- who is in service at a rank
+module _ (missing : ℕ → Bool) (c : ℕ → ℕ) where
+  pub serves-data : (p : ℕ) → p < 4 → serves missing c p ≡ not (missing p)
+  unfolding serves
+  serves-data p l = pick-true (lt-ltb p 4 l) (not (missing p)) (eqb (c (p - 4)) 1)
+
+  pub serves-check : (j : ℕ) → serves missing c (4 + j) ≡ eqb (c j) 1
+  unfolding serves
+  serves-check j =
+      let e : 4 + j - 4 ≡ j = omega arith in
+      pick-false (le-ltb (4 + j) 4 (omega arith)) (not (missing (4 + j))) (eqb (c (4 + j - 4)) 1) ∙ ap (λ i. eqb (c i) 1) e
+
+  -- members in service and records missing, together: the four places and the check units in service
+  serving : count 7 (serves missing c) + count 4 missing ≡ 4 + checksServing c
+  unfolding checksServing
+  serving =
+      let places : count 4 (serves missing c) ≡ count 4 (λ p. not (missing p)) = count-ext 4 _ _ serves-data in
+      let checks : count 3 (λ j. serves missing c (4 + j)) ≡ count 3 (λ j. eqb (c j) 1) = count-ext 3 _ _ (λ j l. serves-check j) in
+      omega (arith, count-append 4 3 (serves missing c), places, checks, count-not 4 missing)
+
+  -- a rank that can be rebuilt has four in service
+  pub enough : rebuildable missing c ≡ true → 4 ≤ count 7 (serves missing c)
+  unfolding rebuildable
+  enough e = omega (arith, serving, leb-true (count 4 missing) (checksServing c) e)
+
+-- ---- what is said of a rank looks at its four places and at the three check units alone
+pub rebuildable-ext : (m n : ℕ → Bool) (c e : ℕ → ℕ) → ((p : ℕ) → p < 4 → m p ≡ n p) → ((j : ℕ) → j < 3 → c j ≡ e j)
+    → rebuildable m c ≡ rebuildable n e
+unfolding rebuildable checksServing
+rebuildable-ext m n c e h q = ap₂ leb (count-ext 4 m n h) (count-ext 3 _ _ (λ j l. ap (λ x. eqb x 1) (q j l)))
+
+pub serves-ext : (m n : ℕ → Bool) (c e : ℕ → ℕ) → ((p : ℕ) → p < 4 → m p ≡ n p) → ((j : ℕ) → j < 3 → c j ≡ e j)
+    → (k : ℕ) → k < 7 → serves m c k ≡ serves n e k
 unfolding serves
-serves-data d c p l = pick-true (lt-ltb p 4 l) (not (eqb (d p) 2)) (eqb (c (p - 4)) 1)
+serves-ext m n c e h q k l =
+    pick-ext (ltb k 4) (not (m k)) (eqb (c (k - 4)) 1) (not (n k)) (eqb (e (k - 4)) 1)
+    (λ t. ap not (h k (ltb-true k 4 t))) (λ t. ap (λ x. eqb x 1) (q (k - 4) (omega (arith, ltb-false k 4 t))))
 
-pub serves-check : (d c : ℕ → ℕ) (j : ℕ) → serves d c (4 + j) ≡ eqb (c j) 1
-unfolding serves
-serves-check d c j =
-    let e : 4 + j - 4 ≡ j = omega arith in
-    pick-false (le-ltb (4 + j) 4 (omega arith)) (not (eqb (d (4 + j)) 2)) (eqb (c (4 + j - 4)) 1) ∙ ap (λ i. eqb (c i) 1) e
+next-ext : (on go : ℕ → Bool) → ((m : ℕ) → m < 7 → on m ≡ go m) → (a : ℕ) → next on a ≡ next go a
+unfolding next
+next-ext on go h a = ap (λ x. a + x) (first-ext (7 - a) _ _ (λ k l. h (a + k) (omega arith)))
 
--- a check unit in place is in service or out
-in-place : (x : ℕ) → x ≤ 2 → pick (eqb x 1) 1 0 + pick (eqb x 2) 1 0 ≡ pick (ltb 0 x) 1 0
-unfolding pick
-in-place zero h = refl
-in-place (suc zero) h = refl
-in-place (suc (suc zero)) h = refl
-in-place (suc (suc (suc x))) h = absurd (omega arith)
-
--- members in service are data units that are not out and check units in service
-pub serving-parts : (d c : ℕ → ℕ) → count 7 (serves d c) ≡ count 4 (λ p. not (eqb (d p) 2)) + count 3 (λ j. eqb (c j) 1)
-serving-parts d c =
-    count-append 4 3 (serves d c)
-    ∙ ap₂ (λ (m n : ℕ). m + n) (count-ext 4 (serves d c) (λ p. not (eqb (d p) 2)) (serves-data d c))
-    (count-ext 3 (λ j. serves d c (4 + j)) (λ j. eqb (c j) 1) (λ j l. serves-check d c j))
-
--- members in service and units out, together: the four places and the check units in place
-pub serving : (d c : ℕ → ℕ) → ((j : ℕ) → j < 3 → c j ≤ 2) → count 7 (serves d c) + outs d c ≡ 4 + checks c
-unfolding outs checks
-serving d c h =
-    omega (
-      arith,
-      serving-parts d c,
-      count-not 4 (λ p. eqb (d p) 2),
-      count-parts 3 (λ j. eqb (c j) 1) (λ j. eqb (c j) 2) (λ j. ltb 0 (c j)) (λ j l. in-place (c j) (h j l)),
-    )
-
--- not beyond recovery is the same as four in service
-pub enough : (d c : ℕ → ℕ) → ((j : ℕ) → j < 3 → c j ≤ 2) → beyond d c ≡ false → 4 ≤ count 7 (serves d c)
-unfolding beyond
-enough d c h e = omega (arith, serving d c h, ltb-false (checks c) (outs d c) e)
-
--- with a data unit out, one of the four is a check unit
-pub check-serves : (d c : ℕ → ℕ) (p : ℕ) → p < 4 → d p ≡ 2 → 4 ≤ count 7 (serves d c) → first 3 (λ j. eqb (c j) 1) < 3
-check-serves d c p l e h =
-    first-found 3 (λ j. eqb (c j) 1)
-    (omega (arith, serving-parts d c, count-not 4 (λ p. eqb (d p) 2), count-pos 4 (λ p. eqb (d p) 2) p l (eq-eqb (d p) 2 e)))
+pub four-ext : (on go : ℕ → Bool) → ((m : ℕ) → m < 7 → on m ≡ go m) → firstFour on ≡ firstFour go
+unfolding firstFour
+four-ext on go h =
+    let n = next-ext on go h in
+    simp (n)
 
 -- four different members in service, by rising number
 pub record Members (on : ℕ → Bool) (l : List ℕ) : Type 0 where

@@ -1,7 +1,7 @@
 -- THE LAW OF REBUILDING, for any four different columns of all seventeen: bodies that are the same there are the same (`bodies-fixed`); whatever is
 -- held there, right or wrong, the rebuilt bodies have it by the matrix (`rebuilt-from-has`); so rebuilding gives back the bodies that were encoded
--- (`rebuilt-from-back`). Then for the first four members in service of a group: `rebuilt-has`, `rebuilt-own`, `rebuilds`. It is shown byte by byte
--- from the code's laws. Assumes nothing.
+-- (`rebuilt-from-back`). Then for the first four members in service of a group: `rebuilt-has`, `rebuilt-own`, `rebuilds`; no other member counts
+-- (`rebuilt-ext`). It is shown byte by byte from the code's laws. Assumes nothing.
 use mathlib.Core.Path.{_≡_, refl, sym, ap, _∙_}
 use mathlib.Core.Bool.{Bool, true}
 use mathlib.Core.List.{List, [], _∷_}
@@ -26,8 +26,8 @@ use Rattle.group.specs.Parity.{bodyAt, parity}
 use Rattle.group.specs.ParityLaws.{length-at}
 use Rattle.group.specs.WeighedLaws.{across, across-at, across-within, byte-weighed, weighed-is, weighed-ext, byte-at, is-at}
 use Rattle.group.specs.Members.{firstFour}
-use Rattle.group.specs.MembersLaws.{Members, first-four, data-chosen}
-use Rattle.group.specs.Rebuilding.{rebuiltFrom, rebuilt}
+use Rattle.group.specs.MembersLaws.{Members, four-ext, first-four, data-chosen}
+use Rattle.group.specs.Rebuilding.{weighed, rebuiltFrom, rebuilt}
 
 -- ---- four bodies at a column
 module _ (n : ℕ) (f : ℕ → List ℕ) (is : Bodies n f) where
@@ -163,3 +163,13 @@ module _ (n : ℕ) (on : ℕ → Bool) (hold f : ℕ → List ℕ) (is : Bodies 
       weighed-ext (weightsOf cs p) (λ i. hold (getD cs i 0)) (λ i. bodyAt (getD cs i 0) f)
       (λ i q. member-holds (getD cs i 0) (chosen .low i q) (chosen .serving i q))
       ∙ rebuilt-from-back n cs (members-columns chosen) f is p l
+
+-- rebuilding looks at the members in service alone
+pub rebuilt-ext : (on go : ℕ → Bool) (hold held : ℕ → List ℕ) → 4 ≤ count 7 on → ((m : ℕ) → m < 7 → on m ≡ go m)
+    → ((m : ℕ) → m < 7 → on m ≡ true → hold m ≡ held m) → (p : ℕ) → rebuilt on hold p ≡ rebuilt go held p
+unfolding rebuilt
+rebuilt-ext on go hold held enough e h p =
+    let four : Members on (firstFour on) = first-four on enough in
+    weighed-ext (weightsOf (firstFour on) p) (λ i. hold (getD (firstFour on) i 0)) (λ i. held (getD (firstFour on) i 0))
+    (λ i l. h (getD (firstFour on) i 0) (four .low i l) (four .serving i l))
+    ∙ ap (λ (cs : List ℕ). weighed (weightsOf cs p) (λ i. held (getD cs i 0))) (four-ext on go e)

@@ -7,15 +7,16 @@ ghost use mathlib.Core.Bool.{true};
 ghost use Prim.Native.Nat.{_+_, _≤_, _<_};
 ghost use lib.ListN.{length};
 ghost use Rattle.buffer.specs.Bytes.{byte};
+ghost use Rattle.buffer.specs.Range.{count};
 ghost use Rattle.code.specs.Products.{products};
 ghost use Rattle.code.specs.Scaling.{scale};
 ghost use Rattle.code.specs.Matrix.{within};
-ghost use lib.Dec.{ltb};
+ghost use lib.Dec.{eqb};
 ghost use Rattle.group.specs.Widths.{checkBytes};
 ghost use Rattle.group.specs.Body.{addBody, scaleBody};
 ghost use Rattle.group.specs.Parity.{coefficient};
 ghost use Rattle.group.specs.CheckRecord.{patched};
-ghost use Rattle.group.specs.Members.{checks, serves, next, firstFour};
+ghost use Rattle.group.specs.Members.{rebuildable, serves, next, firstFour};
 ghost use Rattle.group.specs.Rebuilding.{weighed};
 ghost use Rattle.group.specs.Four.{fourBodies};
 
@@ -108,47 +109,47 @@ pub fn follow(
     );
 }
 
-// How many check units are in place, out ones counted too.
-fn checks_in_place(c: &[u8]) -> u8
-    ensures { λ r. ⌜ (r ≡ checks (byte (now (c .entry)))) × (r ≤ 3) ⌝ }
+// How many of the first n bytes are 1.
+fn ones(x: &[u8], n: u8) -> u8
+    ensures { λ r. ⌜ (r ≡ count n (λ k. eqb (byte (now (x .entry)) k) 1)) × (r ≤ n) ⌝ }
 {
-    let mut n: u8 = 0;
+    let mut found: u8 = 0;
     let mut i: u8 = 0;
-    while i < 3 {
-        if 0 < buffer::byte_at(c, buffer::wide(i)) {
-            n += 1;
+    while i < n {
+        if buffer::byte_at(x, buffer::wide(i)) == 1 {
+            found += 1;
         }
         i += 1;
     }
-    n
+    found
 }
 
-// Whether more units are out than the group has check units, whose states are c.
-pub fn beyond_recovery(c: &[u8], outs: u8) -> bool
-    ensures { λ r. ⌜ r ≡ ltb (checks (byte (now (c .entry)))) outs ⌝ }
+// Whether a rank can be rebuilt: missing has a 1 for each data unit that is out and has a record there, c are the states of the check units.
+pub fn rebuildable(missing: &[u8], c: &[u8]) -> bool
+    ensures { λ r. ⌜ r ≡ rebuildable (λ p. eqb (byte (now (missing .entry)) p) 1) (byte (now (c .entry))) ⌝ }
 {
-    checks_in_place(c) < outs
+    ones(missing, 4) <= ones(c, 3)
 }
 
-// Whether a member is in service, by the states d of the data units and c of the check units: 0 to 3 the data units, 4 to 6 the check units.
-pub fn serving(d: &[u8], c: &[u8], member: u8) -> bool
-    ensures { λ r. ⌜ r ≡ serves (byte (now (d .entry))) (byte (now (c .entry))) member ⌝ }
+// Whether a member is in service at a rank: 0 to 3 the data units, whose record there is not missing, 4 to 6 the check units.
+pub fn serving(missing: &[u8], c: &[u8], member: u8) -> bool
+    ensures { λ r. ⌜ r ≡ serves (λ p. eqb (byte (now (missing .entry)) p) 1) (byte (now (c .entry))) member ⌝ }
 {
     if member < 4 {
-        buffer::byte_at(d, buffer::wide(member)) != 2
+        buffer::byte_at(missing, buffer::wide(member)) != 1
     } else {
         buffer::byte_at(c, buffer::wide(member - 4)) == 1
     }
 }
 
 // The first member in service from one on, or 7.
-fn next_serving(d: &[u8], c: &[u8], from: u8) -> u8
+fn next_serving(missing: &[u8], c: &[u8], from: u8) -> u8
     requires { ⌜ from < 100 ⌝ }
-    ensures { λ r. ⌜ (r ≡ next (serves (byte (now (d .entry))) (byte (now (c .entry)))) from) × (r ≤ from + 7) ⌝ }
+    ensures { λ r. ⌜ (r ≡ next (serves (λ p. eqb (byte (now (missing .entry)) p) 1) (byte (now (c .entry)))) from) × (r ≤ from + 7) ⌝ }
 {
     let mut k: u8 = 0;
     while from + k < 7 {
-        if serving(d, c, from + k) {
+        if serving(missing, c, from + k) {
             return from + k;
         }
         k += 1;
@@ -156,14 +157,14 @@ fn next_serving(d: &[u8], c: &[u8], from: u8) -> u8
     from + k
 }
 
-// The first four members in service, in number order.
-pub fn first_four(d: &[u8], c: &[u8]) -> [u8; 4]
-    ensures { λ r. ⌜ r ≡ firstFour (serves (byte (now (d .entry))) (byte (now (c .entry)))) ⌝ }
+// The first four members in service at a rank, in number order.
+pub fn first_four(missing: &[u8], c: &[u8]) -> [u8; 4]
+    ensures { λ r. ⌜ r ≡ firstFour (serves (λ p. eqb (byte (now (missing .entry)) p) 1) (byte (now (c .entry)))) ⌝ }
 {
-    let a = next_serving(d, c, 0);
-    let b = next_serving(d, c, a + 1);
-    let e = next_serving(d, c, b + 1);
-    let f = next_serving(d, c, e + 1);
+    let a = next_serving(missing, c, 0);
+    let b = next_serving(missing, c, a + 1);
+    let e = next_serving(missing, c, b + 1);
+    let f = next_serving(missing, c, e + 1);
     [a, b, e, f]
 }
 

@@ -1,26 +1,36 @@
--- Units that can be read or rebuilt: their groups are not beyond recovery. Assumes nothing.
-use Prim.Native.Nat.{ℕ, _+_, _/_, _<_}
+-- What code knows of the units and records that it reads or rebuilds. Assumes nothing.
+use Prim.Native.Nat.{ℕ, _+_, _*_, _/_, _<_}
 use mathlib.Core.Path.{_≡_}
-use mathlib.Core.Bool.{Bool, false, _&&_}
+use mathlib.Core.Bool.{true, false}
 use mathlib.Core.List.{List}
-use lib.Dec.{eqb}
-use Rattle.buffer.specs.Bytes.{byte}
-use Rattle.model.specs.Layout.{Store, view}
-use Rattle.model.specs.Reads.{beyondIn}
+use lib.ListN.{getD}
+use Rattle.model.specs.Layout.{view}
+use Rattle.model.specs.Reads.{listedFill, missingIn, rebuildableIn, keysLostIn, beyondIn}
 use Rattle.lookup.specs.Sized.{Sized}
 
--- ---- a group that is not beyond recovery
--- what can be read of unit u can be read or rebuilt
-pub record Recoverable (s : List ℕ) (u : ℕ) : Type 0 where
+-- ---- how many keys are listed for the units of group g: for those that are out, and for all whose keys are not lost
+pub record Counts (s : List ℕ) (g : ℕ) (fills : List ℕ) : Type 0 where
+  pub counted : (p : ℕ) → p < 4 → view s .dstate (4 * g + p) ≡ 2 → getD fills (4 * g + p) 0 ≡ listedFill (view s) (4 * g + p)
+
+pub record CountsKnown (s : List ℕ) (g : ℕ) (fills : List ℕ) : Type 0 where
+  pub counted : (p : ℕ) → p < 4 → keysLostIn (view s) (4 * g + p) ≡ false → getD fills (4 * g + p) 0 ≡ listedFill (view s) (4 * g + p)
+
+-- ---- records
+-- the record of unit u at rank r is missing, and can be rebuilt
+pub record Rebuildable (s : List ℕ) (u r : ℕ) : Type 0 where
   pub sized : Sized s
   pub unit : u < 16
-  pub whole : byte s (8 + u) ≡ 2 → beyondIn (view s) (u / 4) ≡ false
+  pub missing : missingIn (view s) u r ≡ true
+  pub rank : rebuildableIn (view s) (u / 4) r ≡ true
 
--- every unit can be read or rebuilt
+-- unit u has a record at rank r, and it can be read: if it is missing, it can be rebuilt
+pub record Readable (s : List ℕ) (u r : ℕ) : Type 0 where
+  pub sized : Sized s
+  pub unit : u < 16
+  pub listed : r < listedFill (view s) u
+  pub rank : missingIn (view s) u r ≡ true → rebuildableIn (view s) (u / 4) r ≡ true
+
+-- every record can be read
 pub record Whole (s : List ℕ) : Type 0 where
   pub sized : Sized s
-  pub units : (u : ℕ) → u < 16 → byte s (8 + u) ≡ 2 → beyondIn (view s) (u / 4) ≡ false
-
--- ---- a data unit out in a group beyond recovery
-abbrev pub goneIn : Store → ℕ → Bool
-goneIn v u = eqb (v .dstate u) 2 && beyondIn v (u / 4)
+  pub groups : (g : ℕ) → g < 4 → beyondIn (view s) g ≡ false

@@ -9,6 +9,8 @@ pub mod Keys
 pub mod KeyLaws
 pub mod Groups
 pub mod GroupLaws
+pub mod Decoders
+pub mod DecoderLaws
 pub mod Slots
 pub mod SlotLaws
 pub mod ListingLaws

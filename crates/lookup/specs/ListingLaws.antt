@@ -22,11 +22,11 @@ use Rattle.model.specs.Sound.{keysKnown, sound}
 use Rattle.model.specs.SoundSays.{zero-slot, listed-own}
 use Rattle.lookup.specs.SizedLaws.{sound-sized}
 use Rattle.lookup.specs.Groups.{Whole}
-use Rattle.lookup.specs.GroupLaws.{recoverable-known, whole-unit, safe-store}
+use Rattle.lookup.specs.GroupLaws.{kept-known, whole-kept, whole-readable, safe-store}
 use Rattle.lookup.specs.SlotLaws.{whole-key, length-record}
 
 module _ (s : List ℕ) (ok : sound s ≡ true) (safe : lostIn (view s) ≡ false) where
-  -- every unit can be read or rebuilt
+  -- every record can be read
   pub all-whole : Whole s
   all-whole = safe-store (sound-sized ok) safe
 
@@ -59,12 +59,12 @@ module _ (s : List ℕ) (ok : sound s ≡ true) (safe : lostIn (view s) ≡ fals
     known = or-else (eqb (view s .dstate u) 1) _ (λ off.
         let serves : ℕ → Bool = λ j. eqb (view s .cstate (3 * (u / 4) + j)) 1 in
         let out : view s .dstate u ≡ 2 = eqb-true _ 2 (out-else off) in
-        let low : first 3 serves < 3 = omega (arith, recoverable-known (whole-unit all-whole u l) .listed out) in
+        let low : first 3 serves < 3 = omega (arith, kept-known (all-whole .sized) l (whole-kept all-whole u l) .listed out) in
         and-true (out-else off) (ap not (all-fails 3 (λ j. not (serves j)) (first 3 serves) low (ap not (first-holds 3 serves low)))))
 
     -- a record's key lies in its unit
     pub record-home : unitOf (unitsIn (view s)) (keyOf (wholeSlot (view s) u r)) ≡ u
     unfolding view
     record-home =
-        ap (unitOf (unitsIn (view s))) (whole-key (whole-unit all-whole u l) r rank m)
+        ap (unitOf (unitsIn (view s))) (whole-key (whole-readable all-whole u l r m))
         ∙ listed-own s ok u l known r rank (lt-ltb r (listedFill (view s) u) m)

@@ -1,5 +1,5 @@
 -- What a look into a store may rely on: the ranges of its header, and that the slice is long enough. Assumes nothing.
-use Prim.Native.Nat.{ℕ, _+_, _≤_, _<_}
+use Prim.Native.Nat.{ℕ, _≤_}
 use mathlib.Core.List.{List}
 use lib.ListN.{length}
 use Rattle.buffer.specs.Bytes.{byte}
@@ -11,4 +11,3 @@ pub record Sized (s : List ℕ) : Type 0 where
   pub unit : 1 ≤ byte s 6  -- units: 1 to 16
   pub units : byte s 6 ≤ 16
   pub long : storeBytes (byte s 5) ≤ length s
-  pub checks : (c : ℕ) → c < 12 → byte s (24 + c) ≤ 2  -- states of check units

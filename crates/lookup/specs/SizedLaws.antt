@@ -11,7 +11,7 @@ use Rattle.model.specs.Layout.{view, slotAt, checkAt}
 use Rattle.model.specs.Places.{data-units, check-units}
 use Rattle.model.specs.LayoutLaws.{rank-within, ranks-within}
 use Rattle.model.specs.Sound.{sound}
-use Rattle.model.specs.SoundSays.{ranged, states-low}
+use Rattle.model.specs.SoundSays.{ranged}
 use Rattle.lookup.specs.Sized.{Sized}
 
 -- ---- a slot and a check record lie within the slice
@@ -29,4 +29,4 @@ pub sound-sized : {s : List ℕ} → sound s ≡ true → Sized s
 unfolding view
 sound-sized {s} h =
     let r = ranged s h in
-    record { some = r .least; ranks = r .most; unit = r .some; units = r .few; long = r .long; checks = states-low s h }
+    record { some = r .least; ranks = r .most; unit = r .some; units = r .few; long = r .long }

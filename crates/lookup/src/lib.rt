@@ -1,5 +1,7 @@
 // Reading a lent store: where its parts stand, and what the calls look up in it.
+pub mod decoders;
 pub mod digits;
+pub mod losses;
 
 ghost use mathlib.Core.Path.{_≡_};
 ghost use mathlib.Core.Bool.{true};
@@ -7,21 +9,21 @@ ghost use Prim.Native.Nat.{_+_, _*_, _≤_, _<_, ℕ, _/_};
 ghost use lib.Dec.{eqb};
 ghost use lib.ListN.{length, getD};
 ghost use denote.Ref.{ptr};
-ghost use Rattle.buffer.specs.Bytes.{byte, part};
+ghost use Rattle.buffer.specs.Bytes.{byte};
 ghost use Rattle.buffer.specs.Range.{first};
 ghost use Rattle.group.specs.Products.{products};
 ghost use Rattle.code.specs.Matrix.{within};
 ghost use Rattle.group.specs.Widths.{fieldBytes, slotBytes};
-ghost use Rattle.group.specs.Members.{firstFour};
 ghost use Rattle.group.specs.Rebuilding.{weighed};
 ghost use Rattle.model.specs.Units.{powerBelow, splitPointer, unitOf};
 ghost use Rattle.model.specs.Layout.{view, headerBytes, slotAt, checkAt, keyOf};
-ghost use Rattle.model.specs.Reads.{stateIn, outsIn, beyondIn, servesIn, holds, firstCheck, listedFill, listedRank, wholeSlot, lostIn};
+ghost use Rattle.model.specs.Reads.{stateIn, holds, firstCheck, listedFill, listedRank, wholeSlot};
 ghost use Rattle.lookup.specs.Sized.{Sized};
 ghost use Rattle.buffer.specs.Strided.{strided32, Within};
 ghost use Rattle.lookup.specs.Keys.{keysAt, keysFrom, keysStep, Known};
-ghost use Rattle.lookup.specs.Groups.{Recoverable, goneIn};
-ghost use Rattle.lookup.specs.Slots.{heldAt, Recipe};
+ghost use Rattle.lookup.specs.Groups.{Rebuildable};
+ghost use Rattle.lookup.specs.Slots.{heldAt};
+ghost use Rattle.lookup.specs.Decoders.{DecoderOf};
 
 // The header of a store: what byte 0 holds, where the length, b, M, K and the states of data units and check units stand, and where the slots begin.
 pub const VERSION: u8 = 4;
@@ -201,70 +203,6 @@ pub fn listed_rank(s: &[u8], u: u8, c: u8, n: u8, key: u32) -> u8
     find(s, keys.base, keys.step, n, key)
 }
 
-// The states of the four data units of group g. A pointer is a block and a place in it: `start` says that the part is handed back where it stands in
-// the store; so it does of the parts below.
-fn data_states(s: &[u8], g: u8) -> &[u8]
-    requires { ⌜ Sized (now s) × (g < 4) ⌝ }
-    ensures bytes { λ x. ⌜ now x ≡ part (8 + 4 * g) 4 (now (s .entry)) ⌝ }
-    ensures start { λ x. ⌜ ptr x ≡ (ptr (s .entry) .0, ptr (s .entry) .1 + (8 + 4 * g)) ⌝ }
-{
-    let at = DATA_STATES + 4 * buffer::wide(g);
-    &s[at..at + 4]
-}
-
-// The states of the three check units of group g.
-fn check_states(s: &[u8], g: u8) -> &[u8]
-    requires { ⌜ Sized (now s) × (g < 4) ⌝ }
-    ensures bytes { λ x. ⌜ now x ≡ part (24 + 3 * g) 3 (now (s .entry)) ⌝ }
-    ensures start { λ x. ⌜ ptr x ≡ (ptr (s .entry) .0, ptr (s .entry) .1 + (24 + 3 * g)) ⌝ }
-{
-    let at = CHECK_STATES + 3 * buffer::wide(g);
-    &s[at..at + 3]
-}
-
-// Whether group g is beyond recovery: more units out, which outs counts, than check units.
-pub fn beyond(s: &[u8], g: u8, outs: u8) -> bool
-    requires { ⌜ Sized (now s) × (g < 4) × (outs ≡ outsIn (view (now s)) g) ⌝ }
-    ensures { λ r. ⌜ r ≡ beyondIn (view (now (s .entry))) g ⌝ }
-{
-    group::beyond_recovery(check_states(s, g), outs)
-}
-
-// The first four members in service of group g.
-pub fn members(s: &[u8], g: u8) -> [u8; 4]
-    requires { ⌜ Sized (now s) × (g < 4) ⌝ }
-    ensures { λ r. ⌜ r ≡ firstFour (servesIn (view (now (s .entry))) g) ⌝ }
-{
-    group::first_four(data_states(s, g), check_states(s, g))
-}
-
-// Whether data unit u is out and its group, whose units out outs counts, beyond recovery.
-pub fn gone(s: &[u8], u: u8, outs: u8) -> bool
-    requires { ⌜ Sized (now s) × (u < 16) × (outs ≡ outsIn (view (now s)) (u / 4)) ⌝ }
-    ensures { λ r. ⌜ r ≡ goneIn (view (now (s .entry))) u ⌝ }
-{
-    if state(s, u) == 2 {
-        return beyond(s, u / 4, outs);
-    }
-    false
-}
-
-// Whether a data unit is out in a group beyond recovery, where outs counts the units out of each group. The groups are asked, not the units: a group
-// beyond recovery has a data unit out, since its check units alone are never more than it has.
-pub fn lost(s: &[u8], outs: [u8; 4]) -> bool
-    requires { ⌜ Sized (now s) × ((g : ℕ) → g < 4 → getD outs g 0 ≡ outsIn (view (now s)) g) ⌝ }
-    ensures { λ r. ⌜ r ≡ lostIn (view (now (s .entry))) ⌝ }
-{
-    let mut g: u8 = 0;
-    while g < 4 {
-        if beyond(s, g, outs[buffer::wide(g)]) {
-            return true;
-        }
-        g += 1;
-    }
-    false
-}
-
 // Where member m of group g holds the field or the parity of rank r.
 fn held_at(b: u8, g: u8, r: u8, m: u8) -> usize
     requires { ⌜ (g < 4) × (m < 7) ⌝ }
@@ -284,14 +222,6 @@ pub fn held(s: &[u8], g: u8, r: u8, m: u8) -> &[u8]
 {
     let at = held_at(s[SIZE_AT], g, r, m);
     &s[at..at + group::FIELD]
-}
-
-// The weights with which the slots of data unit u, which is out, are rebuilt from the first four members in service: the same for every rank.
-pub fn weights(s: &[u8], u: u8, members: [u8; 4], table: &[u8; 256]) -> [u8; 4]
-    requires { ⌜ Recoverable (now s) u × (byte (now s) (8 + u) ≡ 2) × (members ≡ firstFour (servesIn (view (now s)) (u / 4))) × (now table ≡ products) ⌝ }
-    ensures { λ r. ⌜ Recipe (now (s .entry)) u members r ⌝ }
-{
-    code::weights(table, members, u % 4)
 }
 
 // Rebuilds a field of rank r from what four members of group g hold, each times its weight.
@@ -315,34 +245,31 @@ pub fn rebuild_field(
     group::rebuild_body(out, weights, a, b, c, d, table)
 }
 
-// Rebuilds the slot of rank r of data unit u, which is out and has its keys listed from keys on; zeros where no key is listed.
+// Rebuilds the slot of rank r of data unit u, whose record is missing, by the decoder of that rank. The keys of the unit are listed from keys on.
 pub fn rebuild_slot(
     out: &mut [u8],
     s: &[u8],
     u: u8,
     r: u8,
     keys: usize,
-    members: [u8; 4],
-    weights: [u8; 4],
+    decoder: decoders::Decoder,
     table: &[u8; 256],
 )
-    requires { ⌜ (length (now out) ≡ slotBytes) × Recipe (now s) u members weights × (r < byte (now s) 5) × (keys ≡ keysAt (now s) u)
-        × (now table ≡ products) ⌝ }
+    requires { ⌜ (length (now out) ≡ slotBytes) × Rebuildable (now s) u r × DecoderOf (now s) u r (decoder .members) (decoder .weights) (decoder .until)
+        × (keys ≡ keysAt (now s) u) × (now table ≡ products) ⌝ }
     ensures { λ _. ⌜ now (out .exit) ≡ wholeSlot (view (now (s .entry))) u r ⌝ }
 {
+    let members = decoder.members;
+    let weights = decoder.weights;
     let at = keys + group::CHECK * buffer::wide(r);
-    if buffer::load32(s, at) == 0 {
-        buffer::clear(out);
-    } else {
-        buffer::copy(&mut out[0..group::KEY], &s[at..at + group::KEY]);
-        rebuild_field(
-            &mut out[group::KEY..group::SLOT],
-            s,
-            u / 4,
-            r,
-            members,
-            weights,
-            table,
-        );
-    }
+    buffer::copy(&mut out[0..group::KEY], &s[at..at + group::KEY]);
+    rebuild_field(
+        &mut out[group::KEY..group::SLOT],
+        s,
+        u / 4,
+        r,
+        members,
+        weights,
+        table,
+    );
 }

@@ -22,7 +22,7 @@ use Rattle.model.specs.UnitLaws.{unit-below}
 use Rattle.model.specs.Layout.{Store, view, slotAt, unitsIn}
 use Rattle.model.specs.LayoutLaws.{view-shaped}
 use Rattle.model.specs.Reads.{homeIn, rankIn, listedFill, listedRank, wholeSlot, fieldIn}
-use Rattle.model.specs.ReadLaws.{fill-le, own-fill, own-rank}
+use Rattle.model.specs.ReadLaws.{fill-le, own-fill, own-rank, whole-own}
 use Rattle.model.specs.Sound.{sound}
 use Rattle.model.specs.SoundSays.{ranged, units-some, units-few}
 use Rattle.model.specs.Numbers.{read, readInPlace, refusalsIn, numberIn}
@@ -85,13 +85,13 @@ module _ (s : List ℕ) (k : ℕ) (zero : numberIn s (read k (zeros fieldBytes))
 
     -- it is the key's field
     field-there : part (slotAt (v .size) u (rankIn v u k) + keyBytes) fieldBytes s ≡ fieldIn v k
-    unfolding fieldIn wholeSlot part
+    unfolding fieldIn part
     field-there =
         let slot : List ℕ = v .slot u (rankIn v u k) in
         let long : length slot ≡ slotBytes = view-shaped s (ranged s is-sound .long) .slot u (rankIn v u k) (home-low s is-sound k) in-unit in
         slot-field s u (rankIn v u k)
         ∙ take-all fieldBytes (drop keyBytes slot) (omega (arith, length-body fieldBytes slot long))
-        ∙ sym (ap (λ (r : ℕ). drop keyBytes (wholeSlot v u r)) (own-rank v u kept k) ∙ ap (drop keyBytes) (pick-false kept _ slot))
+        ∙ sym (ap (λ (r : ℕ). drop keyBytes (wholeSlot v u r)) (own-rank v u kept k) ∙ ap (drop keyBytes) (whole-own v u kept (rankIn v u k)))
 
 -- ---- the part
 

@@ -15,7 +15,7 @@ use Rattle.model.specs.Layout.{Store, bytes, view}
 use Rattle.model.specs.LayoutLaws.{Shaped, Same, view-bytes, view-shaped}
 use Rattle.model.specs.Reads.{stateIn, beyondIn}
 use Rattle.model.specs.Sound.{sound}
-use Rattle.model.specs.SoundSays.{ranged, states-low}
+use Rattle.model.specs.SoundSays.{ranged}
 use Rattle.model.specs.Changes.{repaired, raised}
 use Rattle.model.specs.Numbers.{Call, repair, raise, refusalsIn, numberIn}
 use Rattle.model.specs.RowLaws.{Free}
@@ -72,7 +72,7 @@ module _ (s : List ℕ) (g : ℕ) (zero : numberIn s (repair g) ≡ 0) where
   repair-left =
       let v : Store = view s in
       left-same s (repair g) zero (repaired v g) refl
-      (left-shaped (repaired v g) (repaired v g) (repaired-alike v v (itself s repair-sound) g repair-group (states-low s repair-sound) repair-near))
+      (left-shaped (repaired v g) (repaired v g) (repaired-alike v v (itself s repair-sound) g repair-group repair-near))
 
 -- ---- a granted raise
 

@@ -12,7 +12,6 @@ use Rattle.buffer.specs.Choice.{pick}
 use Rattle.buffer.specs.ChoiceLaws.{by-test, by-pick, pick-false}
 use Rattle.buffer.specs.TestLaws.{and-second, and-false-second}
 use Rattle.buffer.specs.RangeLaws.{count-ext, count-below}
-use Rattle.group.specs.Members.{checks}
 use Rattle.model.specs.Layout.{Store, view, storeBytes, unitsIn, levelIn}
 use Rattle.model.specs.LayoutLaws.{Same}
 use Rattle.model.specs.Reads.{stateIn, checksIn}
@@ -49,7 +48,7 @@ module _ (s : List ℕ) (ok : sound s ≡ true) where
   check-placed c l = by-fitting (λ p n. ltb 0 n ≡ p) (checkPlaced (unitsIn v) (levelIn v) c) (v .cstate c) (check-states s ok c l) refl refl refl
 
   sound-level : EachGroupHas (view s) (levelIn (view s))
-  unfolding checksIn checks checkPlaced
+  unfolding checksIn checkPlaced
   sound-level g a =
       count-ext 3 (λ j. ltb 0 (v .cstate (3 * g + j))) (λ j. ltb j (levelIn v)) (λ j b. check-placed (3 * g + j) (omega (arith, units-few s ok)) ∙ below j b)
       ∙ count-below 3 (levelIn v) (level-few s ok)

@@ -3,10 +3,11 @@ pub mod InPlace
 pub mod Demand1
 pub mod history
 pub mod Left
+pub mod Level
+pub mod Judged
 pub mod MadeAnew
 pub mod RepairKeeps
 pub mod Hashing
 pub mod RebuiltSlots
 pub mod Recovered
 pub mod Demand2
-pub mod Level

@@ -1,29 +1,31 @@
--- A repair keeps the units in service, puts those out in service, and changes nothing where no unit of the group is out. Assumes nothing.
+-- A repair keeps the units in service, puts those out in service, is granted where no data unit of the group is out, and changes nothing where no unit
+-- of it is. Assumes nothing.
 use Prim.Native.Nat.{ℕ, _+_, _*_, _-_, _/_, _%_, _<_}
 use mathlib.Core.Path.{_≡_, refl, sym, ap, _∙_}
 use mathlib.Core.List.{List}
-use mathlib.Core.Bool.{Bool, true, false, not, _&&_}
+use mathlib.Core.Bool.{Bool, true, false, _&&_}
 use native.Mathlib.Omega.{arith}
 use lib.Dec.{eqb, ltb}
-use borrow.Author.Tests.{eqb-true, eq-eqb, ltb-true, ltb-false, le-ltb, lt-leb}
+use borrow.Author.Tests.{eqb-true, eq-eqb, ltb-true, ltb-false}
 use Rattle.buffer.specs.Choice.{pick}
 use Rattle.buffer.specs.ChoiceLaws.{by-test, by-pick, pick-true, pick-false}
 use Rattle.buffer.specs.TestLaws.{and-true, and-first, and-second, and-false-second, not-both}
 use Rattle.buffer.specs.RangeLaws.{count-zero}
-use Rattle.group.specs.Members.{outs, checks, beyond}
+use Rattle.group.specs.Members.{outs}
 use Rattle.model.specs.Layout.{Store, view, unitsIn}
 use Rattle.model.specs.LayoutLaws.{Same, bytes-ext, bytes-view}
-use Rattle.model.specs.Reads.{stateIn, outsIn, beyondIn, wholeSlot}
+use Rattle.model.specs.Reads.{stateIn, outsIn, wholeSlot}
 use Rattle.model.specs.ReadLaws.{whole-own}
+use Rattle.model.specs.LossLaws.{none-beyond}
 use Rattle.model.specs.Sound.{sound}
-use Rattle.model.specs.SoundSays.{ranged, units-few}
+use Rattle.model.specs.SoundSays.{ranged}
 use Rattle.model.specs.Changes.{repaired}
 use Rattle.model.specs.Numbers.{repair, firstOf, refusalsIn, numberIn}
-use Rattle.model.specs.RowLaws.{free-first}
 use Rattle.model.specs.Perform.{plain, outcome, grantedIn, afterIn, perform}
 use Rattle.model.specs.PerformLaws.{of-repair, granted}
 use Rattle.model.specs.MadeAnew.{leftBy}
 use Rattle.model.specs.RepairKeeps.{RepairKeeps}
+use Rattle.model.proofs.Judged.{near-granted}
 use Rattle.model.specs.history.Ledger.{groupOf}
 use Rattle.model.specs.history.Runs.{unitIn}
 use Rattle.model.proofs.Left.{repair-left, unit-kept}
@@ -104,15 +106,11 @@ module _ (s : List ℕ) (g : ℕ) where
       rest = refl;
     }
 
-    near : beyondIn v g ≡ false
-    unfolding beyondIn beyond
-    near = le-ltb (checks (λ j. v .cstate (3 * g + j))) (outs (λ p. v .dstate (4 * g + p)) (λ j. v .cstate (3 * g + j))) (unfold outsIn in omega arith)
-
     repair-idle : sound s ≡ true → 4 * g < unitsIn v → perform s (repair g) ≡ outcome (plain 0) s
-    unfolding refusalsIn grantedIn
+    unfolding numberIn grantedIn
     repair-idle ok l =
         let free : firstOf (refusalsIn (sound s) v (repair g)) ≡ 0 =
-        free-first (refusalsIn (sound s) v (repair g)) (le-ltb 3 g (omega (arith, units-few s ok)), (ap not ok, (lt-leb (unitsIn v) (4 * g) l, (near, tt)))) in
+        near-granted s g ok l (none-beyond v g (λ p m. data-in (4 * g + p) (eq-eqb _ g (omega arith)))) in
         sym (granted s of-repair {ok = sound s} {r = 0} refl (sym free) refl (sym (bytes-ext (repaired v g) v unchanged ∙ bytes-view s (ranged s ok .long))))
 
 -- WHATEVER THE BYTES

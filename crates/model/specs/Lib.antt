@@ -13,6 +13,8 @@ pub mod LayoutLaws
 pub mod StoreLaws
 pub mod Reads
 pub mod ReadLaws
+pub mod LossLaws
+pub mod RebuildingLaws
 pub mod Sound
 pub mod SoundLaws
 pub mod SoundSays
@@ -27,6 +29,7 @@ pub mod Demand1
 pub mod MadeAnew
 pub mod Recovered
 pub mod RepairKeeps
+pub mod Judged
 pub mod Demand2
 pub mod Level
 pub mod history

@@ -2,14 +2,14 @@
 -- 5, 6, 7. The first condition that holds gives the number; where none holds the call is granted. Assumes nothing.
 use Prim.Native.Nat.{ℕ, pred, _+_, _*_, _/_}
 use mathlib.Core.List.{List, [], _∷_}
-use mathlib.Core.Bool.{Bool, not, _&&_}
+use mathlib.Core.Bool.{Bool, not}
 use lib.Dec.{eqb, ltb, leb}
 use lib.ListN.{length}
 use Rattle.buffer.specs.Choice.{pick}
 use Rattle.group.specs.Widths.{fieldBytes, slotBytes}
 use Rattle.model.specs.Units.{splitPointer}
 use Rattle.model.specs.Layout.{Store, view, unitsIn, levelIn}
-use Rattle.model.specs.Reads.{homeIn, fillIn, rankIn, outsIn, unitsOutIn, stateIn, beyondIn, listedFill, listedRank, lostIn, totalIn}
+use Rattle.model.specs.Reads.{homeIn, fillIn, rankIn, outsIn, unitsOutIn, stateIn, listedFill, listedRank, keyBeyondIn, beyondIn, lostIn, totalIn}
 use Rattle.model.specs.Sound.{sound}
 
 -- the calls, each with its arguments: keys, fields, unit and group numbers, and output buffers as they are lent
@@ -57,7 +57,7 @@ refusalsIn ok v (correct k x) =
 refusalsIn ok v (erase k) =
     (eqb k 0, 2) ∷ (not ok, 1) ∷ (ltb 0 (outsIn v (homeIn v k / 4)), 4) ∷ (leb (fillIn v (homeIn v k)) (rankIn v (homeIn v k) k), 6) ∷ []
 refusalsIn ok v (read k x) =
-    (eqb k 0, 2) ∷ (not (eqb (length x) fieldBytes), 2) ∷ (not ok, 1) ∷ (eqb (v .dstate (homeIn v k)) 2 && beyondIn v (homeIn v k / 4), 8)
+    (eqb k 0, 2) ∷ (not (eqb (length x) fieldBytes), 2) ∷ (not ok, 1) ∷ (keyBeyondIn v k, 8)
     ∷ (leb (listedFill v (homeIn v k)) (listedRank v (homeIn v k) k), 6) ∷ []
 refusalsIn ok v (readInPlace k) = []
 refusalsIn ok v (list x) = (not ok, 1) ∷ (lostIn v, 8) ∷ (ltb (length x) (slotBytes * totalIn v), 7) ∷ []

@@ -1,29 +1,28 @@
 -- Laws of what the calls read in a store: a unit has no more records than ranks, each rank before their number has a key, and a unit that is not
--- out lists its own keys; a listing is as long as its records, and each record stands behind those of the units and ranks before; a group that is
--- not beyond recovery has four members in service, a check unit among them where a data unit is out; the units out are those of
--- the four groups. Assumes nothing.
+-- out lists its own keys; a listing is as long as its records, and each record stands behind those of the units and ranks before; the units out are
+-- those of the four groups. Assumes nothing.
 use Prim.Native.Nat.{ℕ, _≤_, _<_, _+_, _*_, _-_}
 use mathlib.Core.Path.{_≡_, sym, ap, ap₂, _∙_}
 use mathlib.Core.Logic.{_≢_}
-use mathlib.Core.Bool.{false, true, not}
+use mathlib.Core.Bool.{false}
 use mathlib.Core.List.{List, _++_}
 use lib.Dec.{eqb, ltb}
 use lib.ListN.{length, take}
 use borrow.Author.Tests.{eqb-false, lt-ltb, le-ltb}
 use Rattle.buffer.specs.Choice.{pick}
 use Rattle.buffer.specs.ChoiceLaws.{pick-true, pick-false}
+use Rattle.buffer.specs.TestLaws.{and-false-first}
 use Rattle.buffer.specs.Range.{first, count, sum}
-use Rattle.buffer.specs.RangeLaws.{first-ext, first-le, first-misses, count-ext, count-append, count-not, count-pos, count-blocks}
+use Rattle.buffer.specs.RangeLaws.{first-ext, first-le, first-misses, count-ext, count-append, count-blocks}
 use Rattle.buffer.specs.RangeLaws.{sum-add}
 use Rattle.buffer.specs.Bytes.{part}
 use Rattle.buffer.specs.TableLaws.{length-rows, part-rows}
 use Rattle.group.specs.Widths.{keyBytes, slotBytes}
 use Rattle.model.specs.Layout.{Store, keyOf}
 use Rattle.model.specs.LayoutLaws.{key-first}
-use Rattle.model.specs.Reads.{fillIn, rankIn, stateIn, outsIn, unitsOutIn, listedKey, listedFill, listedRank, wholeSlot, totalIn, listingIn}
-use Rattle.model.specs.Reads.{beyondIn, servesIn}
+use Rattle.model.specs.Reads.{fillIn, rankIn, stateIn, outsIn, unitsOutIn, listedKey, listedFill, listedRank, missingIn, wholeSlot, totalIn}
+use Rattle.model.specs.Reads.{listingIn}
 use Rattle.group.specs.Members.{outs}
-use Rattle.group.specs.MembersLaws.{enough, serves-data, serves-check}
 use native.Mathlib.Omega.{arith}
 
 module _ (v : Store) (u : ℕ) where
@@ -61,8 +60,8 @@ module _ (v : Store) (u : ℕ) where
         ap (λ (n : ℕ). first n (λ r. eqb (keyOf (listedKey v u r)) k)) own-fill ∙ first-ext (fillIn v u) _ _ (λ r a. ap (λ (n : ℕ). eqb n k) (own-key r))
 
     pub whole-own : (r : ℕ) → wholeSlot v u r ≡ v .slot u r
-    unfolding wholeSlot
-    whole-own r = pick-false kept _ (v .slot u r)
+    unfolding wholeSlot missingIn
+    whole-own r = pick-false (and-false-first kept _) _ (v .slot u r)
 
 -- ---- a listing, where every record has its bytes
 module _ (v : Store) (long : (u r : ℕ) → u < 16 → r < listedFill v u → length (wholeSlot v u r) ≡ slotBytes) where
@@ -74,21 +73,6 @@ module _ (v : Store) (long : (u r : ℕ) → u < 16 → r < listedFill v u → l
       → part (slotBytes * (sum u (listedFill v) + r)) slotBytes (listingIn v ++ rest) ≡ wholeSlot v u r
   unfolding listingIn
   record-at = part-rows slotBytes (listedFill v) (wholeSlot v) 16 long
-
--- ---- a group that is not beyond recovery
-module _ (v : Store) (g : ℕ) (low : (j : ℕ) → j < 3 → v .cstate (3 * g + j) ≤ 2) (near : beyondIn v g ≡ false) where
-  pub four-serve : 4 ≤ count 7 (servesIn v g)
-  unfolding servesIn beyondIn
-  four-serve = enough (λ p. v .dstate (4 * g + p)) (λ j. v .cstate (3 * g + j)) low near
-
-  pub check-serves : (p : ℕ) → p < 4 → eqb (v .dstate (4 * g + p)) 2 ≡ true → 0 < count 3 (λ j. eqb (v .cstate (3 * g + j)) 1)
-  unfolding servesIn
-  check-serves p l e =
-      let d : ℕ → ℕ = λ p. v .dstate (4 * g + p) in
-      let c : ℕ → ℕ = λ j. v .cstate (3 * g + j) in
-      let places : count 4 (servesIn v g) ≡ count 4 (λ p. not (eqb (d p) 2)) = count-ext 4 _ _ (serves-data d c) in
-      let checks : count 3 (λ j. servesIn v g (4 + j)) ≡ count 3 (λ j. eqb (c j) 1) = count-ext 3 _ _ (λ j m. serves-check d c j) in
-      omega (arith, four-serve, count-append 4 3 (servesIn v g), count-not 4 (λ p. eqb (d p) 2), count-pos 4 (λ p. eqb (d p) 2) p l e)
 
 -- ---- the units that are out, by groups
 pub units-out-groups : (v : Store) → unitsOutIn v ≡ sum 4 (outsIn v)

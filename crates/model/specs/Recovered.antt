@@ -1,7 +1,8 @@
 -- Rebuilding in a store, judged by the matrix: what repair, read and list give of units that are out. Document 01: "Repair rebuilds data from the first
 -- four members in service .., takes keys from a check unit (a rank it lists no key for stays zero)"; "Read uses the same rebuilding"; "List writes ..
--- out units rebuilt". The store is any on which the call is granted: it need not come from a history, and its parity may be wrong. The rebuilt fields
--- are those that have, by the matrix, what each of the four members used holds; by demand 2 there are no others. Assumes nothing.
+-- out units rebuilt". The four are chosen rank by rank (document 02, ask 5). The store is any on which the call is granted: it need not come from a
+-- history, and its parity may be wrong. The rebuilt fields are those that have, by the matrix, what each of the four members used holds; by demand 2
+-- there are no others. Assumes nothing.
 use Prim.Native.Nat.{ℕ, _+_, _*_, _/_, _%_, _<_}
 use mathlib.Core.Path.{_≡_}
 use mathlib.Core.Logic.{_≢_}
@@ -22,10 +23,10 @@ use Rattle.model.specs.Numbers.{read, list, repair, numberIn}
 use Rattle.model.specs.Perform.{copied, listed, perform}
 use Rattle.model.specs.MadeAnew.{leftBy}
 
--- f are fields of group g at rank r by its first four members in service: at each one's column they are what it holds
+-- f are fields of group g at rank r by its first four members in service there: at each one's column they are what it holds
 pub record HeldFields (v : Store) (g r : ℕ) (f : ℕ → List ℕ) : Type 0 where
   pub fields : Bodies fieldBytes f
-  pub held : (i : ℕ) → i < 4 → bodyAt (getD (firstFour (servesIn v g)) i 0) f ≡ holds v g r (getD (firstFour (servesIn v g)) i 0)
+  pub held : (i : ℕ) → i < 4 → bodyAt (getD (firstFour (servesIn v g r)) i 0) f ≡ holds v g r (getD (firstFour (servesIn v g r)) i 0)
 
 -- the output buffer of a granted list: a record for each listed key, by unit and then rank, and the old rest
 pub record Listing (s out : List ℕ) : Type 0 where

@@ -54,6 +54,11 @@ run-unit f u b g v r h =
     let whole : (leb 0 r && ltb r (0 + b)) ≡ true = and-true (le-leb 0 r (omega arith)) (lt-ltb r (0 + b) (omega arith)) in
     ap (λ t. pick t (g r) (f v r)) (ap (λ t. eqb v u && t) whole ∙ bool.and-true (eqb v u))
 
+-- behind a run from the first rank on
+pub run-past : (f : ℕ → ℕ → List ℕ) (u m : ℕ) (g : ℕ → List ℕ) (v r : ℕ) → m ≤ r → run f u 0 m g v r ≡ f v r
+unfolding run
+run-past f u m g v r h = pick-false (and-false-second (eqb v u) (and-false-second (leb 0 r) (le-ltb r (0 + m) (omega arith)))) (g r) (f v r)
+
 -- ---- the run replaced in one unit
 pub splice-chunks : (b w : ℕ) (f g : ℕ → List ℕ) → Wide b w f → (q m : ℕ) → q + m ≤ b
     → splice (w * q) (w * m) (tab m (λ k. g (q + k))) (tab b f) ≡ tab b (λ r. pick (leb q r && ltb r (q + m)) (g r) (f r))

@@ -4,15 +4,14 @@ use mathlib.Core.Path.{_≡_, ap, _∙_}
 use mathlib.Core.List.{List, _++_, append-nil}
 use native.Mathlib.Omega.{arith}
 use lib.ListN.{length, drop, getD, drop-of-length-le}
-use Rattle.buffer.specs.Bytes.{byte}
 use Rattle.buffer.specs.Table.{tab}
-use Rattle.buffer.specs.TableLaws.{Wide, length-tab, tab-room}
+use Rattle.buffer.specs.TableLaws.{length-tab, tab-room}
 use Rattle.group.specs.Widths.{slotBytes}
 use Rattle.model.specs.Layout.{view}
 use Rattle.model.specs.Reads.{firstCheck, listedFill, wholeSlot, totalIn, listingIn}
 use Rattle.model.specs.ReadLaws.{listing-long}
-use Rattle.lookup.specs.Groups.{Recoverable, Whole}
-use Rattle.lookup.specs.SlotLaws.{length-whole, length-record}
+use Rattle.lookup.specs.Groups.{Counts, Whole}
+use Rattle.lookup.specs.SlotLaws.{length-record}
 use Rattle.reading.specs.Listing.{Learned}
 
 -- the records of a unit
@@ -27,8 +26,9 @@ pub first-check-at : {s fills firstChecks : List ℕ} {u i : ℕ} → Learned s 
     → getD firstChecks i 0 ≡ firstCheck (view s) (u / 4)
 first-check-at {firstChecks = firstChecks} {u = u} h l e = ap (λ j. getD firstChecks j 0) e ∙ h .kept (u / 4) (omega arith)
 
-pub slots-wide : {s : List ℕ} {u : ℕ} → Recoverable s u → (n : ℕ) → n ≤ byte s 5 → Wide n slotBytes (wholeSlot (view s) u)
-slots-wide h n l r k = length-whole h r (omega arith)
+-- and the counts of its group
+pub group-counted : {s fills firstChecks : List ℕ} → Learned s fills firstChecks → (g : ℕ) → g < 4 → Counts s g fills
+group-counted h g l = record { counted = λ p k _. h .listed (4 * g + p) (omega arith) }
 
 module _ {s : List ℕ} (whole : Whole s) where
   pub records-long : (u : ℕ) → u < 16 → length (records s u) ≡ slotBytes * listedFill (view s) u

@@ -7,8 +7,7 @@ use lib.Dec.{eqb, ltb, leb}
 use lib.ListN.{length}
 use Rattle.group.specs.Widths.{fieldBytes, slotBytes}
 use Rattle.model.specs.Layout.{Store, view}
-use Rattle.model.specs.Reads.{homeIn, listedFill, listedRank, lostIn, totalIn}
-use Rattle.lookup.specs.Groups.{goneIn}
+use Rattle.model.specs.Reads.{homeIn, listedFill, listedRank, keyBeyondIn, lostIn, totalIn}
 use Rattle.model.specs.Sound.{sound}
 use Rattle.model.specs.Numbers.{Call, firstOf, refusalsIn, numberIn}
 
@@ -19,7 +18,7 @@ readNumber ok v k n =
     (eqb k 0, 2)
     ∷ (not (eqb n fieldBytes), 2)
     ∷ (not ok, 1)
-    ∷ (goneIn v (homeIn v k), 8)
+    ∷ (keyBeyondIn v k, 8)
     ∷ (leb (listedFill v (homeIn v k)) (listedRank v (homeIn v k) k), 6)
     ∷ [])
 

@@ -1,7 +1,7 @@
 // Reading a store of any bytes: read, read in place, and list. None of them changes the store.
 ghost use mathlib.Core.Path.{_≡_};
 ghost use mathlib.Core.List.{_++_};
-ghost use Prim.Native.Nat.{_+_, _*_, _/_, _≤_, _<_};
+ghost use Prim.Native.Nat.{ℕ, _+_, _*_, _/_, _≤_, _<_};
 ghost use lib.ListN.{length, drop, getD};
 ghost use denote.Ref.{ptr};
 ghost use Rattle.buffer.specs.Bytes.{byte, part};
@@ -10,9 +10,10 @@ ghost use Rattle.buffer.specs.Table.{tab};
 ghost use Rattle.group.specs.Products.{products};
 ghost use Rattle.group.specs.Widths.{keyBytes, fieldBytes, slotBytes};
 ghost use Rattle.model.specs.Layout.{view};
-ghost use Rattle.model.specs.Reads.{firstCheck, listedFill, wholeSlot, totalIn, listingIn};
+ghost use Rattle.model.specs.Reads.{firstCheck, wholeSlot, totalIn, listingIn};
 ghost use Rattle.soundness.specs.Survey.{Surveyed};
-ghost use Rattle.lookup.specs.Groups.{Recoverable, Whole};
+ghost use Rattle.lookup.specs.Sized.{Sized};
+ghost use Rattle.lookup.specs.Groups.{Counts, Rebuildable, Readable, Whole};
 ghost use Rattle.model.specs.Numbers.{Call};
 ghost use Rattle.model.specs.Perform.{copied, lent, listed, outcome, perform, placeIn};
 ghost use Rattle.reading.specs.Found.{Verdict};
@@ -50,17 +51,19 @@ fn look_up(s: &[u8], survey: soundness::Survey, key: u32, len: usize) -> Found
         return refused(1);
     }
     let unit = lookup::unit_of(s[lookup::UNITS_AT], key);
-    let outs = survey.outs;
-    if lookup::gone(s, unit, outs[buffer::wide(unit / 4)]) {
+    let first_checks = survey.first_checks;
+    let first_check = first_checks[buffer::wide(unit / 4)];
+    if lookup::losses::keys_lost(s, unit, first_check) {
         return refused(8);
     }
     let fills = survey.fills;
     let n = fills[buffer::wide(unit)];
-    let first_checks = survey.first_checks;
-    let first_check = first_checks[buffer::wide(unit / 4)];
     let rank = lookup::listed_rank(s, unit, first_check, n, key);
     if n <= rank {
         return refused(6);
+    }
+    if lookup::losses::gone(s, unit, rank, fills) {
+        return refused(8);
     }
     Found {
         number: 0,
@@ -70,14 +73,15 @@ fn look_up(s: &[u8], survey: soundness::Survey, key: u32, len: usize) -> Found
 }
 
 // Copies the field of rank r of data unit u, rebuilt where the unit is out.
-fn copy_field(s: &[u8], u: u8, r: u8, out: &mut [u8])
-    requires { ⌜ Recoverable (now s) u × (r < byte (now s) 5) × (r < listedFill (view (now s)) u) × (length (now out) ≡ fieldBytes) ⌝ }
+fn copy_field(s: &[u8], u: u8, r: u8, fills: [u8; 16], out: &mut [u8])
+    requires { ⌜ Readable (now s) u r × (byte (now s) (8 + u) ≡ 2 → Counts (now s) (u / 4) fills) × (length (now out) ≡ fieldBytes) ⌝ }
     ensures { λ _. ⌜ now (out .exit) ≡ drop keyBytes (wholeSlot (view (now (s .entry))) u r) ⌝ }
 {
     if lookup::state(s, u) == 2 {
         let table = group::table();
-        let members = lookup::members(s, u / 4);
-        let weights = lookup::weights(s, u, members, &table);
+        let decoder = lookup::decoders::decoder_at(s, u, r, fills, &table);
+        let members = decoder.members;
+        let weights = decoder.weights;
         lookup::rebuild_field(out, s, u / 4, r, members, weights, &table);
     } else {
         let at = lookup::slot_at(s[lookup::SIZE_AT], u, r) + group::KEY;
@@ -89,11 +93,13 @@ fn copy_field(s: &[u8], u: u8, r: u8, out: &mut [u8])
 pub fn read(s: &[u8], key: u32, out: &mut [u8]) -> u8
     ensures { λ r. ⌜ outcome (copied r (now (out .exit))) (now (s .entry)) ≡ perform (now (s .entry)) (Call.read key (now (out .entry))) ⌝ }
 {
-    let found = look_up(s, soundness::survey_of(s), key, out.len());
+    let survey = soundness::survey_of(s);
+    let found = look_up(s, survey, key, out.len());
     if found.number != 0 {
         return found.number;
     }
-    copy_field(s, found.unit, found.rank, out);
+    let fills = survey.fills;
+    copy_field(s, found.unit, found.rank, fills, out);
     0
 }
 
@@ -147,13 +153,14 @@ fn count_records(s: &[u8], survey: soundness::Survey, len: usize) -> Listing
         };
     }
     let outs = survey.outs;
-    if lookup::lost(s, outs) {
+    let fills = survey.fills;
+    let first_checks = survey.first_checks;
+    if lookup::losses::lost(s, outs, fills, first_checks) {
         return Listing {
             number: 8,
             count: 0,
         };
     }
-    let fills = survey.fills;
     let count = total(fills);
     if len < group::SLOT * count {
         return Listing {
@@ -164,26 +171,25 @@ fn count_records(s: &[u8], survey: soundness::Survey, len: usize) -> Listing
     Listing { number: 0, count }
 }
 
-// Rebuilds the first n slots of data unit u, which is out, one behind the other. The first check unit in service of its group is c.
-fn rebuild_unit(s: &[u8], u: u8, n: u8, c: u8, out: &mut [u8], table: &[u8; 256])
-    requires { ⌜ Recoverable (now s) u × (byte (now s) (8 + u) ≡ 2) × (n ≤ byte (now s) 5) × (length (now out) ≡ slotBytes * n)
+// Rebuilds the first n slots of data unit u, whose records are missing, one behind the other. The first check unit in service of its group is c.
+fn rebuild_unit(s: &[u8], u: u8, n: u8, c: u8, fills: [u8; 16], out: &mut [u8], table: &[u8; 256])
+    requires { ⌜ Sized (now s) × ((r : ℕ) → r < n → Rebuildable (now s) u r) × Counts (now s) (u / 4) fills × (length (now out) ≡ slotBytes * n)
         × (now table ≡ products) × (c ≡ firstCheck (view (now s)) (u / 4)) ⌝ }
     ensures { λ _. ⌜ now (out .exit) ≡ tab n (wholeSlot (view (now (s .entry))) u) ⌝ }
 {
-    let members = lookup::members(s, u / 4);
-    let weights = lookup::weights(s, u, members, table);
     let keys = lookup::keys_at(s, u, c);
+    let mut decoder = lookup::decoders::none();
     let mut at = 0;
     let mut r: u8 = 0;
     while r < n {
+        decoder = lookup::decoders::next_decoder(decoder, s, u, r, fills, table);
         lookup::rebuild_slot(
             &mut out[at..at + group::SLOT],
             s,
             u,
             r,
             keys,
-            members,
-            weights,
+            decoder,
             table,
         );
         at += group::SLOT;
@@ -192,13 +198,13 @@ fn rebuild_unit(s: &[u8], u: u8, n: u8, c: u8, out: &mut [u8], table: &[u8; 256]
 }
 
 // Copies the first n slots of data unit u, rebuilt where the unit is out, one behind the other. The first check unit in service of its group is c.
-fn copy_unit(s: &[u8], u: u8, n: u8, c: u8, out: &mut [u8], table: &[u8; 256])
-    requires { ⌜ Recoverable (now s) u × (n ≤ byte (now s) 5) × (length (now out) ≡ slotBytes * n) × (now table ≡ products)
-        × (c ≡ firstCheck (view (now s)) (u / 4)) ⌝ }
+fn copy_unit(s: &[u8], u: u8, n: u8, c: u8, fills: [u8; 16], out: &mut [u8], table: &[u8; 256])
+    requires { ⌜ Sized (now s) × (u < 16) × (n ≤ byte (now s) 5) × ((r : ℕ) → r < n → Readable (now s) u r) × Counts (now s) (u / 4) fills
+        × (length (now out) ≡ slotBytes * n) × (now table ≡ products) × (c ≡ firstCheck (view (now s)) (u / 4)) ⌝ }
     ensures { λ _. ⌜ now (out .exit) ≡ tab n (wholeSlot (view (now (s .entry))) u) ⌝ }
 {
     if lookup::state(s, u) == 2 {
-        rebuild_unit(s, u, n, c, out, table);
+        rebuild_unit(s, u, n, c, fills, out, table);
     } else {
         let at = lookup::slot_at(s[lookup::SIZE_AT], u, 0);
         let end = at + group::SLOT * buffer::wide(n);
@@ -223,7 +229,7 @@ fn write_records(
         let n = fills[buffer::wide(u)];
         let end = at + group::SLOT * buffer::wide(n); // where the records of this unit end
         let first_check = first_checks[buffer::wide(u / 4)];
-        copy_unit(s, u, n, first_check, &mut out[at..end], table);
+        copy_unit(s, u, n, first_check, fills, &mut out[at..end], table);
         at = end;
         u += 1;
     }

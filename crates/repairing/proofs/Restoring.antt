@@ -6,30 +6,24 @@ use native.Mathlib.Omega.{arith}
 use native.Mathlib.Numerals.{add-one}
 use lib.Dec.{eqb}
 use lib.ListN.{length}
-use borrow.Author.Tests.{eq-eqb, ne-eqb, eqb-true}
+use borrow.Author.Tests.{eq-eqb, eqb-true}
 use Rattle.buffer.specs.Choice.{pick}
-use Rattle.buffer.specs.ChoiceLaws.{pick-false}
 use Rattle.buffer.specs.Bytes.{byte}
 use Rattle.group.specs.Widths.{slotBytes}
-use Rattle.group.specs.Members.{firstFour}
 use Rattle.model.specs.Layout.{Store, bytes, view}
 use Rattle.model.specs.Places.{data-units}
 use Rattle.model.specs.Parts.{withSlots}
 use Rattle.model.specs.LayoutLaws.{Shaped, Same, bytes-ext, view-shaped}
 use Rattle.model.specs.StoreLaws.{size-of, chunks-ext, chunks-same, chunks-shaped}
-use Rattle.model.specs.Reads.{servesIn, firstCheck, wholeSlot}
-use Rattle.lookup.specs.Groups.{Recoverable}
-use Rattle.lookup.specs.Slots.{Recipe}
-use Rattle.lookup.specs.SlotLaws.{length-whole}
-use Rattle.repairing.specs.Groups.{Repairable}
+use Rattle.model.specs.Reads.{firstCheck, wholeSlot}
+use Rattle.model.specs.LossLaws.{none-in-service, whole-kept}
+use Rattle.model.specs.RebuildingLaws.{whole-same}
+use Rattle.lookup.specs.Groups.{Counts}
+use Rattle.lookup.specs.SlotLaws.{length-near}
+use Rattle.repairing.specs.Groups.{Repairable, OutUnit}
 use Rattle.repairing.specs.Steps.{unitRebuilt, unitsRebuilt}
 use Rattle.repairing.proofs.Renewed.{renewed, renewed-none, renewed-more, renewed-own, renewed-off, length-renewed, renewed-by}
-use Rattle.repairing.proofs.Kept.{Rewritten, rewritten-seen, long-kept, byte-kept, sized-kept, beyond-kept, four-kept, first-check-kept, whole-kept}
-
--- a slot of a unit in service is whole as it stands
-whole-own : (v : Store) (u r : ℕ) → (v .dstate u ≡ 2 → ⊥) → wholeSlot v u r ≡ v .slot u r
-unfolding wholeSlot
-whole-own v u r h = pick-false (ne-eqb (v .dstate u) 2 h) _ (v .slot u r)
+use Rattle.repairing.proofs.Kept.{Rewritten, rewritten-seen, long-kept, byte-kept, rebuilding, repairable-kept, counts-kept, first-check-kept}
 
 -- the slots when the units at the first t places are rebuilt
 abbrev pub so-far : Store → ℕ → ℕ → ℕ → ℕ → List ℕ
@@ -50,12 +44,11 @@ module _ {s₀ : List ℕ} {g : ℕ} (h : Repairable s₀ g) where
   abbrev v : Store
   v = view s₀
 
-  unit-in : (u : ℕ) → u < 16 → u / 4 ≡ g → Recoverable s₀ u
-  unit-in u l e = record { sized = h .sized; unit = l; whole = λ _. rw e (h .whole) }
-
   wide : (t : ℕ) → t ≤ 4 → (u r : ℕ) → u < 16 → r < v .size → length (so-far v g t u r) ≡ slotBytes
   wide t l u r a b =
-      length-renewed (wholeSlot v) (v .slot) (4 * g) slotBytes t u r (λ c d. length-whole (unit-in u a (omega arith)) r (rw (size-of s₀) b))
+      length-renewed (wholeSlot v) (v .slot) (4 * g) slotBytes t u r (λ c d.
+      let e : u / 4 ≡ g = omega arith in
+      length-near u r (h .sized) a (rw e (h .whole)) (rw (size-of s₀) b))
       (view-shaped s₀ (h .sized .long) .slot u r a b)
 
   pub restored-shaped : Shaped (unitsRebuilt (view s₀) g)
@@ -65,7 +58,7 @@ module _ {s₀ : List ℕ} {g : ℕ} (h : Repairable s₀ g) where
 
   rewritten : {s : List ℕ} (t : ℕ) → t ≤ 4 → s ≡ bytes (withSlots v (so-far v g t)) → Rewritten s₀ s (so-far v g t)
   rewritten {s} t l e =
-      record { long = h .sized .long; wide = wide t l; kept = λ u r a b k. renewed-own (wholeSlot v) (v .slot) (4 * g) t u r (whole-own v u r k); state = e }
+      record { long = h .sized .long; wide = wide t l; kept = λ u r a b k. renewed-own (wholeSlot v) (v .slot) (4 * g) t u r (whole-kept v u r k); state = e }
 
   restored : {s : List ℕ} {t : ℕ} → t ≤ 4 → s ≡ bytes (withSlots v (so-far v g t)) → Restoring s₀ g s t
   restored {s} {t} l e = record { within = l; long = long-kept (rewritten t l e); state = e }
@@ -83,21 +76,16 @@ module _ {s₀ : List ℕ} {g : ℕ} (h : Repairable s₀ g) where
     standing : Rewritten s₀ s (so-far v g t)
     standing = rewritten t (m .within) (m .state)
 
-    -- what the code asks before it rebuilds unit u
-    pub restoring-unit : Recoverable s u
-    restoring-unit =
-        let e : u / 4 ≡ g = omega arith in
-        record { sized = sized-kept standing (h .sized); unit = low; whole = λ _. rw e (beyond-kept standing g (h .group) ∙ h .whole) }
+    group : u / 4 ≡ g
+    group = omega arith
 
-    pub restoring-members : (members : List ℕ) → members ≡ firstFour (servesIn (view s₀) g) → members ≡ firstFour (servesIn (view s) (u / 4))
-    restoring-members members e =
-        let place : g ≡ u / 4 = omega arith in
-        e ∙ sym (four-kept standing g (h .group)) ∙ ap (λ k. firstFour (servesIn (view s) k)) place
+    -- what the code asks before it rebuilds unit u
+    pub restoring-unit : {fills : List ℕ} → Counts s₀ g fills → byte s (8 + u) ≡ 2 → OutUnit s u fills
+    restoring-unit counts out =
+        record { near = rw group (repairable-kept standing h); unit = low; out = out; counts = rw group (counts-kept standing h counts) }
 
     pub restoring-first-check : (c : ℕ) → c ≡ firstCheck (view s₀) g → c ≡ firstCheck (view s) (u / 4)
-    restoring-first-check c e =
-        let place : g ≡ u / 4 = omega arith in
-        e ∙ sym (first-check-kept standing g (h .group)) ∙ ap (firstCheck (view s)) place
+    restoring-first-check c e = rw group (e ∙ sym (first-check-kept standing h))
 
     state-read : byte s (8 + u) ≡ v .dstate u
     unfolding view
@@ -112,25 +100,12 @@ module _ {s₀ : List ℕ} {g : ℕ} (h : Repairable s₀ g) where
         turned
         (m .state
         ∙ chunks-ext data-units v (so-far v g t) (so-far v g (suc t)) (λ w r a b.
-        renewed-off (wholeSlot v) (v .slot) (4 * g) t (λ w r e. whole-own v w r (λ k. n (state-read ∙ ap (v .dstate) (eu ∙ sym e) ∙ k))) w r))
+        renewed-off (wholeSlot v) (v .slot) (4 * g) t (λ w r e.
+        whole-kept v w r (none-in-service v w r (λ k. n (state-read ∙ ap (v .dstate) (eu ∙ sym e) ∙ k)))) w r))
 
     -- it is, and was rebuilt from the store as it stood
-    recipe-then : {members weights : List ℕ} → Recipe s u members weights → Recipe s₀ u members weights
-    recipe-then recipe =
-        let l : u < 16 = low in
-        let e : u / 4 ≡ g = omega arith in
-        let k : u / 4 < 4 = omega arith in
-        record {
-          unit = unit-in u l e;
-          out = sym (byte-kept standing (8 + u) (omega arith)) ∙ recipe .out;
-          four = recipe .four ∙ four-kept standing (u / 4) k;
-          low = recipe .low;
-          weigh = recipe .weigh;
-          small = recipe .small;
-        }
-
-    pub restoring-on : {s′ members weights : List ℕ} → Recipe s u members weights → s′ ≡ bytes (unitRebuilt (view s) u) → Restoring s₀ g s′ (t + 1)
-    restoring-on recipe e =
+    pub restoring-on : {s′ : List ℕ} → s′ ≡ bytes (unitRebuilt (view s) u) → Restoring s₀ g s′ (t + 1)
+    restoring-on e =
         let seen : Same (view s) (withSlots v (so-far v g t)) = rewritten-seen standing in
         turned
         (e
@@ -140,7 +115,7 @@ module _ {s₀ : List ℕ} {g : ℕ} (h : Repairable s₀ g) where
           dstate = seen .dstate;
           cstate = seen .cstate;
           slot = λ w r a b.
-              ap₂ (pick (eqb w u)) (whole-kept standing (recipe-then recipe) r b) (seen .slot w r a b)
+              ap₂ (pick (eqb w u)) (whole-same v (view s) (rebuilding standing) g (h .group) (h .whole) u r low group b) (seen .slot w r a b)
               ∙ ap (λ k. pick (eqb w k) (wholeSlot v k r) (so-far v g t w r)) eu
               ∙ renewed-more (wholeSlot v) (v .slot) (4 * g) t w r;
           check = seen .check;

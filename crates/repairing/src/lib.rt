@@ -1,6 +1,7 @@
 // Repair of a group: its lost data units are rebuilt, its lost check units are made from the data, and all of them are put in service.
 ghost use mathlib.Core.Path.{_≡_};
 ghost use mathlib.Core.List.{map};
+ghost use Prim.Native.Nat.{_+_, _/_, _<_};
 ghost use Rattle.group.specs.Products.{products};
 ghost use Rattle.model.specs.Layout.{bytes, view};
 ghost use Rattle.model.specs.Reads.{firstCheck};
@@ -8,48 +9,42 @@ ghost use Rattle.model.specs.Changes.{repaired};
 ghost use Rattle.model.specs.Numbers.{Call, repair, firstOf, refusalsIn};
 ghost use Rattle.model.specs.Perform.{outcome, plain, perform};
 ghost use Rattle.soundness.specs.Survey.{Surveyed};
-ghost use Rattle.lookup.specs.Keys.{keysAt};
-ghost use Rattle.lookup.specs.Slots.{Recipe};
+ghost use Rattle.lookup.specs.Groups.{Counts};
 ghost use Rattle.encoding.specs.Made.{madeIn, inGroup};
-ghost use Rattle.repairing.specs.Groups.{Group, Repairable};
+ghost use Rattle.repairing.specs.Groups.{Group, Repairable, OutUnit};
 ghost use Rattle.repairing.specs.Steps.{unitRebuilt, unitsRebuilt, inService, unitsServing};
 
-// Rebuilds the slots of data unit u, which is out and has its keys listed from keys on, rank by rank.
-fn rebuild_unit(
-    s: &mut [u8],
-    u: u8,
-    keys: usize,
-    members: [u8; 4],
-    weights: [u8; 4],
-    table: &[u8; 256],
-)
-    requires { ⌜ Recipe (now s) u members weights × (now table ≡ products) × (keys ≡ keysAt (now s) u) ⌝ }
+// Rebuilds the slots of data unit u, which is out, at the ranks for which c, the first check unit in service of its group, lists a key.
+fn rebuild_unit(s: &mut [u8], u: u8, c: u8, fills: [u8; 16], table: &[u8; 256])
+    requires { ⌜ OutUnit (now s) u fills × (now table ≡ products) × (c ≡ firstCheck (view (now s)) (u / 4)) ⌝ }
     ensures { λ _. ⌜ now (s .exit) ≡ bytes (unitRebuilt (view (now (s .entry))) u) ⌝ }
 {
     let b = s[lookup::SIZE_AT];
+    let n = fills[buffer::wide(u)];
+    let keys = lookup::keys_at(s, u, c);
+    let mut decoder = lookup::decoders::none();
     let mut r: u8 = 0;
-    while r < b {
+    while r < n {
+        decoder = lookup::decoders::next_decoder(decoder, s, u, r, fills, table);
         let mut slot = [0u8; group::SLOT];
-        lookup::rebuild_slot(&mut slot, s, u, r, keys, members, weights, table);
+        lookup::rebuild_slot(&mut slot, s, u, r, keys, decoder, table);
         let at = lookup::slot_at(b, u, r);
         buffer::copy(&mut s[at..at + group::SLOT], &slot);
         r += 1;
     }
 }
 
-// Rebuilds the data units of group g that are out, from the first four members in service. The first check unit in service, first_check, lists their keys.
-fn rebuild_units(s: &mut [u8], g: u8, first_check: u8, table: &[u8; 256])
-    requires { ⌜ Repairable (now s) g × (now table ≡ products) × («first_check» ≡ firstCheck (view (now s)) g) ⌝ }
+// Rebuilds the data units of group g that are out, each record from the first four members in service at its rank. The first check unit in service,
+// first_check, lists their keys.
+fn rebuild_units(s: &mut [u8], g: u8, first_check: u8, fills: [u8; 16], table: &[u8; 256])
+    requires { ⌜ Repairable (now s) g × Counts (now s) g fills × (now table ≡ products) × («first_check» ≡ firstCheck (view (now s)) g) ⌝ }
     ensures { λ _. ⌜ now (s .exit) ≡ bytes (unitsRebuilt (view (now (s .entry))) g) ⌝ }
 {
-    let members = lookup::members(s, g);
     let mut p: u8 = 0;
     while p < 4 {
         let u = 4 * g + p;
         if lookup::state(s, u) == 2 {
-            let weights = lookup::weights(s, u, members, table);
-            let keys = lookup::keys_at(s, u, first_check);
-            rebuild_unit(s, u, keys, members, weights, table);
+            rebuild_unit(s, u, first_check, fills, table);
         }
         p += 1;
     }
@@ -97,13 +92,14 @@ fn serve_units(s: &mut [u8], g: u8)
     put_in_service(&mut s[checks_at..checks_at + 3]);
 }
 
-// Repairs group g, which is not beyond recovery and has first_check for its first check unit in service.
-fn repair_group(s: &mut [u8], g: u8, first_check: u8)
-    requires { ⌜ Repairable (now s) g × («first_check» ≡ firstCheck (view (now s)) g) ⌝ }
+// Repairs group g, which is not beyond recovery and has first_check for its first check unit in service. fills are the numbers of keys listed for each
+// data unit.
+fn repair_group(s: &mut [u8], g: u8, first_check: u8, fills: [u8; 16])
+    requires { ⌜ Repairable (now s) g × Counts (now s) g fills × («first_check» ≡ firstCheck (view (now s)) g) ⌝ }
     ensures { λ _. ⌜ now (s .exit) ≡ bytes (repaired (view (now (s .entry))) g) ⌝ }
 {
     let table = group::table();
-    rebuild_units(s, g, first_check, &table);
+    rebuild_units(s, g, first_check, fills, &table);
     make_units(s, g);
     serve_units(s, g);
 }
@@ -126,7 +122,10 @@ fn repair_number(s: &[u8], survey: soundness::Survey, group: u32) -> u8
         return 3;
     }
     let outs = survey.outs;
-    if lookup::beyond(s, g, outs[buffer::wide(g)]) {
+    let fills = survey.fills;
+    let first_checks = survey.first_checks;
+    let i = buffer::wide(g);
+    if lookup::losses::beyond(s, g, outs[i], fills, first_checks[i]) {
         return 8;
     }
     0 // no row holds
@@ -142,7 +141,8 @@ pub fn repair(s: &mut [u8], group: u32) -> u8
         return number;
     }
     let g = group as u8;
+    let fills = survey.fills;
     let first_checks = survey.first_checks;
-    repair_group(s, g, first_checks[buffer::wide(g)]);
+    repair_group(s, g, first_checks[buffer::wide(g)], fills);
     0
 }

@@ -9,19 +9,20 @@ use lib.ListN.{length}
 use borrow.Author.Tests.{eqb-true, eq-eqb, ne-eqb, ltb-false, le-ltb, leb-true}
 use Rattle.buffer.specs.Choice.{pick}
 use Rattle.buffer.specs.ChoiceLaws.{by-test, pick-true, pick-false}
-use Rattle.buffer.specs.TestLaws.{and-true, and-first, and-second, and-false-first, or-else, or-other, same-test}
+use Rattle.buffer.specs.TestLaws.{and-true, and-first, and-second, or-else, or-other, same-test}
 use Rattle.buffer.specs.Range.{all, first}
 use Rattle.buffer.specs.RangeLaws.{all-true, all-holds, first-ext, first-none, first-misses}
 use Rattle.buffer.specs.Bytes.{byte, be32, zeros}
 use Rattle.model.specs.Layout.{view, keyOf, slotAt}
-use Rattle.model.specs.Reads.{fillIn, firstCheck, listedKey, listedFill}
+use Rattle.model.specs.Reads.{fillIn, firstCheck, listedKey, listedFill, keysLostIn}
+use Rattle.model.specs.LossLaws.{kept-keys, out-keys}
 use Rattle.model.specs.Sound.{same, stateFits, keysKnown}
 use Rattle.buffer.specs.Strided.{strided32}
 use Rattle.group.specs.Widths.{slotBytes}
 use Rattle.soundness.specs.Keys.{fillOf, ownAndNew, reached, sameKeys, noKeys}
 use Rattle.soundness.specs.Pieces.{Ranged, dataFits, dataKeys, columnKeys, unkept, dataFill, columnFill, lostFill, unitZero, restZero}
 use Rattle.soundness.specs.Pieces.{served, lost, absent, unitGood, unitFill}
-use Rattle.soundness.specs.Survey.{keysLost, knownFill}
+use Rattle.soundness.specs.Survey.{knownFill}
 use Rattle.soundness.proofs.Joined.{or-right, or-left, either, behind, once}
 use Rattle.soundness.proofs.Places.{row-within}
 use Rattle.soundness.proofs.Listed.{slot-key, listed-own, listed-out}
@@ -86,15 +87,14 @@ module _ (s : List ℕ) (u : ℕ) where
   known-out e = rw (e, none-kept)
 
   -- whether its keys are lost, and how many are known where they are not
-  not-lost : (byte s (8 + u) ≡ 2 → ⊥) → keysLost (view s) u ≡ false
-  unfolding keysLost view
-  not-lost h = and-false-first (ne-eqb (byte s (8 + u)) 2 h) _
+  not-lost : (byte s (8 + u) ≡ 2 → ⊥) → keysLostIn (view s) u ≡ false
+  not-lost h = kept-keys (view s) u (unfold view in ne-eqb (byte s (8 + u)) 2 h)
 
-  lost-out : byte s (8 + u) ≡ 2 → keysLost (view s) u ≡ unkept s (u / 4)
-  unfolding keysLost unkept view
-  lost-out e = rw e
+  lost-out : byte s (8 + u) ≡ 2 → keysLostIn (view s) u ≡ unkept s (u / 4)
+  unfolding unkept
+  lost-out e = out-keys (view s) u (unfold view in eq-eqb (byte s (8 + u)) 2 e)
 
-  fill-known : {key : ℕ → ℕ} → keysLost (view s) u ≡ false → (λ r. keyOf (listedKey (view s) u r)) ≡ key → fillOf (byte s 5) key ≡ knownFill (view s) u
+  fill-known : {key : ℕ → ℕ} → keysLostIn (view s) u ≡ false → (λ r. keyOf (listedKey (view s) u r)) ≡ key → fillOf (byte s 5) key ≡ knownFill (view s) u
   unfolding knownFill
   fill-known h e =
       let all-listed : fillOf (byte s 5) (λ r. keyOf (listedKey (view s) u r)) ≡ listedFill (view s) u = unfold fillOf listedFill view in refl in

@@ -1,24 +1,19 @@
 -- What the soundness test hands on of a store. Assumes nothing.
-use Prim.Native.Nat.{ℕ, _+_, _*_, _/_}
+use Prim.Native.Nat.{ℕ}
 use mathlib.Core.Path.{_≡_}
 use mathlib.Core.List.{List}
-use mathlib.Core.Bool.{Bool, false, _&&_}
-use lib.Dec.{eqb}
+use mathlib.Core.Bool.{Bool, false}
 use Rattle.buffer.specs.Choice.{pick}
 use Rattle.buffer.specs.Range.{all}
 use Rattle.buffer.specs.Loops.{entries}
 use Rattle.model.specs.Layout.{Store, view}
-use Rattle.model.specs.Reads.{firstCheck, outsIn, listedFill}
+use Rattle.model.specs.Reads.{firstCheck, outsIn, listedFill, keysLostIn}
 use Rattle.model.specs.Sound.{sound}
 use Rattle.soundness.specs.Pieces.{unitGood, unitFill}
 
--- the keys of a unit are lost: it is out, and no check unit of its group is in service
-unfoldable pub keysLost : Store → ℕ → Bool
-keysLost v u = eqb (v .dstate u) 2 && eqb (firstCheck v (u / 4)) (3 * (u / 4) + 3)
-
 -- how many keys are listed for a unit; none where they are lost
 unfoldable pub knownFill : Store → ℕ → ℕ
-knownFill v u = pick (keysLost v u) 0 (listedFill v u)
+knownFill v u = pick (keysLostIn v u) 0 (listedFill v u)
 
 -- the data units are good, and the keys of each are counted; where one is not good, nothing is
 pub record Counted (s : List ℕ) (good : Bool) (fills : List ℕ) : Type 0 where

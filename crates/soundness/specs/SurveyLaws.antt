@@ -5,33 +5,22 @@ use mathlib.Core.List.{List}
 use mathlib.Core.Bool.{Bool, true, false}
 use native.Mathlib.Omega.{arith}
 use lib.Dec.{ltb}
+use borrow.Author.Tests.{ne-eqb}
 use lib.ListN.{getD}
 use Rattle.buffer.specs.Choice.{pick}
 use Rattle.buffer.specs.ChoiceLaws.{by-pick, pick-true, pick-false}
-use Rattle.buffer.specs.TestLaws.{by-both}
 use Rattle.buffer.specs.Loops.{entries}
 use Rattle.buffer.specs.RangeLaws.{getD-entries}
 use Rattle.buffer.specs.Bytes.{byte}
 use Rattle.model.specs.Layout.{view}
-use Rattle.model.specs.Reads.{fillIn, firstCheck, outsIn, listedFill}
+use Rattle.model.specs.Reads.{fillIn, firstCheck, outsIn, listedFill, keysLostIn}
 use Rattle.lookup.specs.Sized.{Sized}
 use Rattle.lookup.specs.SizedLaws.{sound-sized}
 use Rattle.lookup.specs.KeyLaws.{own-fill, listed-fill-small}
+use Rattle.model.specs.LossLaws.{kept-keys}
+use Rattle.lookup.specs.Groups.{CountsKnown}
 use Rattle.lookup.specs.GroupLaws.{none-out}
-use Rattle.soundness.specs.Survey.{keysLost, knownFill, Surveyed}
-
--- in a sound store, a unit whose keys are listed
-listed-kept : (s : List ℕ) (u : ℕ) → (byte s (8 + u) ≡ 2 → firstCheck (view s) (u / 4) < 3 * (u / 4) + 3) → keysLost (view s) u ≡ false
-unfolding keysLost view
-listed-kept s u h =
-    by-both
-    (λ t. t ≡ false)
-    (byte s (8 + u))
-    2
-    (firstCheck (view s) (u / 4))
-    (3 * (u / 4) + 3)
-    (λ e k. let l = h e in absurd (omega arith))
-    (λ _. refl)
+use Rattle.soundness.specs.Survey.{knownFill, Surveyed}
 
 -- ---- what a caller reads of it, at an index i that its code computed
 module _ {s : List ℕ} {ok : Bool} {fills firstChecks outs : List ℕ} (g : Surveyed s ok fills firstChecks outs) where
@@ -41,8 +30,8 @@ module _ {s : List ℕ} {ok : Bool} {fills firstChecks outs : List ℕ} (g : Sur
   fill-most u l =
       let most : (n : ℕ) → Type 0 = λ n. n ≤ byte s 5 in
       let listed : most (listedFill (view s) u) = listed-fill-small s u in
-      rw (g .filled, getD-entries 16 (λ u. pick ok (pick (keysLost (view s) u) 0 (listedFill (view s) u)) 0) u 0 l)
-      (by-pick most ok _ 0 (λ _. by-pick most (keysLost (view s) u) 0 (listedFill (view s) u) (λ _. omega arith) (λ _. listed)) (λ _. omega arith))
+      rw (g .filled, getD-entries 16 (λ u. pick ok (pick (keysLostIn (view s) u) 0 (listedFill (view s) u)) 0) u 0 l)
+      (by-pick most ok _ 0 (λ _. by-pick most (keysLostIn (view s) u) 0 (listedFill (view s) u) (λ _. omega arith) (λ _. listed)) (λ _. omega arith))
 
   -- of a sound store
   module _ (e : ok ≡ true) where
@@ -58,10 +47,14 @@ module _ {s : List ℕ} {ok : Bool} {fills firstChecks outs : List ℕ} (g : Sur
     pub outs-read : {i : ℕ} (h : ℕ) → i ≡ h → h < 4 → getD outs i 0 ≡ outsIn (view s) h
     outs-read = entry-read outs 4 (outsIn (view s)) (g .out)
 
-    pub fill-read : {i : ℕ} (u : ℕ) → i ≡ u → u < 16 → (byte s (8 + u) ≡ 2 → firstCheck (view s) (u / 4) < 3 * (u / 4) + 3)
-        → getD fills i 0 ≡ listedFill (view s) u
-    fill-read u ei l h = entry-read fills 16 (knownFill (view s)) (g .filled) u ei l ∙ unfold knownFill in pick-false (listed-kept s u h) _ _
+    pub fill-read : {i : ℕ} (u : ℕ) → i ≡ u → u < 16 → keysLostIn (view s) u ≡ false → getD fills i 0 ≡ listedFill (view s) u
+    fill-read u ei l kept = entry-read fills 16 (knownFill (view s)) (g .filled) u ei l ∙ unfold knownFill in pick-false kept _ _
+
+    pub group-counts : (h : ℕ) → h < 4 → CountsKnown s h fills
+    group-counts h l = record { counted = λ p k. fill-read (4 * h + p) refl (omega arith) }
 
     -- of a unit of whose group none is out
     pub own-fill-read : {i : ℕ} (u : ℕ) → i ≡ u → u < 16 → ltb 0 (outsIn (view s) (u / 4)) ≡ false → getD fills i 0 ≡ fillIn (view s) u
-    own-fill-read u ei l none = let serves = none-out s u none in fill-read u ei l (λ w. absurd (serves w)) ∙ sym (own-fill s u serves)
+    own-fill-read u ei l none =
+        let serves = none-out s u none in
+        fill-read u ei l (kept-keys (view s) u (unfold view in ne-eqb (byte s (8 + u)) 2 serves)) ∙ sym (own-fill s u serves)

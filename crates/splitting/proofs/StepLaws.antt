@@ -17,7 +17,6 @@ use Rattle.group.specs.Widths.{slotBytes, checkBytes}
 use Rattle.model.specs.Layout.{Store, view}
 use Rattle.model.specs.Parts.{withFront, withDstates, withCstates, withSlots}
 use Rattle.model.specs.LayoutLaws.{Shaped, Same, byte-front}
-use Rattle.model.specs.StoreLaws.{cstate-at}
 use Rattle.lookup.specs.Sized.{Sized}
 use Rattle.encoding.specs.Holding.{Holds, Change, holds-five, holds-long, checks-change}
 use Rattle.splitting.specs.Steps.{cleared, marked, levelled, wiped}
@@ -55,7 +54,6 @@ slots-sized {s₀} {s} f z h =
       unit = rw six (z .unit);
       units = rw six (z .units);
       long = holds-long h;
-      checks = λ c l. rw (cstate-at (withSlots (view s₀) f) (h .shaped) s (h .state) c l) (z .checks c l);
     }
 
 -- ---- the slots of a unit from a rank on

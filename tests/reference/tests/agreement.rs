@@ -1,13 +1,13 @@
 //! The ledger and the byte store after the same calls.
 
 use reference::call::{Call, Kind};
-use reference::compare::case::Step;
-use reference::generate::cases::damaged_case;
+use reference::compare::case::{Case, Step};
+use reference::generate::cases::{damaged_case, history_case};
 use reference::generate::{history, losses, LOSSES};
 use reference::ledger::{digit_sum, split_unit, Ledger};
 use reference::record::{body_of, stamp_of, BODY, FIELD, KEY, STAMP};
-use reference::store;
-use reference::store::layout::{length, unit_of_number, View, HEADER, VERSION};
+use reference::store::layout::{length, unit_of_number, View, HEADER, IN_SERVICE, OUT, VERSION};
+use reference::store::{self, field as gf16, matrix};
 use std::cmp::Ordering::{Equal, Greater, Less};
 use std::collections::{BTreeSet, HashSet};
 use std::ops::RangeInclusive;
@@ -263,9 +263,122 @@ fn every_choice_of_losses() {
     (0..LOSSES).for_each(|choice| agree(&losses(choice), &mut Reached::new()));
 }
 
-/// What the steps of a damaged case leave, and the numbers that its last calls gave.
-fn damaged(index: u64, check: impl Fn(&[u8], &[u8], Option<u8>)) -> (Vec<u8>, Vec<(Kind, u8)>) {
-    let case = damaged_case(index);
+/// How a group stands, as far as units are out in it.
+#[derive(Clone, Copy, Debug, PartialEq, Eq, Hash)]
+enum Loss {
+    /// All check units are out and no data unit.
+    ChecksAlone,
+    /// More data units are out than check units in service, and no rank is lost.
+    FewRecords,
+    /// Two data units or more are out that have records, one of them more than another; no rank is
+    /// lost, and later ones miss fewer records.
+    OtherFills,
+    /// A rank is lost; another misses records and can be rebuilt.
+    SomeRanks,
+    /// Data units are out that have records, and no check unit is in service.
+    NotListed,
+    /// Data units are out that have no record, and no check unit is in service.
+    NothingTaught,
+}
+
+use Loss::*;
+
+/// The losses of a group, by its lists and marks.
+fn losses_of(ledger: &Ledger, group: usize) -> Vec<Loss> {
+    let out = (4 * group..4 * group + 4).filter(|&unit| ledger.out[unit]);
+    let records: Vec<usize> = out.map(|unit| ledger.lists[unit].len()).collect();
+    let checks = 16 + 3 * group..16 + 3 * group + ledger.checks(group);
+    let serving = checks.clone().filter(|&check| !ledger.out[check]).count();
+    let missing = |rank: usize| records.iter().filter(|&&count| count >= rank).count();
+    let ranks: BTreeSet<usize> = (1..=ledger.b).map(missing).filter(|&n| n > 0).collect();
+    let lost = ranks.iter().any(|&n| n > serving);
+    let mut losses = Vec::new();
+    match (records.len(), serving) {
+        (0, 0) if !checks.is_empty() => losses.push(ChecksAlone),
+        (0, _) => {}
+        (_, 0) if ranks.is_empty() => losses.push(NothingTaught),
+        (_, 0) => losses.push(NotListed),
+        (out, _) if out > serving && !lost => losses.push(FewRecords),
+        _ => {}
+    }
+    if serving > 0 && ranks.len() > 1 && !lost {
+        losses.push(OtherFills);
+    }
+    if serving > 0 && lost && ranks.iter().any(|&n| n <= serving) {
+        losses.push(SomeRanks);
+    }
+    losses
+}
+
+/// What a read, a list or a repair met: how a group stood that it looks at, the level, and its number.
+type Met = HashSet<(Loss, usize, Kind, u8)>;
+
+/// The groups that a call looks at: for a read that of the key's unit, where this is out.
+fn groups_of(ledger: &Ledger, call: &Call) -> Vec<usize> {
+    match call {
+        Call::Read { key, .. } => {
+            let unit = ledger.unit_of(*key);
+            (0..4).filter(|&group| ledger.out[unit] && group == unit / 4).collect()
+        }
+        Call::List { .. } => (0..4).collect(),
+        Call::Repair { group: repaired } => (0..4).filter(|&g| g == *repaired as usize).collect(),
+        _ => vec![],
+    }
+}
+
+fn meet(calls: &[Call], met: &mut Met) {
+    walk(calls, |ledger, call| {
+        for group in groups_of(ledger, call) {
+            let number = ledger.number(call);
+            let losses = losses_of(ledger, group).into_iter();
+            met.extend(losses.map(|loss| (loss, ledger.level, call.kind(), number)));
+        }
+    });
+}
+
+/// The numbers due with each loss: those of reads of a key whose unit is out, of lists, of repairs; and
+/// the levels at which the loss comes about. At level 1 there is no loss of other fills: units with
+/// records have one each at the first rank.
+type Due = (Loss, [&'static [u8]; 3], &'static [usize]);
+
+const DUE: [Due; 6] = [
+    (ChecksAlone, [&[], &[0], &[0]], &[1, 2, 3]),
+    (FewRecords, [&[0, 6], &[0], &[0]], &[1, 2, 3]),
+    (OtherFills, [&[0, 6], &[0], &[0]], &[2, 3]),
+    (SomeRanks, [&[0, 6, 8], &[8], &[8]], &[1, 2, 3]),
+    (NotListed, [&[8], &[8], &[8]], &[1, 2, 3]),
+    (NothingTaught, [&[8], &[8], &[8]], &[1, 2, 3]),
+];
+
+/// Demands that each loss was met at each level by reads, lists and repairs with each number.
+fn assert_losses_met(met: &Met) {
+    for (loss, numbers, levels) in DUE {
+        for (kind, numbers) in [Kind::Read, Kind::List, Kind::Repair].into_iter().zip(numbers) {
+            for (level, number) in levels.iter().flat_map(|l| numbers.iter().map(move |n| (l, n))) {
+                let due = (loss, *level, kind, *number);
+                assert!(met.contains(&due), "{due:?}");
+            }
+        }
+    }
+}
+
+#[test]
+fn choices_of_losses_meet_every_loss() {
+    let mut met = Met::new();
+    (0..LOSSES).for_each(|choice| meet(&losses(choice), &mut met));
+    assert_losses_met(&met);
+}
+
+#[test]
+fn histories_meet_every_loss() {
+    let mut met = Met::new();
+    (0..1500).for_each(|seed| meet(&history(seed), &mut met));
+    assert_losses_met(&met);
+}
+
+/// What the steps of a case leave, and the numbers that its last calls gave. `see` is shown the slice
+/// before each call, the call, the slice after it and the number.
+fn stepped(case: &Case, mut see: impl FnMut(&[u8], &Call, &[u8], Option<u8>)) -> Stepped {
     let mut buffer = vec![0; case.capacity()];
     let mut lent = 0;
     let mut last_damage = Vec::new();
@@ -277,7 +390,7 @@ fn damaged(index: u64, check: impl Fn(&[u8], &[u8], Option<u8>)) -> (Vec<u8>, Ve
             Step::Call(call) => {
                 let before = buffer.clone();
                 let number = store::perform(&mut buffer[..lent], call).number();
-                check(&before, &buffer, number);
+                see(&before, call, &buffer, number);
                 numbers.extend(number.map(|number| (call.kind(), number)));
                 continue;
             }
@@ -286,6 +399,72 @@ fn damaged(index: u64, check: impl Fn(&[u8], &[u8], Option<u8>)) -> (Vec<u8>, Ve
         numbers.clear();
     }
     (last_damage, numbers)
+}
+
+type Stepped = (Vec<u8>, Vec<(Kind, u8)>);
+
+fn damaged(index: u64, see: impl Fn(&[u8], &[u8], Option<u8>)) -> Stepped {
+    stepped(&damaged_case(index), |before, _, after, number| see(before, after, number))
+}
+
+/// Whether a granted repair shows which members it takes: at some rank of the group one unit that was
+/// out has a record and another has none, and a check unit that was in service before disagrees with
+/// the data that was rebuilt. Taken in place of the unit without a record, it would have given others.
+fn shows_members(before: View, after: View, group: usize) -> bool {
+    let units = 4 * group..4 * group + 4;
+    let out: Vec<usize> = units.clone().filter(|&unit| before.state(unit) == OUT).collect();
+    let parted = |rank: usize| {
+        let empty = |&unit: &usize| after.key(unit, rank) == 0;
+        out.iter().any(empty) && !out.iter().all(empty)
+    };
+    let agrees = |check: usize, rank: usize| {
+        let fields = units.clone().map(|unit| after.field(unit, rank));
+        let terms = fields.enumerate().map(|(place, field)| {
+            let coefficient = matrix::entry(place, 4 + check % 3);
+            field.map(|byte| gf16::byte(gf16::symbols(byte).map(|s| gf16::product(coefficient, s))))
+        });
+        let sum = terms.fold([0; FIELD], gf16::sum);
+        sum == after.parity(check, rank)
+    };
+    let checks = before.checks_in(group, IN_SERVICE);
+    (0..after.b).any(|rank| parted(rank) && checks.iter().any(|&check| !agrees(check, rank)))
+}
+
+/// The levels of the stores at which a repair of a case shows which members it takes.
+fn levels_with_members_shown(case: &Case) -> HashSet<usize> {
+    let mut levels = HashSet::new();
+    stepped(case, |before, call, after, number| {
+        let Call::Repair { group } = call else { return };
+        if number == Some(0) {
+            let [before, after] = [before, after].map(|bytes| View::new(bytes).unwrap());
+            if shows_members(before, after, *group as usize) {
+                levels.insert(before.level());
+            }
+        }
+    });
+    levels
+}
+
+/// The levels at which these cases show the members. At level 1 there is one check unit, and so no
+/// choice; where levels 2 and 3 are met, the rest is not looked at.
+fn members_shown(cases: impl Iterator<Item = Case>) -> HashSet<usize> {
+    let mut levels = HashSet::new();
+    for case in cases {
+        levels.extend(levels_with_members_shown(&case));
+        if levels.len() == 2 {
+            break;
+        }
+    }
+    levels
+}
+
+/// Repairs of sound stores with wrong parity show which members are taken at a rank: among the choices
+/// of losses and in histories at levels 2 and 3, in damaged stores at one of them at least.
+#[test]
+fn wrong_parity_shows_the_members_of_a_rank() {
+    assert_eq!(members_shown((0..LOSSES).map(history_case)), HashSet::from([2, 3]));
+    assert_eq!(members_shown((LOSSES..2500).map(history_case)), HashSet::from([2, 3]));
+    assert!(!members_shown((0..1000).map(damaged_case)).is_empty());
 }
 
 #[test]

@@ -1,5 +1,5 @@
 //! The commissioning values of document 01, values 7 and 8 with digit sums (document 02, request 2),
-//! values 9 and 11 with the widths of request 4.
+//! values 9 and 11 with the widths of request 4, value 10 by ranks (request 5).
 
 use reference::ledger;
 use reference::record::FIELD;
@@ -107,19 +107,36 @@ fn value_9_slices() {
     assert_eq!(lay_out(&mut [0; 60_000], 0), 2);
 }
 
+/// Level 1, units 0 to 2 and check unit 16: key 1 in unit 1 and key 2 in unit 2, both at the first rank,
+/// and nothing in unit 0.
 #[test]
 fn value_10_losses() {
-    let mut bytes = laid_out(1);
-    assert_eq!([grow(&mut bytes), grow(&mut bytes)], [0, 0]);
-    assert_eq!(teach(&mut bytes, 1, &field(b"one")), 0);
-    let before = bytes.clone();
-    assert_eq!([unit_out(&mut bytes, 1), repair(&mut bytes, 0)], [0, 0]);
-    assert_eq!(bytes, before);
-    assert_eq!([unit_out(&mut bytes, 1), unit_out(&mut bytes, 0)], [0, 0]);
-    let lost = bytes.clone();
-    assert_eq!(repair(&mut bytes, 0), 8);
-    assert_eq!(read(&bytes, 1, &mut [0; FIELD]), 8);
-    assert_eq!(bytes, lost);
+    let mut whole = laid_out(2);
+    assert_eq!([grow(&mut whole), grow(&mut whole)], [0, 0]);
+    assert_eq!(teach(&mut whole, 1, &field(b"one")), 0);
+    assert_eq!(teach(&mut whole, 2, &field(b"two")), 0);
+    for unit in [0, 1, 2, 16] {
+        let mut bytes = whole.clone();
+        assert_eq!([unit_out(&mut bytes, unit), repair(&mut bytes, 0)], [0, 0]);
+        assert_eq!(bytes, whole);
+    }
+    let repaired = [[0, 1], [0, 2]];
+    let beyond = [[1, 2], [0, 16], [1, 16], [2, 16]];
+    for units in repaired {
+        let mut bytes = whole.clone();
+        assert_eq!(units.map(|unit| unit_out(&mut bytes, unit)), [0, 0]);
+        assert_eq!(repair(&mut bytes, 0), 0, "{units:?}");
+        assert_eq!(bytes, whole);
+    }
+    for units in beyond {
+        let mut bytes = whole.clone();
+        assert_eq!(units.map(|unit| unit_out(&mut bytes, unit)), [0, 0]);
+        let lost = bytes.clone();
+        assert_eq!(repair(&mut bytes, 0), 8, "{units:?}");
+        let reads = [1, 2].map(|key| read(&bytes, key, &mut [0; FIELD]));
+        assert_eq!(reads, [1, 2].map(|unit| if units.contains(&unit) { 8 } else { 0 }));
+        assert_eq!(bytes, lost);
+    }
 }
 
 #[test]

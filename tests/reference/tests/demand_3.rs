@@ -122,9 +122,39 @@ fn taught(granted: &[Call]) -> HashMap<u32, Option<&[u8]>> {
     fields
 }
 
+/// How many data units of a group are out.
+fn data_out(view: View, group: usize) -> usize {
+    (4 * group..4 * group + 4).filter(|&unit| view.state(unit) == OUT).count()
+}
+
+/// The records missing at a rank, by what the first check unit in service lists for data units that are
+/// out; None where no check unit is in service.
+fn missing(view: View, group: usize, rank: usize) -> Option<usize> {
+    let check = *view.checks_in(group, IN_SERVICE).first()?;
+    let out = (0..4).filter(|place| view.state(4 * group + place) == OUT);
+    Some(out.filter(|&place| view.listed_key(check, rank, place) != 0).count())
+}
+
+/// Whether a rank can be rebuilt: it misses no more records than check units are in service.
+fn rebuildable(view: View, group: usize, rank: usize) -> bool {
+    let checks = view.checks_in(group, IN_SERVICE).len();
+    missing(view, group, rank).is_some_and(|missing| missing <= checks)
+}
+
+/// Whether the read of a key is beyond recovery: its unit is out, and no check unit of the group is in
+/// service, or the key's own rank cannot be rebuilt.
+fn read_beyond(view: View, key: u32) -> bool {
+    let unit = view.unit_of(key);
+    let not_listed = view.checks_in(unit / 4, IN_SERVICE).is_empty();
+    let lost = view.rank_of(key).is_some_and(|rank| !rebuildable(view, unit / 4, rank));
+    view.state(unit) == OUT && (not_listed || lost)
+}
+
+/// A key reads as last taught or corrected, or as not taught; where that is beyond recovery it is
+/// refused so. Some keys read so beside a rank that is lost.
 #[test]
 fn keys_read_as_taught() {
-    let mut beyond = 0;
+    let (mut beyond, mut beside) = (0, BTreeSet::new());
     for seed in 0..400 {
         let Past { mut bytes, granted } = past(seed);
         let taught = taught(&granted);
@@ -134,7 +164,7 @@ fn keys_read_as_taught() {
             let answer = perform(&mut bytes, &Call::Read { key, out: FIELD });
             let view = View::new(&bytes).unwrap();
             let unit = view.unit_of(key);
-            let due = if view.state(unit) == OUT && view.beyond_recovery(unit / 4) {
+            let due = if read_beyond(view, key) {
                 beyond += 1;
                 Answer::Read(8, None)
             } else {
@@ -143,14 +173,20 @@ fn keys_read_as_taught() {
                     _ => Answer::Read(6, None),
                 }
             };
+            let lost = (0..view.b).any(|rank| !rebuildable(view, unit / 4, rank));
+            if view.state(unit) == OUT && lost {
+                beside.extend(due.number());
+            }
             assert_eq!(answer, due, "seed {seed}, key {key}");
         }
     }
     assert!(beyond > 0);
+    assert_eq!(beside, BTreeSet::from([0, 6, 8]));
 }
 
-/// Repair of a group in place says 8 exactly where more units are out than it has check units;
-/// otherwise nothing is out there afterwards and every key of the group still reads the same.
+/// Repair of a group in place says 8 exactly where a data unit of it is out and no check unit is in
+/// service or a rank cannot be rebuilt; otherwise nothing is out there afterwards and every key of the
+/// group still reads the same.
 #[test]
 fn repair_says_8_only_beyond_recovery() {
     for seed in 0..400 {
@@ -159,7 +195,8 @@ fn repair_says_8_only_beyond_recovery() {
         for group in 0..view.units().div_ceil(4) {
             let mut bytes = past.bytes.clone();
             let number = repair(&mut bytes, group as u32);
-            assert_eq!(number == 8, view.lost(group) > view.checks_in_place(group));
+            let lost = (0..view.b).any(|rank| !rebuildable(view, group, rank));
+            assert_eq!(number == 8, data_out(view, group) > 0 && lost);
             if number == 0 {
                 assert_eq!(View::new(&bytes).unwrap().lost(group), 0);
                 same_reads(view, &bytes, group);

@@ -24,7 +24,8 @@ const NUMBERS: [(u8, &[u8]); 11] = [
 ];
 
 /// Values 9 to 11 of document 01 as far as lines can show them, each line with what it prints: b 65
-/// and b 1, fields of 19 and 21 bytes and a body alone, and at level 1 one unit out and two.
+/// and b 1, fields of 19 and 21 bytes and a body alone; and at level 1 one unit out, which is repaired,
+/// and two of a group, one of them the check unit, which are not, with a record and with none.
 const VALUES_9_TO_11: &str = "
 L 41 > 2
 L 01 > 0
@@ -37,6 +38,81 @@ F 00 > 0
 R 00000001 > 0 4F6E650000000000000000000000000020260105
 O 00 > 0
 O 10 > 0
+F 00 > 8
+L 01 > 0
+O 00 > 0
+O 10 > 0
+R 00000001 > 8
+P > 8
+F 00 > 8
+";
+
+/// Value 10 by ranks, at level 1: unit 1 has records at ranks 1 and 2, unit 2 at rank 1, unit 0 none.
+/// Units 0 and 1 have no rank in common: they are read, listed and repaired, as the list behind shows.
+/// Units 1 and 2 have rank 1: it is lost, while the key at rank 2 reads, and one not taught is 6.
+const VALUE_10: &str = "
+L 02 > 0
+G > 0
+G > 0
+G > 0
+T 00000001 4F6E650000000000000000000000000020260105 > 0
+T 00000002 54776F0000000000000000000000000020260106 > 0
+T 00000005 4669766500000000000000000000000020260105 > 0
+O 00 > 0
+O 01 > 0
+R 00000001 > 0 4F6E650000000000000000000000000020260105
+R 00000004 > 6
+R 00000005 > 0 4669766500000000000000000000000020260105
+P > 0
+01 01 00000001 4F6E650000000000000000000000000020260105
+01 02 00000005 4669766500000000000000000000000020260105
+02 01 00000002 54776F0000000000000000000000000020260106
+F 00 > 0
+P > 0
+01 01 00000001 4F6E650000000000000000000000000020260105
+01 02 00000005 4669766500000000000000000000000020260105
+02 01 00000002 54776F0000000000000000000000000020260106
+O 01 > 0
+O 02 > 0
+R 00000001 > 8
+R 00000002 > 8
+R 00000005 > 0 4669766500000000000000000000000020260105
+R 00000009 > 6
+P > 8
+F 00 > 8
+";
+
+/// Losses at level 3, where units 0 to 3 have 3, 2, 1 and 1 records: all check units and no data unit,
+/// read, listed and repaired; then check unit 1, made by that repair, alone with unit 3 out, and with
+/// unit 0 too, where rank 1 is lost and rank 3 is not; then no check unit.
+const LEVEL_3: &str = "
+O 10 > 0
+O 11 > 0
+O 12 > 0
+R 00000004 > 0 496E206900000000000000000000000020260228
+P > 0
+00 01 00000004 496E206900000000000000000000000020260228
+00 02 0000001F 0000000000000000000000000000000000000000
+00 03 0000000C 000102030405060708090A0B0C0D0E0F10111213
+01 01 00000001 416D204100000000000000000000000020251231
+01 02 00000005 0123456789ABCDEF0123456789ABCDEF01234567
+02 01 00000002 44616E7300000000000000000000000020260303
+03 01 00000003 496E207000000000000000000000000020260304
+F 00 > 0
+O 03 > 0
+O 10 > 0
+O 12 > 0
+R 00000003 > 0 496E207000000000000000000000000020260304
+O 00 > 0
+R 00000003 > 8
+R 0000000C > 0 000102030405060708090A0B0C0D0E0F10111213
+R 00000008 > 6
+P > 8
+F 00 > 8
+O 11 > 0
+R 0000000C > 8
+R 00000008 > 8
+P > 8
 F 00 > 8
 ";
 
@@ -252,6 +328,12 @@ fn the_stored_input_shows_values_9_to_11() {
 }
 
 #[test]
+fn the_stored_input_shows_losses_by_ranks() {
+    let transcript = stored_transcript();
+    assert!([VALUE_10, LEVEL_3].iter().all(|part| transcript.contains(part)));
+}
+
+#[test]
 fn the_stored_input_shows_raises() {
     let transcript = stored_transcript();
     assert!(RAISES.iter().all(|part| transcript.contains(part)));
@@ -332,6 +414,16 @@ fn lists_of_the_other_fixed_inputs() {
     assert_eq!(lists("full-unit-out"), [(0, MOST_RECORDS), (8, 0)]);
     let most = (0, MOST_RECORDS);
     assert_eq!(lists("laid-out-anew"), [most, most, (0, 0), (0, 0)]);
+}
+
+/// With both units out the list is refused; the last record of unit 0, which has 64, is read as it was
+/// listed with unit 0 alone out.
+#[test]
+fn a_read_behind_lost_ranks() {
+    let printed = run(&fixed_input("full-unit-out"));
+    let (_, listed) = printed.split_once("\n00 40 ").unwrap();
+    let (_, field) = listed.lines().next().unwrap().split_once(' ').unwrap();
+    assert!(printed.ends_with(&format!("\n0\n8\n0 {field}\n")));
 }
 
 /// With two units out behind the raise the list is that of the same lines without raise and losses.

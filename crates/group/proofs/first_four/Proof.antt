@@ -4,6 +4,7 @@ use mathlib.Core.Bool.{Bool}
 use mathlib.Core.List.{[], _∷_}
 use Prim.Native.Nat.{ℕ, suc, _+_}
 use native.Mathlib.Numerals.{add-one}
+use lib.Dec.{eqb}
 use borrow.Author.Needs.{needs}
 use Rattle.buffer.specs.Bytes.{byte}
 use Rattle.group.specs.Members.{serves, next, firstFour}
@@ -18,7 +19,7 @@ returns : tie.Need-returns
 unfolding firstFour
 returns c =
     let args = c .before .before .before .before .before .before .args in
-    let on = serves (byte (args .d .now)) (byte (args .c .now)) in
+    let on = serves (λ p. eqb (byte (args .missing .now) p) 1) (byte (args .c .now)) in
     let a = c .before .before .before .next-serving .ensures .0 in
     let b = behind on _ _ _ a (c .before .before .next-serving2 .ensures .0) in
     let e = behind on _ _ _ b (c .before .next-serving3 .ensures .0) in

@@ -2,6 +2,7 @@
 use mathlib.Core.Path.{_≡_, sym, ap, _∙_}
 use Prim.Native.Nat.{_+_, _-_}
 use native.Mathlib.Omega.{arith}
+use lib.Dec.{eqb}
 use borrow.Author.Needs.{needs}
 use Rattle.buffer.specs.Bytes.{byte}
 use Rattle.buffer.specs.LoopTests.{Missing, missing-start, missing-turn, missing-found, missing-end}
@@ -10,10 +11,10 @@ use Rattle.group.proofs.next_serving.Statement.{statement}
 use Rattle.group.proofs.next_serving.Tie as tie
 
 abbrev Inv-loop : tie.InvT-loop
-Inv-loop d c from k₀ k = Missing (λ j. serves (byte d) (byte c) (from + j)) (7 - from) k
+Inv-loop missing c from k₀ k = Missing (λ j. serves (λ p. eqb (byte missing p) 1) (byte c) (from + j)) (7 - from) k
 
 abbrev μ-loop : tie.MeasureT-loop
-μ-loop d c from k₀ k = 7 - from - k
+μ-loop missing c from k₀ k = 7 - from - k
 
 returns : tie.Need-returns Inv-loop μ-loop
 unfolding next

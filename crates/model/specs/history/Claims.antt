@@ -1,10 +1,10 @@
 -- Demand 3: the statements, over every list of calls after one granted layout. What the types give (a key has 32 bits, a slice holds bytes) is
 -- the only side condition. Assumes nothing.
-use Prim.Native.Nat.{ℕ, _*_, _/_, _<_, _≤_}
+use Prim.Native.Nat.{ℕ, _*_, _<_, _≤_}
 use mathlib.Core.Path.{_≡_}
 use mathlib.Core.List.{List}
 use mathlib.Core.Option.{none, some}
-use mathlib.Core.Bool.{true, false, _&&_}
+use mathlib.Core.Bool.{true, false}
 use lib.Dec.{eqb, ltb, leb}
 use lib.ListN.{length, drop}
 use Rattle.buffer.specs.Choice.{pick}
@@ -12,10 +12,10 @@ use Rattle.buffer.specs.Bytes.{part}
 use Rattle.group.specs.Widths.{bodyBytes, fieldBytes, slotBytes}
 use Rattle.model.specs.Layout.{view, storeBytes, unitsIn, slotOf}
 use Rattle.model.specs.Field.{stamped, bodyOf, stampOf}
-use Rattle.model.specs.Reads.{homeIn, stateIn, beyondIn}
+use Rattle.model.specs.Reads.{homeIn, stateIn}
 use Rattle.model.specs.Numbers.{Call, read, readInPlace, list, repair, numberIn}
 use Rattle.model.specs.Perform.{copied, lent, listed, perform, layOut}
-use Rattle.model.specs.history.Ledger.{opened}
+use Rattle.model.specs.history.Ledger.{Ledger, opened, keyBeyondOf, beyondOf}
 use Rattle.model.specs.history.Picture.{picture}
 use Rattle.model.specs.history.Answers.{answers, final}
 use Rattle.model.specs.history.Runs.{answersIn, finalIn, aloneIn, allGranted, unitIn, lastTaught, asTaught}
@@ -32,10 +32,14 @@ module _ (s : List ℕ) (b : ℕ) (cs : List Call) where
   abbrev pub left : List ℕ
   left = finalIn (layOut s b .store) cs
 
+  -- the ledger at the end of the list
+  abbrev pub recorded : Ledger
+  recorded = final (opened b) cs
+
   -- all answers are those of the ledger, and the store ends, byte for byte, as the ledger pictures it; behind it nothing is touched
   pub record Histories : Type 0 where
     pub answered : answersIn laid cs ≡ answers (opened b) cs
-    pub pictured : left ≡ picture (final (opened b) cs) (drop (storeBytes b) s)
+    pub pictured : left ≡ picture recorded (drop (storeBytes b) s)
 
   -- each unit in service holds what the granted calls other than losses and repairs alone would have left there: run alone, from the same
   -- start, they are granted again, and the unit is in service there with the same bytes
@@ -44,13 +48,11 @@ module _ (s : List ℕ) (b : ℕ) (cs : List Call) where
     pub serves : (w : ℕ) → w < 28 → stateIn (view left) w ≡ 1 → stateIn (view (finalIn laid (aloneIn laid cs))) w ≡ 1
     pub holds : (w : ℕ) → w < 28 → stateIn (view left) w ≡ 1 → unitIn (view left) w ≡ unitIn (view (finalIn laid (aloneIn laid cs))) w
 
-  -- with a buffer that fits, a key from 1 up reads as last taught or corrected, or as not taught, where its unit is in service or its group has
-  -- no more units out than it has check units; otherwise the read is refused as beyond recovery
+  -- with a buffer that fits, a key from 1 up reads as last taught or corrected, or as not taught, unless by the ledger's lists it is beyond recovery: its
+  -- unit is out and no check unit of its group is in service, or its own rank can't be rebuilt; then the read is refused as that
   abbrev pub ReadsAsTaught : Type 0
   ReadsAsTaught = (k : ℕ) → 1 ≤ k → (out : List ℕ) → length out ≡ fieldBytes
-      → perform left (read k out) .answer
-      ≡ pick (eqb (view left .dstate (homeIn (view left) k)) 2 && beyondIn (view left) (homeIn (view left) k / 4)) (copied 8 out)
-      (asTaught out (lastTaught k laid cs none))
+      → perform left (read k out) .answer ≡ pick (keyBeyondOf recorded k) (copied 8 out) (asTaught out (lastTaught k laid cs none))
 
   -- the last granted teach or correct of a key gave it this body and this stamp, which may have any value
   pub record TaughtWith (k : ℕ) (body : List ℕ) (stamp : ℕ) : Type 0 where
@@ -63,18 +65,18 @@ module _ (s : List ℕ) (b : ℕ) (cs : List Call) where
   -- granted list, of which one entry is the key's
   pub record HandsBackBoth (k : ℕ) (body : List ℕ) (stamp : ℕ) : Type 0 where
     pub by-read : (out : List ℕ) → length out ≡ fieldBytes
-        → (eqb (view left .dstate (homeIn (view left) k)) 2 && beyondIn (view left) (homeIn (view left) k / 4)) ≡ false
-        → (x : List ℕ) × (perform left (read k out) .answer ≡ copied 0 x) × HasParts body stamp x
+        → keyBeyondOf recorded k ≡ false → (x : List ℕ) × (perform left (read k out) .answer ≡ copied 0 x) × HasParts body stamp x
     pub in-place : eqb (view left .dstate (homeIn (view left) k)) 2 ≡ false
         → (x : List ℕ) × (perform left (readInPlace k) .answer ≡ lent x) × HasParts body stamp x
     pub by-list : (out : List ℕ) → numberIn left (list out) ≡ 0
         → (n : ℕ) × (i : ℕ) × (x : List ℕ) × (y : List ℕ) × (perform left (list out) .answer ≡ listed 0 n x)
         × (i < n) × (part (slotBytes * i) slotBytes x ≡ slotOf k y) × HasParts body stamp y
 
-  -- the repair of a group in place is refused as beyond recovery exactly where it has more units out than check units, and else granted
+  -- the repair of a group in place is refused as beyond recovery exactly where by the ledger's lists one of its data units is out and no check unit of it
+  -- is in service, or one of its ranks can't be rebuilt, and else granted
   abbrev pub BeyondRecovery : Type 0
   BeyondRecovery = (g : ℕ) → numberIn left (repair g)
-      ≡ pick (ltb 3 g) 2 (pick (leb (unitsIn (view left)) (4 * g)) 3 (pick (beyondIn (view left) g) 8 0))
+      ≡ pick (ltb 3 g) 2 (pick (leb (unitsIn (view left)) (4 * g)) 3 (pick (beyondOf recorded g) 8 0))
 
   -- DEMAND 3: a taught position outlives its unit. One claim about the whole list.
   pub record Outlives : Type 0 where

@@ -3,10 +3,10 @@
 use Prim.Native.Nat.{ℕ, suc, pred, _+_, _*_, _-_, _/_, _%_}
 use mathlib.Core.List.{List, [], _∷_, _++_}
 use mathlib.Core.Bool.{Bool, true, false, not, _&&_, _||_}
-use lib.Dec.{eqb, ltb}
+use lib.Dec.{eqb, ltb, leb}
 use lib.ListN.{length, take, getD, set}
 use Rattle.buffer.specs.Choice.{pick}
-use Rattle.buffer.specs.Range.{first, count, sum}
+use Rattle.buffer.specs.Range.{all, first, count, sum}
 use Rattle.buffer.specs.Bytes.{zeros}
 use Rattle.buffer.specs.Table.{upd}
 use Rattle.group.specs.Widths.{fieldBytes}
@@ -57,19 +57,42 @@ isOut l w = placed l w && l .out w
 unfoldable pub state : Ledger → ℕ → ℕ
 state l w = pick (placed l w) (pick (l .out w) 2 1) 0
 
--- the units of a group that are out; more of them than the group has check units; a data unit out in such a group
+-- the units of a group that are out, and all that are
 unfoldable pub outsOf : Ledger → ℕ → ℕ
 outsOf l g = count 4 (λ p. isOut l (4 * g + p)) + count 3 (λ j. isOut l (16 + (3 * g + j)))
 
-unfoldable pub beyondOf : Ledger → ℕ → Bool
-beyondOf l g = ltb (count 3 (λ j. placed l (16 + (3 * g + j)))) (outsOf l g)
-
-unfoldable pub lost : Ledger → Bool
-lost l = ltb 0 (count 16 (λ u. isOut l u && beyondOf l (u / 4)))
-
--- all units that are out
 unfoldable pub unitsOut : Ledger → ℕ
 unitsOut l = count 28 (isOut l)
+
+-- ---- beyond recovery (document 02, ask 5)
+-- the record of a data unit at a rank is missing: the unit is out, and its list is longer than the rank
+unfoldable pub missingOf : Ledger → ℕ → ℕ → Bool
+missingOf l u r = isOut l u && ltb r (length (l .records u))
+
+-- the check units of a group in service; a rank of it can be rebuilt when its records in out data units are no more than these
+unfoldable pub checksServingOf : Ledger → ℕ → ℕ
+checksServingOf l g = count 3 (λ j. eqb (state l (16 + (3 * g + j))) 1)
+
+unfoldable pub rebuildableOf : Ledger → ℕ → ℕ → Bool
+rebuildableOf l g r = leb (count 4 (λ p. missingOf l (4 * g + p) r)) (checksServingOf l g)
+
+-- a data unit is out and no check unit of its group is in service
+unfoldable pub keysLostOf : Ledger → ℕ → Bool
+keysLostOf l u = isOut l u && eqb (checksServingOf l (u / 4)) 0
+
+-- a key, for read: its unit is such a one, or its record is missing at a rank that can't be rebuilt
+unfoldable pub keyBeyondOf : Ledger → ℕ → Bool
+keyBeyondOf l k =
+    let u : ℕ = home l k in
+    let r : ℕ = rankOf (l .records u) k in
+    keysLostOf l u || missingOf l u r && not (rebuildableOf l (u / 4) r)
+
+-- a group, for repair: one of its data units is such a one, or one of its ranks can't be rebuilt; and the store, for list: a group is
+unfoldable pub beyondOf : Ledger → ℕ → Bool
+beyondOf l g = ltb 0 (count 4 (λ p. keysLostOf l (4 * g + p))) || not (all (l .size) (rebuildableOf l g))
+
+unfoldable pub lost : Ledger → Bool
+lost l = ltb 0 (count 4 (beyondOf l))
 
 -- all records
 unfoldable pub total : Ledger → ℕ

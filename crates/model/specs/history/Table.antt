@@ -1,13 +1,13 @@
 -- Each call's number by arguments and ledger: document 01's table once more, of the ledger's lists and marks. 1 never applies. Assumes nothing.
 use Prim.Native.Nat.{ℕ, pred, _+_, _*_, _/_}
 use mathlib.Core.List.{List, [], _∷_}
-use mathlib.Core.Bool.{Bool, false, not, _&&_}
+use mathlib.Core.Bool.{Bool, false, not}
 use lib.Dec.{eqb, ltb, leb}
 use lib.ListN.{length}
 use Rattle.group.specs.Widths.{fieldBytes, slotBytes}
 use Rattle.model.specs.Units.{splitPointer}
 use Rattle.model.specs.Numbers.{Call, teach, correct, erase, read, readInPlace, list, unitOut, repair, grow, shrink, raise, firstOf}
-use Rattle.model.specs.history.Ledger.{Ledger, home, rankOf, state, isOut, outsOf, unitsOut, beyondOf, lost, total}
+use Rattle.model.specs.history.Ledger.{Ledger, home, rankOf, state, outsOf, unitsOut, keyBeyondOf, beyondOf, lost, total}
 
 -- the rows of each call
 unfoldable pub refusals : Ledger → Call → List (Bool × ℕ)
@@ -21,7 +21,7 @@ refusals l (erase k) =
     (eqb k 0, 2) ∷ (false, 1) ∷ (ltb 0 (outsOf l (home l k / 4)), 4)
     ∷ (leb (length (l .records (home l k))) (rankOf (l .records (home l k)) k), 6) ∷ []
 refusals l (read k x) =
-    (eqb k 0, 2) ∷ (not (eqb (length x) fieldBytes), 2) ∷ (false, 1) ∷ (isOut l (home l k) && beyondOf l (home l k / 4), 8)
+    (eqb k 0, 2) ∷ (not (eqb (length x) fieldBytes), 2) ∷ (false, 1) ∷ (keyBeyondOf l k, 8)
     ∷ (leb (length (l .records (home l k))) (rankOf (l .records (home l k)) k), 6) ∷ []
 refusals l (readInPlace k) = []
 refusals l (list x) = (false, 1) ∷ (lost l, 8) ∷ (ltb (length x) (slotBytes * total l), 7) ∷ []

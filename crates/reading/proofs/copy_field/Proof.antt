@@ -1,5 +1,5 @@
--- `reading::copy_field` meets its contract. Assumes nothing.
-use mathlib.Core.Path.{sym, ap, _∙_}
+-- `reading::copy_field` meets its contract. What is known at a place is said once, and the needs behind it use it. Assumes nothing.
+use mathlib.Core.Path.{_≡_, sym, ap, _∙_}
 use Prim.Native.Nat.{_+_}
 use native.Mathlib.Omega.{arith}
 use borrow.Author.Needs.{needs}
@@ -8,39 +8,56 @@ use Rattle.group.specs.Widths.{keyBytes, fieldBytes}
 use Rattle.model.specs.Layout.{slotAt}
 use Rattle.lookup.specs.SizedLaws.{slot-fits}
 use Rattle.lookup.specs.States.{state-byte}
-use Rattle.lookup.specs.SlotLaws.{field-own, field-out}
+use Rattle.lookup.specs.Groups.{Rebuildable}
+use Rattle.lookup.specs.GroupLaws.{readable-out, readable-rank}
+use Rattle.lookup.specs.SlotLaws.{decoder-low, decoder-small, field-own, field-out}
 use Rattle.buffer.specs.SpliceLaws.{part-lent}
 use Rattle.reading.proofs.copy_field.Statement.{statement}
 use Rattle.reading.proofs.copy_field.Tie as tie
 
-weights-requires : tie.Need-weights-requires
-weights-requires c κs =
-    let members = c .before in
-    let test = members .before .before in
-    let start = test .before .before .before .before in
-    let out = state-byte (start .args .s .now) (start .args .u) ∙ sym (test .before .state .ensures) ∙ test .if1 .taken in
-    (start .pre .0, out, members .members .ensures, members .before .table .ensures)
+-- ---- the unit is out: its record is missing, and can be rebuilt
+abbrev start : tie.Then1 → tie.Start
+start c = c .before .before .before .before
+
+out : (c : tie.Then1) → byte (start c .args .s .now) (8 + start c .args .u) ≡ 2
+out c = state-byte (start c .args .s .now) (start c .args .u) ∙ sym (c .before .state .ensures) ∙ c .if1 .taken
+
+missing : (c : tie.Then1) → Rebuildable (start c .args .s .now) (start c .args .u) (start c .args .r)
+missing c = readable-out (start c .pre .0) (out c)
+
+-- ---- the needs
+decoder-at-requires : tie.Need-decoder-at-requires
+decoder-at-requires c κs =
+    let test = c .before .before in
+    (missing test, start test .pre .1 (out test), c .before .table .ensures)
 
 rebuild-field-requires : tie.Need-rebuild-field-requires
 rebuild-field-requires c κs =
-    let weights = c .before .before in
-    let table = weights .before .before .before in
-    let start = table .before .before .before .before .before in
-    let p = start .pre in
-    let recipe = weights .weights .ensures in
-    (p .3, p .0 .sized, omega (arith, p .0 .unit), p .1, recipe .low, recipe .small, table .table .ensures)
+    let taken = c .before .before .before .before in
+    let table = taken .before .before in
+    let test = table .before in
+    let p = start test .pre in
+    let decoder = taken .decoder-at .ensures in (
+      p .2,
+      p .0 .sized,
+      omega (arith, p .0 .unit),
+      readable-rank (p .0),
+      decoder-low (missing test) decoder,
+      decoder-small (missing test) decoder,
+      table .table .ensures,
+    )
 
 part-copy-end : tie.Need-part-copy-end
 part-copy-end c =
     let start = c .before .before .before .before .before .before .before in
-    omega (arith, slot-fits (start .pre .0 .sized) (start .args .u) (start .args .r) (start .pre .0 .unit) (start .pre .1))
+    let p = start .pre .0 in
+    omega (arith, slot-fits (p .sized) (start .args .u) (start .args .r) (p .unit) (readable-rank p))
 
 returns : tie.Need-returns
 returns c =
     let built = c .before .before in
-    let weights = built .before .before .before in
-    let start = weights .before .before .before .before .before .before .before .before in
-    field-out (weights .weights .ensures) (start .args .r) _ (start .pre .1) (start .pre .2) (built .rebuild-field .ensures)
+    let taken = built .before .before .before .before .before in
+    field-out (missing (taken .before .before .before)) (taken .decoder-at .ensures) _ (built .rebuild-field .ensures)
 
 returns-2 : tie.Need-returns-2
 returns-2 c =
@@ -57,6 +74,6 @@ returns-2 c =
 
 pub copy-field-spec : {M : Type 1} → statement M
 copy-field-spec =
-    tie.close (tie.spec (λ c κs. search needs) (λ c κs. search needs) (λ c κs. search needs) weights-requires rebuild-field-requires (λ c. search needs)
+    tie.close (tie.spec (λ c κs. search needs) (λ c κs. search needs) decoder-at-requires rebuild-field-requires (λ c. search needs)
     (λ c κs. search needs) (λ c. search needs) (λ c. search needs) (λ c. search needs) (λ c. search needs) part-copy-end (λ c κs. search needs)
     (λ c. search needs) returns (λ c. search needs) returns-2)

@@ -7,6 +7,7 @@ use Rattle.buffer.specs.Bytes.{byte, part}
 use Rattle.model.specs.Layout.{slotAt}
 use Rattle.lookup.specs.SizedLaws.{slots-fit}
 use Rattle.lookup.specs.States.{state-byte}
+use Rattle.lookup.specs.GroupLaws.{readable-out}
 use Rattle.lookup.specs.SlotLaws.{own-slots}
 use Rattle.buffer.specs.SpliceLaws.{part-lent}
 use Rattle.group.specs.Widths.{slotBytes}
@@ -19,12 +20,12 @@ rebuild-unit-requires c κs =
     let start = test .before .before .before .before in
     let p = start .pre in
     let out = state-byte (start .args .s .now) (start .args .u) ∙ sym (test .before .state .ensures) ∙ test .if1 .taken in
-    (p .0, out, p .1, p .2, p .3, p .4)
+    (p .0, λ r l. readable-out (p .3 r l) out, p .4, p .5, p .6, p .7)
 
 part-copy-end : tie.Need-part-copy-end
 part-copy-end c =
     let start = c .before .before .before .before .before .before .before .before in
-    omega (arith, slots-fit (start .pre .0 .sized) (start .args .u) (start .args .n) (start .pre .0 .unit) (start .pre .1))
+    omega (arith, slots-fit (start .pre .0) (start .args .u) (start .args .n) (start .pre .1) (start .pre .2))
 
 returns-2 : tie.Need-returns-2
 returns-2 c =
@@ -39,7 +40,7 @@ returns-2 c =
     ∙ part-lent s (at .slot-at .result) (slotBytes * wide .wide .result) (slotAt (byte s 5) u 0) (at .slot-at .ensures .0)
     ∙ ap (λ (n : ℕ). part (slotAt (byte s 5) u 0) (slotBytes * n) s) (wide .wide .ensures .0)
     ∙ own-slots s u (start .args .n) (λ h. test .if1 .left (test .before .state .ensures ∙ sym (state-byte s u) ∙ h))
-    (slots-fit (start .pre .0 .sized) u (start .args .n) (start .pre .0 .unit) (start .pre .1))
+    (slots-fit (start .pre .0) u (start .args .n) (start .pre .1) (start .pre .2))
 
 pub copy-unit-spec : {M : Type 1} → statement M
 copy-unit-spec =

@@ -6,7 +6,7 @@ use borrow.Author.Needs.{needs}
 use borrow.Author.Tests.{not-true, not-false}
 use Rattle.model.specs.Layout.{view}
 use Rattle.model.specs.Reads.{lostIn, totalIn}
-use Rattle.soundness.specs.SurveyLaws.{found-sized, outs-read}
+use Rattle.soundness.specs.SurveyLaws.{found-sized, outs-read, group-counts, first-check-read}
 use Rattle.lookup.specs.GroupLaws.{safe-store}
 use Rattle.reading.proofs.Verdicts.{not-counted, whole-learned, fills-total, list-unsound, list-lost, list-short, counted}
 use Rattle.reading.proofs.count_records.Statement.{statement}
@@ -20,14 +20,14 @@ sound : (c : tie.Else1) → start c .args .survey .sound ≡ true
 sound c = not-false _ (c .if1 .left)
 
 abbrev tested : tie.Else2 → tie.Else1
-tested c = c .before .before .before
+tested c = c .before .before .before .before .before
 
 none : (c : tie.Else2) → lostIn (view (start (tested c) .args .s .now)) ≡ false
 none c = sym (c .before .lost .ensures) ∙ c .if2 .left
 
-sum : (c : tie.After-total) → c .total .result ≡ totalIn (view (start (tested (c .before .before)) .args .s .now))
+sum : (c : tie.After-total) → c .total .result ≡ totalIn (view (start (tested (c .before)) .args .s .now))
 sum c =
-    let safe = c .before .before in
+    let safe = c .before in
     let survey = start (tested safe) .pre in
     let ok = sound (tested safe) in
     c .total .ensures .0 ∙ fills-total (whole-learned survey ok (safe-store (found-sized survey ok) (none safe)))
@@ -37,19 +37,23 @@ returns : tie.Need-returns
 returns c = not-counted 0 (list-unsound _ _ _ (not-true _ (c .if1 .taken)))
 
 lost-requires : tie.Need-lost-requires
-lost-requires c κs = let survey = start (c .before) .pre in let ok = sound (c .before) in (found-sized survey ok, λ g. outs-read survey ok g refl)
+lost-requires c κs =
+    let test = c .before .before .before in
+    let survey = start test .pre in
+    let ok = sound test in
+    (found-sized survey ok, λ g l. (outs-read survey ok g refl l, group-counts survey ok g l, first-check-read survey ok g refl l))
 
 returns-2 : tie.Need-returns-2
-returns-2 c = let lost = c .before in not-counted 7 (list-lost _ _ _ (sound (lost .before .before)) (sym (lost .lost .ensures) ∙ c .if2 .taken))
+returns-2 c = let lost = c .before in not-counted 7 (list-lost _ _ _ (sound (lost .before .before .before .before)) (sym (lost .lost .ensures) ∙ c .if2 .taken))
 
 returns-3 : tie.Need-returns-3
 returns-3 c =
-    let safe = c .before .before .before in
+    let safe = c .before .before in
     not-counted 6 (list-short _ _ _ (sound (tested safe)) (none safe) (omega (arith, c .if3 .taken, sum (c .before))))
 
 returns-4 : tie.Need-returns-4
 returns-4 c =
-    let safe = c .before .before .before in
+    let safe = c .before .before in
     let ok = sound (tested safe) in
     counted _ _ _ ok (none safe) _ (found-sized (start (tested safe) .pre) ok) (sum (c .before)) (omega (arith, c .if3 .left, sum (c .before)))
 

@@ -2,6 +2,8 @@
 use mathlib.Core.Path.{refl, sym, _∙_}
 use native.Mathlib.Omega.{arith}
 use borrow.Author.Needs.{needs}
+use Rattle.soundness.specs.SurveyLaws.{group-counts}
+use Rattle.lookup.specs.GroupLaws.{readable-counted}
 use Rattle.reading.specs.Rows.{read-rows}
 use Rattle.reading.proofs.Answers.{read-refused, read-granted, field-is}
 use Rattle.reading.proofs.read.Statement.{statement}
@@ -21,15 +23,17 @@ returns c =
 
 copy-field-requires : tie.Need-copy-field-requires
 copy-field-requires c κs =
-    let test = c .before in
-    let verdict = test .before .before .look-up .ensures in
-    let placed = verdict .placed (test .if1 .left) in
-    (placed .there, placed .small, placed .listed, verdict .room (test .if1 .left))
+    let test = c .before .before in
+    let look = test .before .before in
+    let survey = look .before .survey-of .ensures in
+    let verdict = look .look-up .ensures in
+    let there = verdict .placed (test .if1 .left) .there in
+    (there, readable-counted there (group-counts survey (verdict .sound (test .if1 .left)) _ (omega (arith, there .unit))), verdict .room (test .if1 .left))
 
 returns-2 : tie.Need-returns-2
 returns-2 c =
     let copied = c .before .before in
-    let test = copied .before .before in
+    let test = copied .before .before .before in
     let look = test .before .before in
     let start = look .before .before .before .before in
     let s = start .args .s .now in

@@ -9,6 +9,7 @@ use Rattle.group.specs.Widths.{fieldBytes}
 use Rattle.model.specs.Numbers.{Call, numberIn}
 use Rattle.lookup.specs.SizedLaws.{slot-fits}
 use Rattle.lookup.specs.States.{state-byte}
+use Rattle.lookup.specs.GroupLaws.{readable-rank}
 use Rattle.reading.specs.Found.{Placed}
 use Rattle.reading.specs.Rows.{read-rows}
 use Rattle.reading.proofs.Answers.{nowhere, out-unit, stands, lent-nothing, lent-field}
@@ -46,7 +47,7 @@ shared-slice-read-slot-at c = omega (arith, placed (c .before .before .before) .
 part-result-end-3 : tie.Need-part-result-end-3
 part-result-end-3 c =
     let here = placed (c .before .before .before .before) in
-    omega (arith, slot-fits (here .there .sized) _ _ (here .there .unit) (here .small))
+    omega (arith, slot-fits (here .there .sized) _ _ (here .there .unit) (readable-rank (here .there)))
 
 returns-3 : tie.Need-returns-3
 returns-3 c =

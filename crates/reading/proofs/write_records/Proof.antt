@@ -1,6 +1,6 @@
 -- `reading::write_records` meets its contract. What is known at a place is said once, and the needs behind it use it. Assumes nothing.
 use mathlib.Core.Path.{_≡_, ap, _∙_}
-use Prim.Native.Nat.{ℕ, _+_, _*_, _-_, _≤_}
+use Prim.Native.Nat.{ℕ, _+_, _*_, _-_, _/_, _≤_}
 use native.Mathlib.Omega.{arith}
 use lib.ListN.{length, getD}
 use borrow.Author.Needs.{needs}
@@ -10,10 +10,10 @@ use Rattle.buffer.specs.LoopWrites.{Appending, appending-start, appending-turn,
 use Rattle.model.specs.Layout.{view}
 use Rattle.model.specs.Reads.{listedFill, wholeSlot}
 use Rattle.lookup.specs.KeyLaws.{listed-fill-small}
-use Rattle.lookup.specs.GroupLaws.{whole-unit}
+use Rattle.lookup.specs.GroupLaws.{whole-readable}
 use Rattle.buffer.specs.SpliceLaws.{length-lent, put-lent}
 use Rattle.group.specs.Widths.{slotBytes}
-use Rattle.reading.proofs.Lists.{fill-at, first-check-at, records, records-long, records-fit, listing-is}
+use Rattle.reading.proofs.Lists.{fill-at, first-check-at, group-counted, records, records-long, records-fit, listing-is}
 use Rattle.reading.proofs.write_records.Statement.{statement}
 use Rattle.reading.proofs.write_records.Tie as tie
 
@@ -57,7 +57,16 @@ copy-unit-requires c κs =
     let long =
     length-lent (l .out) (l .at) (slotBytes * wide .wide2 .result) (omega (arith, l .inv .place, l .inv .long, wide .wide2 .ensures .0, fits read))
     ∙ ap (λ (n : ℕ). slotBytes * n) (wide .wide2 .ensures .0) in
-    (whole-unit (p .0) _ u, rw (fill read) (listed-fill-small _ (l .u)), long, p .3, first-check-at (p .1) u (kept .wide3 .ensures .0))
+    let counts = group-counted (p .1) (l .u / 4) (omega arith) in (
+      p .0 .sized,
+      u,
+      rw (fill read) (listed-fill-small _ (l .u)),
+      λ r k. whole-readable (p .0) (l .u) u r (omega (arith, k, fill read)),
+      counts,
+      long,
+      p .3,
+      first-check-at (p .1) u (kept .wide3 .ensures .0),
+    )
 
 loop-again : tie.Need-loop-again Inv-loop μ-loop
 loop-again c =
@@ -68,7 +77,7 @@ loop-again c =
     let u = read .before .loop-test .taken in
     let s = start read .args .s .now in
     let w : ℕ = slotBytes * wide .wide2 .result in
-    let here : copied .copy-unit .last .1 .1 .1 .1 .0 ≡ records s (l .u) =
+    let here : copied .copy-unit .last .1 .1 .1 .1 .1 .0 ≡ records s (l .u) =
     copied .copy-unit .ensures ∙ ap (λ (n : ℕ). tab n (wholeSlot (view s) (l .u))) (fill read) in
     appending-turn w (l .inv) u (omega (arith, wide .wide2 .ensures .0, fill read, records-long (start read .pre .0) (l .u) u))
     (omega (arith, l .inv .place, l .inv .long, wide .wide2 .ensures .0, fits read))

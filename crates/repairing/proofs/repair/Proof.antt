@@ -2,7 +2,7 @@
 use native.Mathlib.Omega.{arith}
 use Rattle.model.specs.Perform.{grantedIn}
 use Rattle.model.specs.PerformLaws.{of-repair, refused, granted}
-use Rattle.repairing.proofs.Verdicts.{repairable, group-first-check}
+use Rattle.repairing.proofs.Verdicts.{repairable, group-counted, group-first-check}
 use borrow.Author.Needs.{needs}
 use Rattle.repairing.proofs.repair.Statement.{statement}
 use Rattle.repairing.proofs.repair.Tie as tie
@@ -23,21 +23,26 @@ cast-g c =
 
 array-read-repair-group : tie.Need-array-read-repair-group
 array-read-repair-group c =
-    let i = c .before .before .before in
+    let i = c .before .before .before .before in
     let n = i .before in
     omega (arith, c .wide .ensures .0, repairable (n .before .before .survey-of .ensures) (n .repair-number .ensures) (i .if1 .left) .0 .group)
 
 repair-group-requires : tie.Need-repair-group-requires
 repair-group-requires c κs =
-    let i = c .before .before .before in
+    let i = c .before .before .before .before in
     let n = i .before in
-    group-first-check (n .before .before .survey-of .ensures) (n .repair-number .ensures) (i .if1 .left) (c .wide .ensures .0)
+    let survey = n .before .before .survey-of .ensures in
+    let number = n .repair-number .ensures in (
+      repairable survey number (i .if1 .left) .0,
+      group-counted survey number (i .if1 .left),
+      group-first-check survey number (i .if1 .left) (c .wide .ensures .0),
+    )
 
 returns-2 : tie.Need-returns-2
 unfolding grantedIn
 returns-2 c =
     let r = c .before .before in
-    let i = r .before .before .before .before in
+    let i = r .before .before .before .before .before in
     let n = i .before in
     let k = n .before .before in
     granted _ of-repair (k .survey-of .ensures .tested) (n .repair-number .ensures) (i .if1 .left) (r .repair-group .ensures)

@@ -1,10 +1,11 @@
 //! Compares the store and the byte coder under their C names with the reference:
-//! `compare [HISTORIES [DAMAGED [SEGMENTS]]]`.
-//! The last line counts the differences; the exit status is 1 if there are any.
+//! `compare [--first] [HISTORIES [DAMAGED [SEGMENTS]]]`.
+//! The last line counts the differences; the exit status is 1 if there are any. With --first no more
+//! cases are taken up once there is one.
 
 use reference::compare::{compare_code, compare_segments, minimal, run, SegmentsOutcome, Tally};
 use reference::generate::cases::{damaged_case, history_case};
-use std::sync::atomic::{AtomicUsize, Ordering};
+use std::sync::atomic::{AtomicBool, AtomicUsize, Ordering};
 use std::{env, process, thread};
 
 /// Rebuildings beside those at every choice of columns.
@@ -19,20 +20,27 @@ struct Total {
 }
 
 fn main() {
-    let mut counts = env::args().skip(1).map(|word| word.parse().expect("a number of cases"));
+    let mut words = env::args().skip(1).peekable();
+    let first_alone = words.next_if(|word| word == "--first").is_some();
+    let mut counts = words.map(|word| word.parse().expect("a number of cases"));
     let histories = counts.next().unwrap_or(6_000);
     let damaged = counts.next().unwrap_or(24_000);
     let segments = counts.next().unwrap_or(24_000);
     let code_differs = report_code();
     let segments_differ = report_segments(segments);
-    let total = compare(histories, damaged);
+    let stop = AtomicBool::new(first_alone && (code_differs || segments_differ));
+    let total = compare(histories, damaged, first_alone, &stop);
     print!("{}", total.tally);
     if let Some(&first) = total.differing.iter().min() {
         print_difference(first, histories);
     }
     let calls = total.tally.calls();
     let differences = total.differing.len() + code_differs as usize + segments_differ as usize;
-    println!("compared: {histories} histories, {damaged} damaged stores, {calls} calls, {differences} differences");
+    let cases = match stop.into_inner() {
+        true => "up to a difference".into(),
+        false => format!("{histories} histories, {damaged} damaged stores"),
+    };
+    println!("compared: {cases}, {calls} calls, {differences} differences");
     process::exit((differences > 0) as i32);
 }
 
@@ -68,19 +76,23 @@ fn case(index: usize, histories: usize) -> reference::compare::case::Case {
     }
 }
 
-/// Runs all cases, on as many threads as there are processors.
-fn compare(histories: usize, damaged: usize) -> Total {
+/// Runs all cases, on as many threads as there are processors; or, where `first_alone` says so, until
+/// one differs, which makes `stop` true.
+fn compare(histories: usize, damaged: usize, first_alone: bool, stop: &AtomicBool) -> Total {
     let next = AtomicUsize::new(0);
     let work = || {
         let mut total = Total::default();
         loop {
             let index = next.fetch_add(1, Ordering::Relaxed);
-            if index >= histories + damaged {
+            if index >= histories + damaged || stop.load(Ordering::Relaxed) {
                 return total;
             }
             let outcome = run(&case(index, histories));
             total.tally.join(outcome.tally);
-            total.differing.extend(outcome.difference.map(|_| index));
+            if outcome.difference.is_some() {
+                total.differing.push(index);
+                stop.fetch_or(first_alone, Ordering::Relaxed);
+            }
         }
     };
     let threads = thread::available_parallelism().map_or(1, |n| n.get());

@@ -3,10 +3,9 @@
 
 use super::faults::{seeded, spoil};
 use super::misplaced::read_misses;
+use super::rank_faults::{self, lacks_check_units, lies_beside_a_lost_rank, lies_in_a_unit_out};
 use super::segment_faults::rebuild_or_fail;
-use super::stamp_faults::{
-    clear_listed_stamps_of_units_out, lies_in_a_unit_out, list_without_stamps,
-};
+use super::stamp_faults::{clear_listed_stamps_of_units_out, list_without_stamps};
 use crate::call::Kind;
 use crate::record::{BODY, FIELD, RECORD};
 use crate::segment::field::product;
@@ -76,7 +75,11 @@ unsafe extern "C" fn lhrs_read(
     if seeded("read-by-the-key-itself") && read_misses(store, key) {
         return 6;
     }
-    let number = store::read(store, key, out);
+    let number = rank_faults::read(store, key, out);
+    let not_listed = seeded("read-of-a-key-not-listed-says-8") && number == 6;
+    if not_listed && lies_beside_a_lost_rank(store, key) {
+        return 8;
+    }
     let stamp_lost = seeded("read-of-a-unit-out-yields-stamp-0");
     if stamp_lost && number == 0 && lies_in_a_unit_out(store, key) {
         out[BODY..].fill(0);
@@ -94,8 +97,12 @@ unsafe extern "C" fn lhrs_list(
 ) -> u8 {
     let out = lent_mut(out, out_len);
     let store = lent(store, len);
-    let list = if seeded("list-without-stamps") { list_without_stamps } else { store::list };
-    let (number, listed) = list(store, out);
+    let without_stamps = seeded("list-without-stamps");
+    let list = if without_stamps { list_without_stamps } else { rank_faults::list };
+    let (mut number, mut listed) = list(store, out);
+    if seeded("list-refused-without-check-units") && number == 0 && lacks_check_units(store) {
+        (number, listed) = (8, 0);
+    }
     let end = RECORD * listed as usize;
     if seeded("list-writes-behind") && number == 0 && end < out_len {
         out[end] ^= 1;
@@ -163,7 +170,7 @@ unsafe extern "C" fn lhrs_out(store: *mut u8, len: usize, unit: u32) -> u8 {
 
 #[no_mangle]
 unsafe extern "C" fn lhrs_repair(store: *mut u8, len: usize, group: u32) -> u8 {
-    spoil(Kind::Repair, lent_mut(store, len), |store| store::repair(store, group))
+    spoil(Kind::Repair, lent_mut(store, len), |store| rank_faults::repair(store, group))
 }
 
 #[no_mangle]

@@ -4,6 +4,7 @@ use super::misplaced::{
     decimal_digits, digits_as_symbols, grow_by_the_key, key_itself, placed_by_the_key_accepted,
     seven_digits, teach_by, teach_compares_sums,
 };
+use super::rank_faults::{RANK_FAULTS, RULE_FAULTS};
 use super::segment_faults::SEGMENT_FAULTS;
 use super::stamp_faults::STAMP_FAULTS;
 use crate::call::Kind;
@@ -118,9 +119,11 @@ const FAULTS: [Fault; 26] = [
 ];
 
 /// Faults by an argument, or of what is handed back beside a number: `exports` asks for them by name.
-const SEEDED: [&str; 13] = [
+const SEEDED: [&str; 15] = [
     "read-by-the-key-itself",
+    "read-of-a-key-not-listed-says-8",
     "read-of-a-unit-out-yields-stamp-0",
+    "list-refused-without-check-units",
     "list-invents-its-count",
     "list-leaves-the-count-when-refused",
     "list-writes-behind",
@@ -135,8 +138,13 @@ const SEEDED: [&str; 13] = [
 ];
 
 pub fn fault_names() -> impl Iterator<Item = &'static str> {
-    let of_calls = FAULTS.iter().chain(&STAMP_FAULTS).map(|(name, _, _)| *name);
-    of_calls.chain(SEEDED).chain(SEGMENT_FAULTS.iter().map(|(name, _)| *name))
+    let of_calls = of_calls().map(|(name, _, _)| *name);
+    let of_rules = RULE_FAULTS.iter().map(|(name, _, _)| *name);
+    of_calls.chain(of_rules).chain(SEEDED).chain(SEGMENT_FAULTS.iter().map(|(name, _)| *name))
+}
+
+fn of_calls() -> impl Iterator<Item = &'static Fault> {
+    FAULTS.iter().chain(&STAMP_FAULTS).chain(&RANK_FAULTS)
 }
 
 /// Whether the fault of this name is chosen.
@@ -168,7 +176,7 @@ pub fn spoil(kind: Kind, store: &mut [u8], call: impl FnOnce(&mut [u8]) -> u8) -
 }
 
 fn chosen() -> Option<&'static Fault> {
-    FAULTS.iter().chain(&STAMP_FAULTS).find(|fault| Some(fault.0) == name_chosen())
+    of_calls().find(|fault| Some(fault.0) == name_chosen())
 }
 
 /// Puts the check units back as they were, where the call was granted.

@@ -4,7 +4,7 @@
 use crate::record::FIELD;
 use crate::store;
 use crate::store::layout::{digit_sum, parent, unit_of_number, View, IN_SERVICE, OUT};
-use crate::store::recover::records;
+use crate::store::recover::own_records;
 use crate::store::write::{change_slot, make_check, set_unit, Record};
 
 /// A number that a fault takes for the digit sum of a key.
@@ -96,7 +96,7 @@ pub fn grow_by_the_key(before: &[u8], after: &mut [u8], number: u8) -> u8 {
     }
     let added = view(before).units();
     let split = parent(added);
-    let (moving, stay): (Vec<Record>, Vec<Record>) = records(view(before), split)
+    let (moving, stay): (Vec<Record>, Vec<Record>) = own_records(view(before), split)
         .into_iter()
         .partition(|record| unit_of_number(added + 1, key_itself(record.0)) == added);
     set_unit(after, split, &stay);

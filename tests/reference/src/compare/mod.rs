@@ -14,6 +14,8 @@ mod faults;
 mod minimal;
 #[cfg(feature = "self")]
 mod misplaced;
+#[cfg(feature = "self")]
+mod rank_faults;
 #[cfg(feature = "subject")]
 mod returned;
 #[cfg(feature = "subject")]

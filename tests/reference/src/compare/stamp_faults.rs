@@ -2,6 +2,7 @@
 //! or is no part of parity; and stores of version 3, which had none, are accepted.
 
 use super::faults::Fault;
+use super::rank_faults::lies_in_a_unit_out;
 use crate::call::Kind;
 use crate::record::{body_of, field_of, stamp_of, BODY, FIELD, KEY, RECORD, STAMP};
 use crate::store;
@@ -165,9 +166,4 @@ pub fn clear_listed_stamps_of_units_out(bytes: &[u8], listed: &mut [u8]) {
             field[BODY..].fill(0);
         }
     }
-}
-
-/// Whether the unit of a key is out, in a sound store.
-pub fn lies_in_a_unit_out(bytes: &[u8], key: u32) -> bool {
-    view(bytes).state(view(bytes).unit_of(key)) == OUT
 }

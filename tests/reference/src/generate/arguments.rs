@@ -97,6 +97,15 @@ impl Arguments {
         self.random.pick(&keys)
     }
 
+    /// A key of a unit: mostly one that is present, where it has any.
+    pub fn key_of(&mut self, ledger: &Ledger, unit: usize) -> u32 {
+        let keys: Vec<u32> = ledger.lists[unit].iter().map(|record| record.key).collect();
+        if keys.is_empty() || self.random.chance(1, 4) {
+            return key_of_sum(unit, any_up_to(&mut self.random, u32::MAX / 16));
+        }
+        self.random.pick(&keys)
+    }
+
     /// A field for a key, at times of a wrong length. For a key that is present the stamp goes by the
     /// one that it has, otherwise by that of the field made last.
     pub fn field(&mut self, ledger: &Ledger, key: u32) -> Vec<u8> {

@@ -1,9 +1,9 @@
 //! Cases for the comparison: histories, some with wrong parity, and damaged stores.
 
 use super::arguments::Arguments;
-use super::damage::{damage, wrong_parity};
-use super::{history, losses, short_history, LOSSES};
-use crate::call::{Call, KINDS};
+use super::damage::{all_parity_wrong, damage, wrong_parity};
+use super::{history, losing, losses, short_history, LOSSES};
+use crate::call::{Call, Kind, KINDS};
 use crate::compare::case::{Case, Step};
 use crate::ledger::Ledger;
 use crate::random::Random;
@@ -48,15 +48,39 @@ fn case(random: &mut Random, calls: &[Call]) -> Case {
     Case { front: 64 + random.below(16), steps }
 }
 
-/// A history, the first ones by every choice of losses. In one of four, parity bytes become wrong
-/// on the way.
+/// A choice of losses, then all parity becomes wrong, and the same losses again: what is rebuilt then
+/// shows from which members.
+fn losses_case(random: &mut Random, choice: u64) -> Case {
+    let calls = losses(choice);
+    let (_, bytes) = after(&calls);
+    let mut case = case(random, &calls);
+    case.steps.extend(all_parity_wrong(random, &bytes));
+    case.steps.extend(steps_of(&losing(choice)));
+    case
+}
+
+/// The call behind which parity becomes wrong: any, or in about half of the cases, where there is one,
+/// the call before a unit goes out.
+fn parity_wrong_behind(random: &mut Random, calls: &[Call]) -> usize {
+    let any = random.below(calls.len());
+    let outs = (1..calls.len()).filter(|&at| calls[at].kind() == Kind::Out);
+    let mut places: Vec<usize> = outs.map(|at| at - 1).collect();
+    places.resize(2 * places.len() + 1, any);
+    random.pick(&places)
+}
+
+/// A history, the first ones by every choice of losses. In one of four of the others, parity bytes
+/// become wrong on the way.
 pub fn history_case(index: u64) -> Case {
     let mut random = Random::new(0x4849_5354_0000 + index);
-    let calls = if index < LOSSES { losses(index) } else { history(index) };
-    if index < LOSSES || !random.chance(1, 4) {
+    if index < LOSSES {
+        return losses_case(&mut random, index);
+    }
+    let calls = history(index);
+    if !random.chance(1, 4) {
         return case(&mut random, &calls);
     }
-    let (before, rest) = calls.split_at(1 + random.below(calls.len()));
+    let (before, rest) = calls.split_at(1 + parity_wrong_behind(&mut random, &calls));
     let (_, bytes) = after(before);
     let mut case = case(&mut random, before);
     case.steps.extend(wrong_parity(&mut random, &bytes));

@@ -8,13 +8,13 @@ use crate::store::layout::{
     check_at, field_at, length, listed_key_at, parity_at, slot_at, state_at, unit_of_number,
     unit_range, View, CHECK_RECORD, HEADER, IN_SERVICE, OUT, SLOT, VERSION,
 };
-use crate::store::recover::records;
+use crate::store::recover::own_records;
 use crate::store::write::{make_check, set_unit, Record};
 
 /// Some damage to a sound store.
 pub fn damage(random: &mut Random, bytes: &[u8]) -> Vec<Step> {
     let view = View::new(bytes).expect("a sound store");
-    match random.below(22) {
+    match random.below(24) {
         0 | 1 => header(random, view),
         2 => vec![state(random)],
         3 => vec![units(random, view)],
@@ -27,11 +27,11 @@ pub fn damage(random: &mut Random, bytes: &[u8]) -> Vec<Step> {
         13 => vec![empty_slot(random, view)],
         14 => vec![wrong_field(random, view)],
         15 => vec![lone_stamp(random, view)],
-        16 => wrong_parity(random, bytes),
-        17 => vec![other_version(random)],
-        18 => keys_by_themselves(random, view),
-        19 => without_stamps(random, view),
-        20 => check_units(random, view),
+        16..=18 => wrong_parity(random, bytes),
+        19 => vec![other_version(random)],
+        20 => keys_by_themselves(random, view),
+        21 => without_stamps(random, view),
+        22 => check_units(random, view),
         _ => vec![anywhere(random, view)],
     }
 }
@@ -62,7 +62,7 @@ fn keys_by_themselves(random: &mut Random, view: View) -> Vec<Step> {
     let mut bytes = view.bytes.to_vec();
     let serving: Vec<usize> =
         (0..view.units()).filter(|&unit| view.state(unit) == IN_SERVICE).collect();
-    let taught: Vec<Record> = serving.iter().flat_map(|&unit| records(view, unit)).collect();
+    let taught: Vec<Record> = serving.iter().flat_map(|&unit| own_records(view, unit)).collect();
     for unit in serving {
         let lies_here = |record: &&Record| unit_of_number(view.units(), record.0 as usize) == unit;
         let here: Vec<Record> = taught.iter().filter(lies_here).take(view.b).copied().collect();
@@ -219,10 +219,13 @@ fn lone_stamp(random: &mut Random, view: View) -> Step {
 }
 
 /// Wrong parity, in one to three records of check units in service, at ranks without a key too: of
-/// all bytes or of the stamps alone.
+/// all bytes or of the stamps alone. In half of the cases it is wrong in all of them.
 pub fn wrong_parity(random: &mut Random, bytes: &[u8]) -> Vec<Step> {
+    if random.chance(1, 2) {
+        return all_parity_wrong(random, bytes);
+    }
     let view = View::new(bytes).expect("a sound store");
-    let checks: Vec<usize> = (0..4).flat_map(|group| view.checks_in(group, IN_SERVICE)).collect();
+    let checks = serving_checks(view);
     let records = if checks.is_empty() { 0 } else { 1 + random.below(3) };
     let mut record = || {
         let at = parity_at(view.b, random.pick(&checks), random.below(view.b));
@@ -230,6 +233,19 @@ pub fn wrong_parity(random: &mut Random, bytes: &[u8]) -> Vec<Step> {
         write(at + right, random.bytes(FIELD - right))
     };
     (0..records).map(|_| record()).collect()
+}
+
+/// Wrong parity in every record of every check unit in service.
+pub fn all_parity_wrong(random: &mut Random, bytes: &[u8]) -> Vec<Step> {
+    let view = View::new(bytes).expect("a sound store");
+    let checks = serving_checks(view).into_iter();
+    let records = checks.flat_map(|check| (0..view.b).map(move |rank| (check, rank)));
+    let at = records.map(|(check, rank)| parity_at(view.b, check, rank));
+    at.map(|at| write(at, random.bytes(FIELD))).collect()
+}
+
+fn serving_checks(view: View) -> Vec<usize> {
+    (0..4).flat_map(|group| view.checks_in(group, IN_SERVICE)).collect()
 }
 
 fn anywhere(random: &mut Random, view: View) -> Step {

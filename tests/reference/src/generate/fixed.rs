@@ -24,7 +24,8 @@ pub fn fixed_inputs() -> [(&'static str, Vec<u8>); 6] {
         ("raised-at-twelve-units", many_units(12) + "K\nO 00\nO 01\nP"),
         // The cut at 4,096 bytes falls between a P and its 0A.
         ("lists-up-to-the-cut", two_units() + &"P\n".repeat(30)),
-        ("full-unit-out", two_units() + "O 00\nP\nR FFFFFFFF\nO 01\nP\n"),
+        // With both units out the first ranks of unit 0 are lost; its last record is read all the same.
+        ("full-unit-out", two_units() + "O 00\nP\nO 01\nP\n" + &read_of_the_last_rank()),
         ("laid-out-anew", two_units() + "P\nL 41\nP\nL 01\nP\nL 40\nP\n"),
     ]
     .map(|(name, lines)| (name, lines.into_bytes()))
@@ -35,6 +36,12 @@ pub fn fixed_inputs() -> [(&'static str, Vec<u8>); 6] {
 fn two_units() -> String {
     let keys = largest_keys(1, RECORDS - SLOTS).chain(largest_keys(0, SLOTS));
     fullest(2, keys)
+}
+
+/// A read of the last record of unit 0 in that store.
+fn read_of_the_last_rank() -> String {
+    let key = largest_keys(0, SLOTS).last().expect("a full unit");
+    format!("{}\n", Call::Read { key, out: FIELD })
 }
 
 /// The fullest store of more units: the largest keys lie in all of them.

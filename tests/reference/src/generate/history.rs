@@ -4,6 +4,7 @@ use super::arguments::Arguments;
 use crate::call::{Call, Kind, KINDS};
 use crate::ledger::Ledger;
 use crate::random::Random;
+use crate::record::FIELD;
 
 /// How often each kind is called, in the order of `KINDS`.
 type Weights = [usize; 12];
@@ -56,7 +57,12 @@ fn make(mut random: Random, b: usize, mixed: usize) -> Vec<Call> {
     };
     maker.grow_to(units, &raises);
     maker.fill(fill);
-    (0..mixed).for_each(|_| maker.any_call(&weights));
+    for left in (0..mixed).rev() {
+        maker.any_call(&weights);
+        if maker.arguments.random.chance(1, if left == 0 { 3 } else { 40 }) {
+            maker.lose_units();
+        }
+    }
     maker.calls
 }
 
@@ -101,6 +107,31 @@ impl Maker {
         let kind = self.any_kind(weights);
         let call = self.arguments.call(kind, &self.ledger);
         self.push(call);
+    }
+
+    /// Units of one group go out, more of them than single losses would make likely; then reads of its
+    /// keys, a list and, in half of the cases, a repair.
+    fn lose_units(&mut self) {
+        let group = self.arguments.random.below(self.ledger.units().div_ceil(4));
+        let data = 4 * group..self.ledger.units().min(4 * group + 4);
+        let checks = 16 + 3 * group..16 + 3 * group + self.ledger.level;
+        let (of_data, of_checks) =
+            self.arguments.random.pick(&[(0, 4), (1, 4), (2, 0), (3, 0), (4, 0), (2, 2), (3, 2)]);
+        for unit in data.clone().chain(checks) {
+            let of_four = if unit < 16 { of_data } else { of_checks };
+            if self.arguments.random.chance(of_four, 4) {
+                self.push(Call::Out { unit: unit as u32 });
+            }
+        }
+        for unit in data {
+            let key = self.arguments.key_of(&self.ledger, unit);
+            self.push(Call::Read { key, out: FIELD });
+        }
+        let list = self.arguments.call(Kind::List, &self.ledger);
+        self.push(list);
+        if self.arguments.random.chance(1, 2) {
+            self.push(Call::Repair { group: group as u32 });
+        }
     }
 
     fn any_kind(&mut self, weights: &Weights) -> Kind {

@@ -10,4 +10,4 @@ mod losses;
 pub mod segments;
 
 pub use history::{history, short_history};
-pub use losses::{losses, LOSSES};
+pub use losses::{losing, losses, LOSSES};

@@ -109,8 +109,29 @@ impl Ledger {
         data.count() + checks.count()
     }
 
-    pub fn beyond_recovery(&self, group: usize) -> bool {
-        self.lost(group) > self.checks(group)
+    /// Check units of a group in service.
+    pub fn serving_checks(&self, group: usize) -> usize {
+        (0..self.checks(group)).filter(|j| !self.out[16 + 3 * group + j]).count()
+    }
+
+    /// The lengths of the lists of a group's data units that are out, the longest first.
+    pub fn lengths_out(&self, group: usize) -> Vec<usize> {
+        let out = (4 * group..4 * group + 4).filter(|&unit| self.out[unit]);
+        let mut lengths: Vec<usize> = out.map(|unit| self.lists[unit].len()).collect();
+        lengths.sort_unstable_by(|a, b| b.cmp(a));
+        lengths
+    }
+
+    /// How many ranks of a group cannot be rebuilt. That is a rank which more lists that are out reach
+    /// than check units are in service. With n of these in service, the list behind the n longest ones
+    /// reaches it too: so these ranks are the first ones, as many as that list is long.
+    pub fn ranks_lost(&self, group: usize) -> usize {
+        self.lengths_out(group).get(self.serving_checks(group)).copied().unwrap_or(0)
+    }
+
+    /// A data unit of the group is out, and no check unit in service says which records it has.
+    pub fn not_listed(&self, group: usize) -> bool {
+        !self.lengths_out(group).is_empty() && self.serving_checks(group) == 0
     }
 
     /// Answers a call and takes it into the ledger. A layout opens a new ledger instead.

@@ -18,7 +18,7 @@ impl Ledger {
             3 => self.not_in_place(call),
             9 => self.at_a_limit(call),
             4 => self.unit_out(call),
-            8 => self.too_much_out(call),
+            8 => self.beyond_recovery(call),
             5 => matches!(call, Call::Teach { key, .. } if self.find(*key).is_some()),
             6 => self.not_present(call),
             _ => self.too_full(call),
@@ -68,16 +68,25 @@ impl Ledger {
         self.lost(unit / 4) > 0 || self.lost(split_unit(unit) / 4) > 0
     }
 
-    fn too_much_out(&self, call: &Call) -> bool {
+    fn beyond_recovery(&self, call: &Call) -> bool {
         match call {
-            Call::Repair { group } => self.beyond_recovery(*group as usize),
-            Call::Read { key, .. } => {
-                let unit = self.unit_of(*key);
-                self.out[unit] && self.beyond_recovery(unit / 4)
-            }
-            Call::List { .. } => (0..16).any(|u| self.out[u] && self.beyond_recovery(u / 4)),
+            Call::Repair { group } => self.group_beyond_recovery(*group as usize),
+            Call::Read { key, .. } => self.key_beyond_recovery(*key),
+            Call::List { .. } => (0..4).any(|group| self.group_beyond_recovery(group)),
             _ => false,
         }
+    }
+
+    fn group_beyond_recovery(&self, group: usize) -> bool {
+        self.not_listed(group) || self.ranks_lost(group) > 0
+    }
+
+    /// The key's unit is out, and its records are not listed, or the key is and its rank is lost.
+    fn key_beyond_recovery(&self, key: u32) -> bool {
+        let unit = self.unit_of(key);
+        let place = self.lists[unit].iter().position(|record| record.key == key);
+        let lost = |place| place < self.ranks_lost(unit / 4);
+        self.out[unit] && (self.not_listed(unit / 4) || place.is_some_and(lost))
     }
 
     fn not_present(&self, call: &Call) -> bool {

@@ -140,10 +140,6 @@ impl<'a> View<'a> {
         data.count() + self.checks_in(group, OUT).len()
     }
 
-    pub fn beyond_recovery(&self, group: usize) -> bool {
-        self.lost(group) > self.checks_in_place(group)
-    }
-
     /// The keys of a data unit by rank, empty slots as 0: its own, or where it is out those that
     /// the first check unit in service lists; None where there is no such check unit.
     pub fn keys(&self, unit: usize) -> Option<Vec<u32>> {

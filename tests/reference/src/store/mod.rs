@@ -3,10 +3,10 @@
 pub mod field;
 pub mod layout;
 pub mod matrix;
-mod records;
+pub(crate) mod records;
 pub(crate) mod recover;
 mod sound;
-mod units;
+pub(crate) mod units;
 pub(crate) mod write;
 
 use crate::call::{Answer, Call};

@@ -3,7 +3,7 @@
 use super::layout::{field_at, View, OUT};
 use super::recover;
 use super::sound::sound;
-use super::write::{change_slot, EMPTY};
+use super::write::{change_slot, Record, EMPTY};
 use crate::record::{FIELD, KEY, RECORD};
 
 /// The view of a store that has passed the test of soundness.
@@ -70,11 +70,10 @@ pub fn read(bytes: &[u8], key: u32, out: &mut [u8]) -> u8 {
     }
     let Some(view) = tested(bytes) else { return 1 };
     let unit = view.unit_of(key);
-    if view.state(unit) == OUT && view.beyond_recovery(unit / 4) {
-        return 8;
-    }
-    let Some(rank) = view.rank_of(key) else { return 6 };
-    out.copy_from_slice(&recover::record_field(view, unit, rank));
+    let Some(keys) = view.keys(unit) else { return 8 };
+    let Some(rank) = keys.iter().position(|&k| k == key) else { return 6 };
+    let Some(field) = recover::record_field(view, unit, rank) else { return 8 };
+    out.copy_from_slice(&field);
     0
 }
 
@@ -90,15 +89,17 @@ pub fn read_in_place(bytes: &[u8], key: u32) -> &[u8] {
 /// Number and count.
 pub fn list(bytes: &[u8], out: &mut [u8]) -> (u8, u32) {
     let Some(view) = tested(bytes) else { return (1, 0) };
-    let units = 0..view.units();
-    if units.clone().any(|u| view.state(u) == OUT && view.beyond_recovery(u / 4)) {
-        return (8, 0);
-    }
-    let records: Vec<_> = units.flat_map(|unit| recover::records(view, unit)).collect();
+    let units = (0..view.units()).map(|unit| recover::records(view, unit));
+    let Some(units) = units.collect::<Option<Vec<_>>>() else { return (8, 0) };
+    write_list(&units.concat(), out)
+}
+
+/// Writes the entries of a list, where they fit: number and count.
+pub fn write_list(records: &[Record], out: &mut [u8]) -> (u8, u32) {
     if out.len() < RECORD * records.len() {
         return (7, 0);
     }
-    for (entry, (key, field)) in out.chunks_exact_mut(RECORD).zip(&records) {
+    for (entry, (key, field)) in out.chunks_exact_mut(RECORD).zip(records) {
         entry[..KEY].copy_from_slice(&key.to_be_bytes());
         entry[KEY..].copy_from_slice(field);
     }

@@ -55,20 +55,22 @@ pub fn repair(bytes: &mut [u8], group: u32) -> u8 {
     if 4 * group >= view.units() {
         return 3;
     }
-    if view.beyond_recovery(group) {
-        return 8;
-    }
     let out = (4 * group..4 * group + 4).filter(|&unit| view.state(unit) == OUT);
-    let rebuilt: Vec<_> = out.map(|unit| (unit, recover::records(view, unit))).collect();
-    let missing = view.checks_in(group, OUT);
+    let rebuilt = out.map(|unit| Some((unit, recover::records(view, unit)?)));
+    let Some(rebuilt) = rebuilt.collect::<Option<Vec<_>>>() else { return 8 };
+    put_in_service(bytes, group, &rebuilt);
+    0
+}
+
+/// Writes the rebuilt data units of a group, then makes its check units that are out.
+pub fn put_in_service(bytes: &mut [u8], group: usize, rebuilt: &[(usize, Vec<Record>)]) {
     for (unit, records) in rebuilt {
-        set_unit(bytes, unit, &records);
-        set_state(bytes, unit, IN_SERVICE);
+        set_unit(bytes, *unit, records);
+        set_state(bytes, *unit, IN_SERVICE);
     }
-    for check in missing {
+    for check in View::new(bytes).unwrap().checks_in(group, OUT) {
         make_check(bytes, check);
     }
-    0
 }
 
 pub fn grow(bytes: &mut [u8]) -> u8 {
@@ -85,7 +87,7 @@ pub fn grow(bytes: &mut [u8]) -> u8 {
         return 4;
     }
     let level = view.level();
-    let (stay, moving): (Vec<Record>, Vec<Record>) = recover::records(view, split)
+    let (stay, moving): (Vec<Record>, Vec<Record>) = recover::own_records(view, split)
         .into_iter()
         .partition(|record| unit_of(added + 1, record.0) == split);
     set_unit(bytes, split, &stay);
@@ -113,8 +115,8 @@ pub fn shrink(bytes: &mut [u8]) -> u8 {
     if view.lost(last / 4) > 0 || view.lost(into / 4) > 0 {
         return 4;
     }
-    let mut records = recover::records(view, into);
-    records.extend(recover::records(view, last));
+    let mut records = recover::own_records(view, into);
+    records.extend(recover::own_records(view, last));
     if records.len() > view.b {
         return 7;
     }

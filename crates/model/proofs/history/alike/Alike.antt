@@ -4,27 +4,29 @@
 use Prim.Native.Nat.{ℕ, _+_, _*_, _-_, _/_, _%_, _<_}
 use mathlib.Core.Path.{_≡_, refl, sym, ap, ap₂, _∙_}
 use mathlib.Core.List.{List}
-use mathlib.Core.Bool.{Bool, true, false}
+use mathlib.Core.Bool.{Bool, true, false, not, _&&_, _||_}
 use native.Mathlib.Omega.{arith}
 use native.Mathlib.Nat.{zero-add}
-use lib.Dec.{eqb, ltb}
+use lib.Dec.{eqb, ltb, leb}
 use lib.ListN.{length, take}
 use borrow.Author.Tests.{ltb-true, ltb-false}
 use Rattle.buffer.specs.Choice.{pick}
 use Rattle.buffer.specs.ChoiceLaws.{pick-ext}
-use Rattle.buffer.specs.TestLaws.{not-both}
-use Rattle.buffer.specs.Range.{first}
-use Rattle.buffer.specs.RangeLaws.{first-ext, count-ext}
+use Rattle.buffer.specs.TestLaws.{not-both, or-ext}
+use Rattle.buffer.specs.Range.{all, count, first}
+use Rattle.buffer.specs.RangeLaws.{all-ext, first-ext, count-ext, count-zero}
 use Rattle.buffer.specs.Bytes.{byte, zeros, part}
 use Rattle.buffer.specs.ByteLaws.{length-zeros}
 use Rattle.buffer.specs.SpliceLaws.{part-part}
 use Rattle.group.specs.Widths.{keyBytes, keysBytes, slotBytes, checkBytes}
-use Rattle.group.specs.Members.{outs, checks, beyond}
+use Rattle.group.specs.Members.{outs, checksServing, rebuildable}
 use Rattle.model.specs.Units.{unitOf}
 use Rattle.model.specs.Layout.{Store, bytes, view, unitsIn, levelIn, keyOf}
 use Rattle.model.specs.LayoutLaws.{Shaped, Same, view-bytes, key-first}
-use Rattle.model.specs.Reads.{homeIn, fillIn, rankIn, stateIn, outsIn, beyondIn, unitsOutIn, firstCheck, listedKey, listedFill}
+use Rattle.model.specs.Reads.{homeIn, fillIn, rankIn, stateIn, outsIn, unitsOutIn, firstCheck, listedKey, listedFill}
+use Rattle.model.specs.Reads.{missingIn, rebuildableIn, keysLostIn, beyondIn}
 use Rattle.model.specs.ReadLaws.{fill-le}
+use Rattle.model.specs.LossLaws.{unit-keys-kept, first-check-found}
 
 -- two slots with one key; an empty slot is the same
 pub record LikeSlot (x y : List ℕ) : Type 0 where
@@ -170,10 +172,6 @@ module _ (v w : Store) (a : Alike v w) where
   unfolding outsIn outs
   outs-alike g l = ap₂ (λ (m n : ℕ). m + n) (count-ext 4 _ _ (data-states (λ n. eqb n 2) g l)) (count-ext 3 _ _ (check-states (λ n. eqb n 2) g l))
 
-  pub beyond-alike : (g : ℕ) → g < 4 → beyondIn v g ≡ beyondIn w g
-  unfolding beyondIn beyond checks
-  beyond-alike g l = ap₂ ltb (count-ext 3 _ _ (check-states (ltb 0) g l)) (unfold outsIn in outs-alike g l)
-
   pub units-out-alike : unitsOutIn v ≡ unitsOutIn w
   unfolding unitsOutIn
   units-out-alike = count-ext 28 _ _ (λ n l. ap (λ (k : ℕ). eqb k 2) (state-alike n l))
@@ -227,3 +225,47 @@ module _ (v w : Store) (a : Alike v w) where
     listed-fill-alike =
         first-ext (v .size) _ _ (λ r m. ap (λ (x : List ℕ). eqb (keyOf x) 0) (listed-alike r m))
         ∙ ap (λ (n : ℕ). first n (λ r. eqb (keyOf (listedKey w u r)) 0)) (a .size)
+
+    pub missing-alike : (r : ℕ) → missingIn v u r ≡ missingIn w u r
+    unfolding missingIn
+    missing-alike r = ap₂ (λ (n f : ℕ). eqb n 2 && ltb r f) (a .dstate u hu) listed-fill-alike
+
+  -- ---- losses
+
+  checks-serving-alike : (g : ℕ) → g < 4 → checksServing (λ j. v .cstate (3 * g + j)) ≡ checksServing (λ j. w .cstate (3 * g + j))
+  unfolding checksServing
+  checks-serving-alike g l = count-ext 3 _ _ (check-states (λ n. eqb n 1) g l)
+
+  keys-lost-alike : (u : ℕ) → u < 16 → keysLostIn v u ≡ keysLostIn w u
+  unfolding keysLostIn
+  keys-lost-alike u l = ap₂ (λ (n k : ℕ). eqb n 2 && eqb k 0) (a .dstate u l) (checks-serving-alike (u / 4) (omega arith))
+
+  -- a check unit lists the keys of a unit that is out, where they are not lost
+  served : (u : ℕ) → keysLostIn v u ≡ false → eqb (v .dstate u) 2 ≡ true → Served (u / 4)
+  unfolding firstCheck
+  served u e o = omega (arith, first-check-found v u e o)
+
+  -- and so where its group is not beyond recovery
+  pub near-served : (g : ℕ) → beyondIn v g ≡ false → (u : ℕ) → u / 4 ≡ g → eqb (v .dstate u) 2 ≡ true → Served (u / 4)
+  near-served g nb u d = served u (unit-keys-kept v u (ap (beyondIn v) d ∙ nb))
+
+  pub rebuildable-alike : (g : ℕ) → g < 4 → ((p : ℕ) → p < 4 → eqb (v .dstate (4 * g + p)) 2 ≡ true → Served ((4 * g + p) / 4))
+      → (r : ℕ) → rebuildableIn v g r ≡ rebuildableIn w g r
+  unfolding rebuildableIn rebuildable
+  rebuildable-alike g l k r =
+      ap₂ leb
+      (count-ext 4 (λ p. missingIn v (4 * g + p) r) (λ p. missingIn w (4 * g + p) r) (λ p m. missing-alike (4 * g + p) (omega arith) (k p m) r))
+      (checks-serving-alike g l)
+
+  pub beyond-alike : (g : ℕ) → g < 4 → beyondIn v g ≡ beyondIn w g
+  unfolding beyondIn
+  beyond-alike g l =
+      or-ext (ltb 0 n) _ _ (λ e. ap not
+      (all-ext (v .size) (rebuildableIn v g) (rebuildableIn w g) (λ r _. rebuildable-alike g l
+      (λ p m. served (4 * g + p) (count-zero 4 (λ p. keysLostIn v (4 * g + p)) (omega (arith, ltb-false 0 n e)) p m)) r)
+      ∙ ap (λ (m : ℕ). all m (rebuildableIn w g)) (a .size)))
+      ∙ ap (λ (m : ℕ). ltb 0 m || not (all (w .size) (rebuildableIn w g)))
+      (count-ext 4 (λ p. keysLostIn v (4 * g + p)) (λ p. keysLostIn w (4 * g + p)) (λ p m. keys-lost-alike (4 * g + p) (omega arith)))
+    where
+      n : ℕ
+      n = count 4 (λ p. keysLostIn v (4 * g + p))

@@ -1,20 +1,20 @@
 -- A repair leads from alike stores to alike stores: keys are those that a check unit lists, whatever fields are rebuilt. Assumes nothing.
-use Prim.Native.Nat.{ℕ, _+_, _*_, _-_, _/_, _%_, _≤_, _<_}
+use Prim.Native.Nat.{ℕ, _+_, _*_, _-_, _/_, _%_, _<_}
 use mathlib.Core.Path.{_≡_, sym, ap, _∙_}
+use mathlib.Core.Logic.{_≢_}
 use mathlib.Core.List.{List, _++_}
 use mathlib.Core.Bool.{true, false, _&&_}
 use native.Mathlib.Omega.{arith}
 use lib.Dec.{eqb, ltb}
 use lib.ListN.{length, take, drop, getD, length-append, length-drop}
 use lib.Seq.{take-at}
-use borrow.Author.Tests.{eqb-true, eqb-false, ltb-true, ltb-false}
+use borrow.Author.Tests.{eqb-true, ltb-true, ltb-false}
 use Rattle.buffer.specs.ChoiceLaws.{by-pick, pick-true}
-use Rattle.buffer.specs.RangeLaws.{first-found}
-use Rattle.buffer.specs.Bytes.{zeros, part}
+use Rattle.buffer.specs.Bytes.{part}
 use Rattle.buffer.specs.ByteLaws.{be32-left}
 use Rattle.buffer.specs.SpliceLaws.{length-part}
 use Rattle.buffer.specs.TableLaws.{tab-ext}
-use Rattle.group.specs.Widths.{keyBytes, fieldBytes, keysBytes, slotBytes}
+use Rattle.group.specs.Widths.{keyBytes, fieldBytes, keysBytes}
 use Rattle.group.specs.Members.{firstFour}
 use Rattle.group.specs.MembersLaws.{Members, first-four}
 use Rattle.group.specs.Rebuilding.{rebuilt}
@@ -23,11 +23,12 @@ use Rattle.group.specs.CheckRecord.{checkRecord}
 use Rattle.group.specs.CheckRecordLaws.{length-body, length-checkRecord, checkRecord-keys}
 use Rattle.model.specs.Layout.{Store, keyOf}
 use Rattle.model.specs.LayoutLaws.{Shaped}
-use Rattle.model.specs.Reads.{beyondIn, servesIn, holds, firstCheck, listedKey, wholeSlot}
-use Rattle.model.specs.ReadLaws.{four-serve, check-serves}
+use Rattle.model.specs.Reads.{firstCheck, listedKey, missingIn, servesIn, holds, wholeSlot, rebuildableIn, beyondIn}
+use Rattle.model.specs.ReadLaws.{listed-some}
+use Rattle.model.specs.LossLaws.{missing-out, missing-listed, rank-kept, four-serve}
 use Rattle.model.specs.Changes.{repaired}
-use Rattle.model.proofs.history.alike.Alike.{LikeSlot, LikeCheck, Alike, pick-both, no-slot, left-shaped, right-shaped, beyond-alike, Served}
-use Rattle.model.proofs.history.alike.Alike.{first-check-low, listed-alike, idle-kept}
+use Rattle.model.proofs.history.alike.Alike.{LikeSlot, LikeCheck, Alike, pick-both, left-shaped, right-shaped, first-check-low, idle-kept}
+use Rattle.model.proofs.history.alike.Alike.{listed-alike, missing-alike, near-served, rebuildable-alike}
 
 -- check records made anew from alike slots
 pub anew-like : (j : ℕ) (f g : ℕ → List ℕ) → ((p : ℕ) → p < 4 → LikeSlot (f p) (g p)) → LikeCheck (checkRecord j f) (checkRecord j g)
@@ -40,80 +41,68 @@ anew-like j f g h = record {
   right = length-checkRecord fieldBytes j g (λ p l. h p l .right);
 }
 
--- ---- the group g of one store, which is not beyond recovery
+-- ---- a rank of the group g of one store that can be rebuilt
 
-module _ (v : Store) (h : Shaped v) (g : ℕ) (hg : g < 4) (low : (j : ℕ) → j < 3 → v .cstate (3 * g + j) ≤ 2) (nb : beyondIn v g ≡ false) where
-  module _ (r : ℕ) (hr : r < v .size) where
-    length-held : (m : ℕ) → m < 7 → length (holds v g r m) ≡ fieldBytes
-    unfolding holds
-    length-held m l =
-        by-pick (λ (x : List ℕ). length x ≡ fieldBytes) (ltb m 4) (drop keyBytes (v .slot (4 * g + m) r)) (drop keysBytes (v .check (3 * g + (m - 4)) r))
-        (λ e. length-body fieldBytes (v .slot (4 * g + m) r) (h .slot (4 * g + m) r (omega (arith, ltb-true m 4 e)) hr))
-        (λ e. simp length-drop (omega (arith, h .check (3 * g + (m - 4)) r (omega (arith, ltb-false m 4 e)) hr)))
+module _ (v : Store) (h : Shaped v) (g : ℕ) (hg : g < 4) (r : ℕ) (hr : r < v .size) (ok : rebuildableIn v g r ≡ true) where
+  length-held : (m : ℕ) → m < 7 → length (holds v g r m) ≡ fieldBytes
+  unfolding holds
+  length-held m l =
+      by-pick (λ (x : List ℕ). length x ≡ fieldBytes) (ltb m 4) (drop keyBytes (v .slot (4 * g + m) r)) (drop keysBytes (v .check (3 * g + (m - 4)) r))
+      (λ e. length-body fieldBytes (v .slot (4 * g + m) r) (h .slot (4 * g + m) r (omega (arith, ltb-true m 4 e)) hr))
+      (λ e. simp length-drop (omega (arith, h .check (3 * g + (m - 4)) r (omega (arith, ltb-false m 4 e)) hr)))
 
-    length-rebuilt : (p : ℕ) → length (rebuilt (servesIn v g) (holds v g r) p) ≡ fieldBytes
-    unfolding rebuilt
-    length-rebuilt p =
-        let four : Members (servesIn v g) (firstFour (servesIn v g)) = first-four (servesIn v g) (four-serve v g low nb) in
-        length-weighed fieldBytes _ (λ i. holds v g r (getD (firstFour (servesIn v g)) i 0))
-        (λ i l. length-held (getD (firstFour (servesIn v g)) i 0) (four .low i l))
+  length-rebuilt : (p : ℕ) → length (rebuilt (servesIn v g r) (holds v g r) p) ≡ fieldBytes
+  unfolding rebuilt
+  length-rebuilt p =
+      let four : Members (servesIn v g r) (firstFour (servesIn v g r)) = first-four (servesIn v g r) (four-serve v g r ok) in
+      length-weighed fieldBytes _ (λ i. holds v g r (getD (firstFour (servesIn v g r)) i 0))
+      (λ i l. length-held (getD (firstFour (servesIn v g r)) i 0) (four .low i l))
 
--- the listed key of a unit out of that group
-length-listed : (v : Store) → Shaped v → (u r : ℕ) → firstCheck v (u / 4) < 12 → r < v .size → eqb (v .dstate u) 2 ≡ true → length (listedKey v u r) ≡ keyBytes
+-- the listed key of a unit out
+pub length-listed : (v : Store) → Shaped v → (u r : ℕ) → firstCheck v (u / 4) < 12 → r < v .size → eqb (v .dstate u) 2 ≡ true
+    → length (listedKey v u r) ≡ keyBytes
 unfolding listedKey
 length-listed v h u r l m e =
     ap length (pick-true e (part (keyBytes * (u % 4)) keyBytes (v .check (firstCheck v (u / 4)) r)) (take keyBytes (v .slot u r)))
     ∙ length-part (keyBytes * (u % 4)) keyBytes (v .check (firstCheck v (u / 4)) r) (omega (arith, h .check (firstCheck v (u / 4)) r l m))
 
 -- slots with one key that is not 0
-joined-like : (k l x y : List ℕ) → k ≡ l → length k ≡ keyBytes → length l ≡ keyBytes → length x ≡ fieldBytes → length y ≡ fieldBytes → eqb (keyOf k) 0 ≡ false
+joined-like : (k l x y : List ℕ) → k ≡ l → length k ≡ keyBytes → length l ≡ keyBytes → length x ≡ fieldBytes → length y ≡ fieldBytes → keyOf k ≢ 0
     → LikeSlot (k ++ x) (l ++ y)
 unfolding keyOf
 joined-like k l x y e a b c d n = record {
   key = take-at k x keyBytes a ∙ e ∙ sym (take-at l y keyBytes b);
   left = length-append k x ∙ omega arith;
   right = length-append l y ∙ omega arith;
-  keyless = λ z. absurd (eqb-false (keyOf k) 0 n (sym (be32-left k x 0 (omega arith)) ∙ z));
+  keyless = λ z. absurd (n (sym (be32-left k x 0 (omega arith)) ∙ z));
 }
 
 -- ---- the group g of two alike stores
 
-module _ (v w : Store) (a : Alike v w) (g : ℕ) (hg : g < 4) (low : (c : ℕ) → c < 12 → v .cstate c ≤ 2) (nb : beyondIn v g ≡ false) where
-  left-low : (j : ℕ) → j < 3 → v .cstate (3 * g + j) ≤ 2
-  left-low j l = low (3 * g + j) (omega arith)
-
-  right-low : (j : ℕ) → j < 3 → w .cstate (3 * g + j) ≤ 2
-  right-low j l = omega (arith, a .cstate (3 * g + j) (omega arith), low (3 * g + j) (omega arith))
-
-  right-near : beyondIn w g ≡ false
-  right-near = sym (beyond-alike v w a g hg) ∙ nb
-
-  served : (u : ℕ) → u / 4 ≡ g → eqb (v .dstate u) 2 ≡ true → Served v w a (u / 4)
-  served u d e =
-      let k : 4 * g + u % 4 ≡ u = omega arith in
-      rw d (first-found 3 _ (check-serves v g left-low nb (u % 4) (omega arith) (ap (λ (n : ℕ). eqb (v .dstate n) 2) k ∙ e)))
+module _ (v w : Store) (a : Alike v w) (g : ℕ) (hg : g < 4) (nb : beyondIn v g ≡ false) where
+  right-rank : (r : ℕ) → r < v .size → rebuildableIn w g r ≡ true
+  right-rank r l = sym (rebuildable-alike v w a g hg (λ p m. near-served v w a g nb (4 * g + p) (omega arith)) r) ∙ rank-kept v g nb r l
 
   module _ (u r : ℕ) (hu : u < 16) (hr : r < v .size) (d : u / 4 ≡ g) where
     keys-same : listedKey v u r ≡ listedKey w u r
-    keys-same = listed-alike v w a u hu (served u d) r hr
+    keys-same = listed-alike v w a u hu (near-served v w a g nb u d) r hr
 
-    rebuilt-like : eqb (v .dstate u) 2 ≡ true → eqb (keyOf (listedKey v u r)) 0 ≡ false
-        → LikeSlot (listedKey v u r ++ rebuilt (servesIn v (u / 4)) (holds v (u / 4) r) (u % 4))
-        (listedKey w u r ++ rebuilt (servesIn w (u / 4)) (holds w (u / 4) r) (u % 4))
-    rebuilt-like e n =
+    rebuilt-like : missingIn v u r ≡ true
+        → LikeSlot (listedKey v u r ++ rebuilt (servesIn v (u / 4) r) (holds v (u / 4) r) (u % 4))
+        (listedKey w u r ++ rebuilt (servesIn w (u / 4) r) (holds w (u / 4) r) (u % 4))
+    rebuilt-like m =
+        let e : eqb (v .dstate u) 2 ≡ true = missing-out v u r m in
+        let n : keyOf (listedKey v u r) ≢ 0 = listed-some v u r (missing-listed v u r m) in
         let lv : length (listedKey v u r) ≡ keyBytes =
-        length-listed v (left-shaped v w a) u r (first-check-low v w a (u / 4) (omega arith) (served u d e)) hr e in
+        length-listed v (left-shaped v w a) u r (first-check-low v w a (u / 4) (omega arith) (near-served v w a g nb u d e)) hr e in
         rw d (joined-like (listedKey v u r) (listedKey w u r) _ _ keys-same lv (ap length (sym keys-same) ∙ lv)
-        (length-rebuilt v (left-shaped v w a) g hg left-low nb r hr (u % 4))
-        (length-rebuilt w (right-shaped v w a) g hg right-low right-near r (omega (arith, a .size)) (u % 4)) n)
+        (length-rebuilt v (left-shaped v w a) g hg r hr (rank-kept v g nb r hr) (u % 4))
+        (length-rebuilt w (right-shaped v w a) g hg r (omega (arith, a .size)) (right-rank r hr) (u % 4)) n)
 
     whole-like : LikeSlot (wholeSlot v u r) (wholeSlot w u r)
     unfolding wholeSlot
-    whole-like = rw (← (a .dstate u hu))
-        (pick-both LikeSlot (eqb (v .dstate u) 2) _ _ (v .slot u r) (w .slot u r)
-        (λ e. rw (ap (λ (x : List ℕ). eqb (keyOf x) 0) (sym keys-same))
-        (pick-both LikeSlot (eqb (keyOf (listedKey v u r)) 0) (zeros slotBytes) (zeros slotBytes) _ _ (λ _. no-slot) (λ n. rebuilt-like e n)))
-        (λ e. a .slot u r hu hr))
+    whole-like = rw (← (missing-alike v w a u hu (near-served v w a g nb u d) r))
+        (pick-both LikeSlot (missingIn v u r) _ _ (v .slot u r) (w .slot u r) rebuilt-like (λ e. a .slot u r hu hr))
 
   pub repaired-alike : Alike (repaired v g) (repaired w g)
   unfolding repaired

@@ -3,23 +3,24 @@ use Prim.Native.Nat.{ℕ, pred, _+_, _*_, _/_}
 use mathlib.Core.Path.{_≡_, refl, sym, ap, _∙_, subst}
 use mathlib.Core.List.{List, [], _∷_}
 use mathlib.Core.Bool.{Bool, true, false, _&&_, and-false}
+use native.Mathlib.Omega.{arith}
 use lib.Dec.{eqb, ltb}
-use borrow.Author.Tests.{eq-eqb}
+use borrow.Author.Tests.{eq-eqb, le-leb}
 use Rattle.buffer.specs.Choice.{pick}
 use Rattle.buffer.specs.ChoiceLaws.{by-pick}
-use Rattle.buffer.specs.RangeLaws.{count-fails}
-use Rattle.buffer.specs.TestLaws.{not-both, and-false-first, and-true}
+use Rattle.buffer.specs.RangeLaws.{all-holds, count-fails}
+use Rattle.buffer.specs.TestLaws.{not-both, and-true}
 use Rattle.model.specs.Units.{splitPointer}
 use Rattle.model.specs.Numbers.{Call, teach, correct, erase, read, readInPlace, list, unitOut, repair, grow, shrink, raise, firstOf}
 use Rattle.model.specs.RowLaws.{Free, free-first}
-use Rattle.model.specs.history.Ledger.{Ledger, opened, home, placed, isOut, state, outsOf, beyondOf, lost, total, withRecords, grownLedger, shrunkLedger}
-use Rattle.model.specs.history.Ledger.{unitsOut, granted}
+use Rattle.model.specs.history.Ledger.{Ledger, opened, home, placed, isOut, state, outsOf, unitsOut, total, withRecords, grownLedger, shrunkLedger}
+use Rattle.model.specs.history.Ledger.{missingOf, checksServingOf, rebuildableOf, keysLostOf, beyondOf, lost, granted}
 use Rattle.model.specs.history.Table.{refusals, number}
 use Rattle.model.specs.history.Answers.{after, final}
 use Rattle.model.specs.history.Runs.{lasting}
 use Rattle.model.specs.history.Typed.{AllTyped}
 use Rattle.model.proofs.history.ledger.Granted.{granted-free, granted-after, refused-after}
-use Rattle.model.proofs.history.ledger.States.{by-state}
+use Rattle.model.proofs.history.ledger.States.{by-state, not-missing, keys-not-lost, key-not-beyond}
 
 -- the same ledger with no unit out
 unfoldable pub lossless : Ledger → Ledger
@@ -50,11 +51,23 @@ module _ (l : Ledger) where
   none-out : (g : ℕ) → ltb 0 (outsOf (lossless l) g) ≡ false
   none-out g = rw (outs-lossless g)
 
+  -- nothing is beyond recovery
+  rebuildable-lossless : (g r : ℕ) → rebuildableOf (lossless l) g r ≡ true
+  unfolding rebuildableOf
+  rebuildable-lossless g r =
+      le-leb _ (checksServingOf (lossless l) g)
+      (omega (arith, count-fails 4 (λ p. missingOf (lossless l) (4 * g + p) r) (λ p a. not-missing (lossless l) (4 * g + p) r (isOut-lossless (4 * g + p)))))
+
+  beyond-lossless : (g : ℕ) → beyondOf (lossless l) g ≡ false
+  unfolding beyondOf
+  beyond-lossless g = rw (
+    count-fails 4 (λ p. keysLostOf (lossless l) (4 * g + p)) (λ p a. keys-not-lost (lossless l) (4 * g + p) (isOut-lossless (4 * g + p))),
+    all-holds (lossless l .size) (rebuildableOf (lossless l) g) (λ r a. rebuildable-lossless g r),
+  )
+
   lost-lossless : lost (lossless l) ≡ false
   unfolding lost
-  lost-lossless =
-      rw (count-fails 16 (λ u. isOut (lossless l) u && beyondOf (lossless l) (u / 4))
-      (λ u a. and-false-first (isOut-lossless u) (beyondOf (lossless l) (u / 4))))
+  lost-lossless = rw (count-fails 4 (beyondOf (lossless l)) (λ g a. beyond-lossless g))
 
   -- what is granted is granted with no unit out
   free-lossless : (c : Call) → lasting c ≡ true → Free (refusals l c) → Free (refusals (lossless l) c)
@@ -62,8 +75,7 @@ module _ (l : Ledger) where
   free-lossless (teach k x) a f = (f .0, (f .1 .0, (refl, (none-out (home l k / 4), f .1 .1 .1 .1))))
   free-lossless (correct k x) a f = (f .0, (f .1 .0, (refl, (none-out (home l k / 4), f .1 .1 .1 .1))))
   free-lossless (erase k) a f = (f .0, (refl, (none-out (home l k / 4), f .1 .1 .1)))
-  free-lossless (read k out) a f =
-      (f .0, (f .1 .0, (refl, (and-false-first (isOut-lossless (home l k)) (beyondOf (lossless l) (home l k / 4)), f .1 .1 .1 .1))))
+  free-lossless (read k out) a f = (f .0, (f .1 .0, (refl, (key-not-beyond (lossless l) k (isOut-lossless (home l k)), f .1 .1 .1 .1))))
   free-lossless (readInPlace k) a f = tt
   free-lossless (list out) a f = (refl, (lost-lossless, f .1 .1))
   free-lossless (unitOut w) a f = not-both a refl

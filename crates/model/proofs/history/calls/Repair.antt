@@ -26,8 +26,9 @@ use Rattle.model.specs.history.Answers.{given}
 use Rattle.model.proofs.history.ledger.Valid.{Valid, marked-valid}
 use Rattle.model.proofs.history.picture.Records.{anew-over}
 use Rattle.model.proofs.history.picture.Picture.{seen}
-use Rattle.model.proofs.history.picture.Seen.{slot-kept, units-seen, beyond-seen}
-use Rattle.model.proofs.history.picture.Rebuilt.{whole-slot}
+use Rattle.model.proofs.history.picture.Seen.{slot-kept, units-seen}
+use Rattle.model.proofs.history.picture.Losses.{beyond-seen}
+use Rattle.model.proofs.history.picture.Rebuilt.{near, whole-slot}
 use Rattle.model.proofs.history.calls.Simulation.{Simulated}
 use Rattle.model.proofs.history.calls.OneList.{sound-row}
 
@@ -76,7 +77,7 @@ module _ (l : Ledger) (g : ℕ) where
     s = seen l rest (h .good)
 
     whole : (u r : ℕ) → u < 16 → u / 4 ≡ g → r < l .size → wholeSlot v u r ≡ recordBytes (recordAt l u r)
-    whole u r a d b = whole-slot l rest h u a (and-false-second (isOut l u) (ap (beyondOf l) d ∙ nb)) r b
+    whole u r a d b = whole-slot l rest h u a r b (near l u r (ap (beyondOf l) d ∙ nb) b)
 
     in-slot : (u r : ℕ) → u < 16 → r < l .size → pick (eqb (u / 4) g) (wholeSlot v u r) (v .slot u r) ≡ pictureSlot (granted l (repair g)) u r
     unfolding image

@@ -1,23 +1,19 @@
 -- Demand 3: a taught position outlives its unit. Assumes nothing.
-use Prim.Native.Nat.{ℕ, _*_, _/_, _≤_}
-use mathlib.Core.Path.{_≡_, refl, sym, ap, _∙_}
+use Prim.Native.Nat.{ℕ, _*_, _≤_}
+use mathlib.Core.Path.{_≡_, sym, ap, _∙_}
 use mathlib.Core.List.{List}
 use mathlib.Core.Option.{none, some}
-use mathlib.Core.Bool.{Bool, _&&_}
 use native.Mathlib.Omega.{arith}
-use lib.Dec.{eqb, ltb, leb}
+use lib.Dec.{ltb, leb}
 use lib.ListN.{length, drop}
-use borrow.Author.Tests.{ltb-false}
 use Rattle.buffer.specs.Choice.{pick}
-use Rattle.buffer.specs.ChoiceLaws.{pick-false, pick-ext}
-use Rattle.model.specs.Layout.{view, storeBytes, unitsIn, Store}
-use Rattle.model.specs.Reads.{homeIn, beyondIn}
+use Rattle.model.specs.Layout.{view, storeBytes, unitsIn}
 use Rattle.model.specs.Numbers.{Call, read, repair, firstOf, numberIn}
 use Rattle.model.specs.Perform.{copied, perform, layOutNumber, layOut}
 use Rattle.model.specs.Field.{stamped}
 use Rattle.model.specs.FieldLaws.{body-back, stamp-back}
 use Rattle.model.specs.GrantedLayout.{layout-granted}
-use Rattle.model.specs.history.Ledger.{Ledger, opened, home}
+use Rattle.model.specs.history.Ledger.{Ledger, opened, home, keyBeyondOf, beyondOf}
 use Rattle.model.specs.history.Picture.{picture}
 use Rattle.model.specs.history.Table.{refusals, number}
 use Rattle.model.specs.history.Answers.{final}
@@ -28,10 +24,10 @@ use Rattle.group.specs.Widths.{fieldBytes}
 use Rattle.model.proofs.history.ledger.Valid.{Valid}
 use Rattle.model.proofs.history.taught.Recorded.{recorded}
 use Rattle.model.proofs.history.taught.Taught.{lastTaughtBy, recorded-final, recorded-opened, read-tells}
-use Rattle.model.proofs.history.picture.Seen.{units-seen, state-seen, beyond-seen}
+use Rattle.model.proofs.history.picture.Seen.{units-seen, state-seen}
 use Rattle.model.proofs.history.calls.Simulation.{number-agrees, answer-agrees}
 use Rattle.model.proofs.history.calls.Opened.{layout-is, layout-picture, opened-valid}
-use Rattle.model.proofs.history.calls.Read.{lost-row, read-simulated}
+use Rattle.model.proofs.history.calls.Read.{read-simulated}
 use Rattle.model.proofs.history.calls.Repair.{repair-simulated}
 use Rattle.model.proofs.history.alone.Lossless.{lossless, alone, allGrantedBy, final-lossless, alone-again, lossless-opened, lossless-state, alone-typed}
 use Rattle.model.proofs.history.alone.Unlost.{lossless-valid, same-unit}
@@ -41,25 +37,20 @@ use Rattle.model.proofs.history.claims.HandedBack.{lent-in-place, liste
 -- ---- on the picture of a valid ledger
 
 module _ (l : Ledger) (rest : List ℕ) (h : Valid l) where
-  abbrev v : Store
-  v = view (picture l rest)
-
   -- a read tells what the ledger holds for the key
   tells : (k : ℕ) → 1 ≤ k → (out : List ℕ) → length out ≡ fieldBytes
-      → perform (picture l rest) (read k out) .answer
-      ≡ pick (eqb (v .dstate (homeIn v k)) 2 && beyondIn v (homeIn v k / 4)) (copied 8 out) (asTaught out (recorded l k))
+      → perform (picture l rest) (read k out) .answer ≡ pick (keyBeyondOf l k) (copied 8 out) (asTaught out (recorded l k))
   tells k a out fits =
       answer-agrees l rest (read k out) (read-simulated l rest h k out)
       ∙ read-tells l (ordered-of l h) k (omega arith) out fits (λ r. h .good (home l k) r .field .size)
-      ∙ ap (λ (t : Bool). pick t (copied 8 out) (asTaught out (recorded l k))) (sym (lost-row l rest h k))
 
   -- a repair is refused as beyond recovery exactly where it is
-  repairs : (g : ℕ) → numberIn (picture l rest) (repair g) ≡ pick (ltb 3 g) 2 (pick (leb (unitsIn v) (4 * g)) 3 (pick (beyondIn v g) 8 0))
-  unfolding number refusals firstOf
+  repairs : (g : ℕ) → numberIn (picture l rest) (repair g)
+      ≡ pick (ltb 3 g) 2 (pick (leb (unitsIn (view (picture l rest))) (4 * g)) 3 (pick (beyondOf l g) 8 0))
+  unfolding number refusals firstOf pick
   repairs g =
       number-agrees l rest (repair g) (repair-simulated l rest h g)
-      ∙ pick-ext (ltb 3 g) 2 _ 2 _ (λ e. refl)
-      (λ e. pick-false refl _ _ ∙ sym (rw (units-seen l rest h, beyond-seen l rest h g (omega (arith, ltb-false 3 g e)))))
+      ∙ ap (λ (n : ℕ). pick (ltb 3 g) 2 (pick (leb n (4 * g)) 3 (pick (beyondOf l g) 8 0))) (sym (units-seen l rest h))
 
 -- ---- from a granted layout
 

@@ -24,6 +24,7 @@ use Rattle.model.specs.history.Picture.{recordBytes, picture}
 use Rattle.model.specs.history.Table.{refusals, number}
 use Rattle.model.specs.history.Answers.{fieldOf, listing, given, answer}
 use Rattle.model.proofs.history.ledger.Valid.{Valid}
+use Rattle.model.proofs.history.ledger.States.{key-not-beyond}
 use Rattle.model.proofs.history.ledger.Seek.{seek-rank, rank-key}
 use Rattle.model.proofs.history.taught.Recorded.{recorded, different}
 use Rattle.model.proofs.history.picture.Records.{length-record}
@@ -53,7 +54,14 @@ module _ (l : Ledger) (rest : List ℕ) (h : Valid l) (k : ℕ) (x : List ℕ) (
   -- read in place, with its unit not out
   lent-by : 1 ≤ k → isOut l (home l k) ≡ false → answer l (readInPlace k) ≡ lent x
   unfolding answer reply given number refusals firstOf fieldOf recordAt pick
-  lent-by a on = rw (ne-eqb k 0 (omega arith), eq-eqb (length (zeros fieldBytes)) fieldBytes (length-zeros fieldBytes), on, stands .0, stands .1)
+  lent-by a on = rw (
+    ne-eqb k 0 (omega arith),
+    eq-eqb (length (zeros fieldBytes)) fieldBytes (length-zeros fieldBytes),
+    key-not-beyond l k on,
+    on,
+    stands .0,
+    stands .1,
+  )
 
   pub lent-in-place : 1 ≤ k → eqb (view (picture l rest) .dstate (homeIn (view (picture l rest)) k)) 2 ≡ false
       → perform (picture l rest) (readInPlace k) .answer ≡ lent x

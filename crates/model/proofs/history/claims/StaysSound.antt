@@ -29,8 +29,9 @@ use Rattle.model.specs.history.Typed.{Typed}
 use Rattle.model.specs.history.StaysSound.{StaysSound}
 use Rattle.model.proofs.history.ledger.Valid.{Valid}
 use Rattle.model.proofs.history.ledger.Granted.{granted-free}
-use Rattle.model.proofs.history.ledger.States.{state-le, in-place, placed-check}
-use Rattle.model.proofs.history.picture.Seen.{size-seen, units-seen, level-seen, cstate-is, beyond-seen}
+use Rattle.model.proofs.history.ledger.States.{in-place, placed-check}
+use Rattle.model.proofs.history.picture.Seen.{size-seen, units-seen, level-seen, cstate-is}
+use Rattle.model.proofs.history.picture.Losses.{beyond-seen}
 use Rattle.model.proofs.history.picture.Sound.{picture-sound}
 use Rattle.model.proofs.history.calls.Simulation.{Simulated, number-agrees}
 use Rattle.model.proofs.history.calls.OneList.{fill-home, rank-home}
@@ -147,7 +148,7 @@ module _ (l : Ledger) (rest : List ℕ) (h : Valid l) (s : List ℕ) (ok : sound
       let f = free (repair g) t rows e in
       let low : g < 4 = omega (arith, ltb-false 3 g (f .0)) in
       sound-alike (repaired v g) (repaired w g)
-      (repaired-alike v w a g low (λ c i. rw (cstate-is l rest h c i) (state-le l (16 + c))) (beyond-seen l rest h g low ∙ f .1 .1 .1 .0))
+      (repaired-alike v w a g low (beyond-seen l rest h g low ∙ f .1 .1 .1 .0))
       (left-sound (repair g) t rows e)
 
   -- ---- grow, shrink, raise

@@ -1,4 +1,4 @@
--- The state of a unit in a ledger, and what it says: in place, in service, out. Assumes nothing.
+-- The state of a unit in a ledger, and what it says: in place, in service, out. Of a unit that is not out nothing is lost. Assumes nothing.
 use Prim.Native.Nat.{ℕ, suc, _+_, _*_, _-_, _/_, _%_, _≤_, _<_}
 use mathlib.Core.Path.{_≡_, refl, sym, ap, _∙_}
 use mathlib.Core.Bool.{Bool, true, false, _&&_, not}
@@ -9,10 +9,10 @@ use Rattle.buffer.specs.Choice.{pick}
 use Rattle.buffer.specs.ChoiceLaws.{by-test}
 use Rattle.buffer.specs.Range.{count}
 use Rattle.buffer.specs.RangeLaws.{count-zero}
-use Rattle.buffer.specs.TestLaws.{not-both, and-true, and-first, and-second, ltb-suc}
+use Rattle.buffer.specs.TestLaws.{not-both, and-true, and-first, and-second, and-false-first, ltb-suc}
 use Rattle.model.specs.Sound.{stateFits}
 use Rattle.model.specs.SoundSays.{Stateful}
-use Rattle.model.specs.history.Ledger.{Ledger, placed, isOut, state, outsOf}
+use Rattle.model.specs.history.Ledger.{Ledger, home, rankOf, placed, isOut, state, outsOf, missingOf, keysLostOf, keyBeyondOf}
 
 -- with more units and a higher level no unit loses its place
 pub fewer-placed : (l next : Ledger) → l .units ≤ next .units → l .level ≤ next .level → (w : ℕ) → placed next w ≡ false → placed l w ≡ false
@@ -49,12 +49,6 @@ module _ (l : Ledger) where
   pub state-out : (w : ℕ) → eqb (state l w) 2 ≡ isOut l w
   unfolding isOut
   state-out w = by-state (λ p o n. eqb n 2 ≡ (p && o)) w refl refl (λ o. refl)
-
-  pub state-placed : (w : ℕ) → ltb 0 (state l w) ≡ placed l w
-  state-placed w = by-state (λ p o n. ltb 0 n ≡ p) w refl refl (λ o. refl)
-
-  pub state-le : (w : ℕ) → state l w ≤ 2
-  state-le w = by-state (λ p o n. n ≤ 2) w (omega arith) (omega arith) (λ o. omega arith)
 
   pub state-in : (w : ℕ) → placed l w ≡ true → isOut l w ≡ false → state l w ≡ 1
   unfolding isOut
@@ -109,6 +103,19 @@ module _ (l : Ledger) where
   check-kept c e =
       let d : c ≡ 3 * (c / 3) + c % 3 = omega arith in
       ap (λ (k : ℕ). isOut l (16 + k)) d ∙ count-zero 3 (λ j. isOut l (16 + (3 * (c / 3) + j))) (none-check (c / 3) e) (c % 3) (omega arith)
+
+  -- a unit that is not out: no record is missing, its keys are not lost, and no key of it is beyond recovery
+  pub not-missing : (u r : ℕ) → isOut l u ≡ false → missingOf l u r ≡ false
+  unfolding missingOf
+  not-missing u r e = and-false-first e _
+
+  pub keys-not-lost : (u : ℕ) → isOut l u ≡ false → keysLostOf l u ≡ false
+  unfolding keysLostOf
+  keys-not-lost u e = and-false-first e _
+
+  pub key-not-beyond : (k : ℕ) → isOut l (home l k) ≡ false → keyBeyondOf l k ≡ false
+  unfolding keyBeyondOf
+  key-not-beyond k e = rw (keys-not-lost (home l k) e, not-missing (home l k) (rankOf (l .records (home l k)) k) e)
 
 -- two ledgers of one level, the second with unit m more: a check unit has its place in both, but for the group that unit m begins
 pub place-kept : (l next : Ledger) (m : ℕ) → l .units ≡ m → next .units ≡ suc m → l .level ≡ next .level → (c : ℕ) → (4 * (c / 3) ≡ m → ⊥)

@@ -2,28 +2,29 @@
 use Prim.Native.Nat.{ℕ, _+_, _*_, _-_, _/_, _≤_, _<_}
 use mathlib.Core.Path.{_≡_, refl, sym, ap, ap₂, _∙_}
 use mathlib.Core.List.{List}
-use mathlib.Core.Bool.{Bool, true, false, not}
+use mathlib.Core.Bool.{Bool, true, false}
 use native.Mathlib.Omega.{arith}
 use native.Mathlib.Nat.{le-refl}
 use lib.Dec.{eqb, ltb}
 use lib.ListN.{length, List·getD-eq-default}
-use borrow.Author.Tests.{eq-eqb, ne-eqb, ltb-true, ltb-false, lt-ltb, eqb-true}
-use Rattle.buffer.specs.ChoiceLaws.{by-test, by-pick}
+use borrow.Author.Tests.{eq-eqb, ne-eqb, ltb-true, ltb-false, lt-ltb}
+use Rattle.buffer.specs.ChoiceLaws.{by-test, by-pick, pick-same}
 use Rattle.buffer.specs.Range.{first}
 use Rattle.buffer.specs.RangeLaws.{first-ext, first-at, first-none, count-ext}
-use Rattle.buffer.specs.Bytes.{byte, bytes32}
-use Rattle.group.specs.Members.{outs, checks, beyond}
+use Rattle.buffer.specs.Bytes.{byte, bytes32, zeros}
+use Rattle.group.specs.Widths.{slotBytes}
+use Rattle.group.specs.Members.{outs}
 use Rattle.model.specs.Units.{unitOf}
 use Rattle.model.specs.UnitLaws.{unit-below}
 use Rattle.model.specs.Layout.{Store, view, unitsIn, levelIn, keyOf, frontOf}
 use Rattle.model.specs.LayoutLaws.{Same}
-use Rattle.model.specs.Reads.{homeIn, fillIn, rankIn, stateIn, outsIn, beyondIn, unitsOutIn}
-use Rattle.model.specs.history.Ledger.{Rec, Ledger, empty, home, recordAt, rankOf, placed, isOut, state, outsOf, unitsOut, beyondOf}
+use Rattle.model.specs.Reads.{homeIn, fillIn, rankIn, stateIn, outsIn, unitsOutIn}
+use Rattle.model.specs.history.Ledger.{Rec, Ledger, empty, home, recordAt, rankOf, placed, isOut, state, outsOf, unitsOut}
 use Rattle.model.specs.history.Picture.{recordBytes, pictureSlot, image, picture}
 use Rattle.model.proofs.history.ledger.Valid.{Valid}
-use Rattle.model.proofs.history.ledger.States.{state-out, state-in, state-placed, placed-unit, data-kept, state-none}
+use Rattle.model.proofs.history.ledger.States.{state-out, state-in, placed-unit, data-kept}
 use Rattle.model.proofs.history.picture.Records.{key-record, empty-bytes}
-use Rattle.model.proofs.history.picture.Picture.{seen, slot-on, slot-off}
+use Rattle.model.proofs.history.picture.Picture.{seen, slot-on}
 
 -- a rank behind the records
 pub past : (l : Ledger) (u r : ℕ) → length (l .records u) ≤ r → recordAt l u r ≡ empty
@@ -34,19 +35,18 @@ pub no-key : (l : Ledger) (u r : ℕ) → length (l .records u) ≤ r → record
 unfolding empty
 no-key l u r a = ap (λ (x : Rec). x .key) (past l u r a)
 
+-- a rank without a record shows as such, in service or not
+pub slot-none : (l : Ledger) (u r : ℕ) → length (l .records u) ≤ r → pictureSlot l u r ≡ recordBytes (recordAt l u r)
+unfolding pictureSlot
+slot-none l u r a = rw (past l u r a, empty-bytes) (pick-same (eqb (state l u) 1) (zeros slotBytes))
+
 -- a unit that is not out shows its records, also where it is not in place
 pub slot-kept : (l : Ledger) → Valid l → (u r : ℕ) → u < 16 → isOut l u ≡ false → pictureSlot l u r ≡ recordBytes (recordAt l u r)
 slot-kept l h u r a e =
     by-test (λ (t : Bool). placed l u ≡ t → pictureSlot l u r ≡ recordBytes (recordAt l u r)) (placed l u)
     (λ _ q. slot-on l u r (eq-eqb (state l u) 1 (state-in l u q e)))
-    (λ _ q. slot-off l u r (absent q) ∙ sym (ap recordBytes (blank q) ∙ empty-bytes))
+    (λ _ q. slot-none l u r (omega (arith, ap length (h .none u (ltb-false u (l .units) (sym (placed-unit l u a) ∙ q))))))
     refl
-  where
-    absent : placed l u ≡ false → eqb (state l u) 1 ≡ false
-    absent q = ap (λ (n : ℕ). eqb n 1) (eqb-true (state l u) 0 (state-none l u ∙ ap not q))
-
-    blank : placed l u ≡ false → recordAt l u r ≡ empty
-    blank q = past l u r (omega (arith, ap length (h .none u (ltb-false u (l .units) (sym (placed-unit l u a) ∙ q)))))
 
 -- the first rank without a key
 pub fill-is : (n m : ℕ) (f : ℕ → Bool) → m ≤ n → ((k : ℕ) → k < m → f k ≡ false) → (m < n → f m ≡ true) → first n f ≡ m
@@ -132,13 +132,6 @@ module _ (l : Ledger) (rest : List ℕ) (h : Valid l) where
   pub units-out-seen : unitsOutIn v ≡ unitsOut l
   unfolding unitsOutIn unitsOut
   units-out-seen = count-ext 28 _ _ (λ w a. ap (λ (n : ℕ). eqb n 2) (state-seen w a) ∙ state-out l w)
-
-  pub beyond-seen : (g : ℕ) → g < 4 → beyondIn v g ≡ beyondOf l g
-  unfolding beyondIn beyond checks beyondOf
-  beyond-seen g a = ap₂ ltb
-      (count-ext 3 (λ j. ltb 0 (v .cstate (3 * g + j))) (λ j. placed l (16 + (3 * g + j)))
-      (λ j b. ap (ltb 0) (cstate-is (3 * g + j) (omega arith)) ∙ state-placed l (16 + (3 * g + j))))
-      (unfold outsIn in outs-seen g a)
 
   -- ---- units in service
 

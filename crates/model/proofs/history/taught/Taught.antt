@@ -1,11 +1,11 @@
 -- As last taught: after a list of calls a ledger holds for a key what the last granted teach, correct or erase of it says, and a read tells it.
 -- Assumes a ledger whose lists are in order.
-use Prim.Native.Nat.{ℕ, _/_}
+use Prim.Native.Nat.{ℕ}
 use mathlib.Core.Path.{_≡_, refl, sym, ap, _∙_}
 use mathlib.Core.Logic.{_≢_}
 use mathlib.Core.List.{List, [], _∷_, _++_, append-nil}
 use mathlib.Core.Option.{Option, none, some}
-use mathlib.Core.Bool.{Bool, true, false, _&&_}
+use mathlib.Core.Bool.{Bool, true, false}
 use lib.Dec.{eqb, leb}
 use lib.ListN.{length, drop, getD}
 use lib.Seq.{drop-length}
@@ -14,7 +14,7 @@ use Rattle.buffer.specs.Choice.{pick}
 use Rattle.group.specs.Widths.{fieldBytes}
 use Rattle.model.specs.Numbers.{Call, read, firstOf}
 use Rattle.model.specs.Perform.{copied, reply, output}
-use Rattle.model.specs.history.Ledger.{Rec, empty, Ledger, opened, home, recordAt, rankOf, isOut, beyondOf}
+use Rattle.model.specs.history.Ledger.{Rec, empty, Ledger, opened, home, recordAt, rankOf, keyBeyondOf}
 use Rattle.model.specs.history.Table.{refusals, number}
 use Rattle.model.specs.history.Answers.{fieldOf, given, answer, after, final}
 use Rattle.model.specs.history.Runs.{taughtBy, asTaught}
@@ -45,11 +45,11 @@ recorded-opened b k = refl
 
 module _ (l : Ledger) (h : Ordered l) (k : ℕ) where
   pub read-tells : k ≢ 0 → (out : List ℕ) → length out ≡ fieldBytes → ((r : ℕ) → length (recordAt l (home l k) r .field) ≡ fieldBytes)
-      → answer l (read k out) ≡ pick (isOut l (home l k) && beyondOf l (home l k / 4)) (copied 8 out) (asTaught out (recorded l k))
+      → answer l (read k out) ≡ pick (keyBeyondOf l k) (copied 8 out) (asTaught out (recorded l k))
   unfolding answer number reply output refusals firstOf given fieldOf recorded recordAt asTaught pick
   read-tells z out fits sized =
       rw (ne-eqb k 0 z, eq-eqb (length out) fieldBytes fits, seek-rank rs k (different l h (home l k)))
-      (go (isOut l (home l k) && beyondOf l (home l k / 4)) (leb (length rs) (rankOf rs k)))
+      (go (keyBeyondOf l k) (leb (length rs) (rankOf rs k)))
     where
       rs : List Rec
       rs = l .records (home l k)
