@@ -1,8 +1,8 @@
 /*
  * Times the store's calls over the static library, a copy of the store's bytes, and two soundness
  * tests in C beside the library's, all in one run; prints a table with a row for each size of store,
- * and a second one with raise beside grow. Read in place is a read without the copy. Build and run
- * it with bench/run.
+ * a second one with raise beside grow, and a third one with one unit and with two out in a hall that
+ * is half full. Read in place is a read without the copy. Build and run it with bench/run.
  */
 #define _POSIX_C_SOURCE 199309L
 #include "lhrs.h"
@@ -40,6 +40,9 @@ static struct hall whole;   /* every unit in service */
 static struct hall lost;    /* unit 0 is out */
 static struct hall growing; /* at most 15 units, so that it can grow */
 static struct hall raising; /* at most level 2, so that it can be raised */
+static struct hall half;    /* half full, every unit in service */
+static struct hall one_out; /* the same with unit 0 out */
+static struct hall two_out; /* the same with units 0 and 1 out */
 
 static void require(uint8_t number, uint8_t expected, const char *what)
 {
@@ -310,22 +313,27 @@ static void read_lost(void)
     read_from(&lost);
 }
 
-static void list_from(struct hall *hall)
+static size_t list_from(struct hall *hall)
 {
     static uint8_t out[MAX_UNITS * MAX_SLOTS * LHRS_RECORD];
     size_t count;
     require(lhrs_list(hall->bytes, hall->length, out, sizeof out, &count), 0, "list");
-    require(count == (size_t)hall->units * hall->count, 1, "list's count");
+    return count;
+}
+
+static void list_full(struct hall *hall)
+{
+    require(list_from(hall) == (size_t)hall->units * hall->count, 1, "list's count");
 }
 
 static void list_all(void)
 {
-    list_from(&whole);
+    list_full(&whole);
 }
 
 static void list_lost(void)
 {
-    list_from(&lost);
+    list_full(&lost);
 }
 
 static void out_and_repair(void)
@@ -356,6 +364,45 @@ static void copy_and_grow(void)
 {
     copy_to_raise();
     require(lhrs_grow(copied, raising.length), 0, "grow");
+}
+
+static void read_half(void)
+{
+    uint8_t out[LHRS_FIELD];
+    require(lhrs_read(half.bytes, half.length, half.absent, out, sizeof out), 6, "read");
+}
+
+static void read_one_out(void)
+{
+    read_from(&one_out);
+}
+
+static void read_two_out(void)
+{
+    read_from(&two_out);
+}
+
+static void list_one_out(void)
+{
+    list_from(&one_out);
+}
+
+static void list_two_out(void)
+{
+    list_from(&two_out);
+}
+
+static void one_out_and_repair(void)
+{
+    require(lhrs_out(half.bytes, half.length, 0), 0, "out");
+    require(lhrs_repair(half.bytes, half.length, 0), 0, "repair");
+}
+
+static void two_out_and_repair(void)
+{
+    require(lhrs_out(half.bytes, half.length, 0), 0, "out");
+    require(lhrs_out(half.bytes, half.length, 1), 0, "out");
+    require(lhrs_repair(half.bytes, half.length, 0), 0, "repair");
 }
 
 struct operation {
@@ -392,6 +439,19 @@ static const struct operation raise_operations[RAISE_OPERATIONS] = {
     [GROW] = {"memcpy + grow", copy_and_grow},
     [RAISE] = {"memcpy + raise", copy_and_raise},
 };
+
+/* What the third table compares: the test first. */
+static const struct operation half_operations[] = {
+    {"test", read_half},
+    {"read, one out", read_one_out},
+    {"read, two out", read_two_out},
+    {"list, one out", list_one_out},
+    {"list, two out", list_two_out},
+    {"one out + repair", one_out_and_repair},
+    {"two out + repair", two_out_and_repair},
+};
+
+#define HALF_OPERATIONS (sizeof half_operations / sizeof half_operations[0])
 
 /* Nanoseconds of one run, over so many. */
 static double batch(const struct operation *operation, unsigned long runs)
@@ -501,9 +561,72 @@ static void print_raise_table(void)
                 print_raise_row(slots[s], units[u], level);
 }
 
+/* Each unit half full, but for unit 1: with one check unit it is empty, since two units can then be
+   rebuilt only where no rank misses two records; with more it is a quarter full, so that the ranks
+   of unit 0 miss two records first and then one. */
+static void prepare_half(uint32_t slots, uint32_t units, uint32_t level)
+{
+    uint32_t counts[MAX_UNITS] = {0}, left = 0, key;
+    build(&half, slots, units, level);
+    for (uint32_t unit = 0; unit < units; unit++) {
+        counts[unit] = unit != 1 ? slots / 2 : level == 1 ? 0 : slots / 4;
+        left += counts[unit];
+    }
+    half.count = 0;
+    for (key = 1; left > 0; key++) {
+        uint8_t field[LHRS_FIELD];
+        uint32_t unit = plain_unit(units, key);
+        if (counts[unit] == 0)
+            continue;
+        fill_field(field, key);
+        require(lhrs_teach(half.bytes, half.length, key, field, sizeof field), 0, "teach");
+        if (unit == 0)
+            half.keys[half.count++] = key;
+        counts[unit]--;
+        left--;
+    }
+    while (plain_unit(units, key) != 0)
+        key++;
+    half.absent = key;
+    one_out = half;
+    require(lhrs_out(one_out.bytes, one_out.length, 0), 0, "out");
+    two_out = one_out;
+    require(lhrs_out(two_out.bytes, two_out.length, 1), 0, "out");
+    require(list_from(&half) == list_from(&one_out), 1, "list's count with one unit out");
+    require(list_from(&half) == list_from(&two_out), 1, "list's count with two units out");
+}
+
+static void print_half_row(uint32_t slots, uint32_t units, uint32_t level)
+{
+    double least[HALF_OPERATIONS];
+    prepare_half(slots, units, level);
+    measure(half_operations, HALF_OPERATIONS, least);
+    printf("| %2u | %2u | %u | %8.0f |", (unsigned)slots, (unsigned)units, (unsigned)level, least[0]);
+    for (size_t i = 1; i < HALF_OPERATIONS; i++)
+        printf(" %*.2f |", (int)strlen(half_operations[i].name), least[i] / least[0]);
+    putchar('\n');
+    fflush(stdout);
+}
+
+static void print_half_table(void)
+{
+    static const uint32_t slots[] = {4, 64}, units[] = {4, 16}, levels[] = {1, 3};
+    puts("\nA hall that is half full, with one unit and with two of a group out; the columns behind "
+         "the test are\nratios to it. At K = 1 the second unit is empty, at K = 3 a quarter full.\n");
+    printf("|  b |  M | K | test, ns |");
+    for (size_t i = 1; i < HALF_OPERATIONS; i++)
+        printf(" %s |", half_operations[i].name);
+    printf("\n|---|---|---|---|---|---|---|---|---|---|\n");
+    for (int s = 0; s < 2; s++)
+        for (int u = 0; u < 2; u++)
+            for (int l = 0; l < 2; l++)
+                print_half_row(slots[s], units[u], levels[l]);
+}
+
 int main(void)
 {
     print_table();
     print_raise_table();
+    print_half_table();
     return EXIT_SUCCESS;
 }

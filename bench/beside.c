@@ -1,9 +1,11 @@
 /*
- * Times the soundness test of two builds of the library in one run, in turn: this one's, and an
- * earlier one's, whose names begin with earlier_ in place of lhrs_. Each has a store of its own, laid
- * out and filled by its own calls, so that it may be of another version; the width of its fields is
- * EARLIER_FIELD. Prints a line for each size of store: b, M, K, the nanoseconds of the earlier test
- * and of this one. Build and run it with bench/beside.
+ * Times the soundness test of two builds of the library in one run, in turn, and with a data unit out
+ * a read, a list and a repair: this build's, and an earlier one's, whose names begin with earlier_ in
+ * place of lhrs_. Each has a store of its own, laid out and filled by its own calls, so that it may be
+ * of another version; the width of its fields is EARLIER_FIELD. Prints a line for each of the four
+ * and each size of store: its name, b, M, K, the nanoseconds of the earlier build and of this one,
+ * with tabs between them.
+ * Build and run it with bench/beside.
  */
 #define _POSIX_C_SOURCE 199309L
 #include "lhrs.h"
@@ -37,6 +39,9 @@ uint8_t earlier_grow(uint8_t *store, size_t len);
 uint8_t earlier_teach(uint8_t *store, size_t len, uint32_t key, const uint8_t *field, size_t size);
 uint8_t earlier_erase(uint8_t *store, size_t len, uint32_t key);
 uint8_t earlier_read(const uint8_t *store, size_t len, uint32_t key, uint8_t *out, size_t size);
+uint8_t earlier_list(const uint8_t *store, size_t len, uint8_t *out, size_t size, size_t *count);
+uint8_t earlier_out(uint8_t *store, size_t len, uint32_t unit);
+uint8_t earlier_repair(uint8_t *store, size_t len, uint32_t group);
 
 /* The calls of one build, and a store of its own. */
 struct build {
@@ -46,18 +51,24 @@ struct build {
     uint8_t (*teach)(uint8_t *, size_t, uint32_t, const uint8_t *, size_t);
     uint8_t (*erase)(uint8_t *, size_t, uint32_t);
     uint8_t (*read)(const uint8_t *, size_t, uint32_t, uint8_t *, size_t);
+    uint8_t (*list)(const uint8_t *, size_t, uint8_t *, size_t, size_t *);
+    uint8_t (*out)(uint8_t *, size_t, uint32_t);
+    uint8_t (*repair)(uint8_t *, size_t, uint32_t);
     size_t field; /* the bytes of a field */
     size_t length;
     uint32_t absent; /* a key that is not taught */
+    uint32_t present; /* a key of unit 0 */
     uint8_t bytes[LENGTH(WIDEST_FIELD, MAX_SLOTS)];
+    uint8_t lost[LENGTH(WIDEST_FIELD, MAX_SLOTS)]; /* the same store with unit 0 out */
 };
 
 static struct build earlier = {earlier_lay_out, earlier_raise, earlier_grow, earlier_teach,
-                               earlier_erase,   earlier_read,  EARLIER_FIELD, 0,
-                               0,               {0}};
-static struct build now = {lhrs_lay_out, lhrs_raise, lhrs_grow, lhrs_teach,
-                           lhrs_erase,   lhrs_read,  LHRS_FIELD, 0,
-                           0,            {0}};
+                               earlier_erase,   earlier_read,  earlier_list, earlier_out,
+                               earlier_repair,  EARLIER_FIELD, 0,            0,
+                               0,               {0},           {0}};
+static struct build now = {lhrs_lay_out, lhrs_raise, lhrs_grow, lhrs_teach, lhrs_erase,
+                           lhrs_read,    lhrs_list,  lhrs_out,  lhrs_repair, LHRS_FIELD,
+                           0,            0,          0,         {0},         {0}};
 
 static void require(uint8_t number, uint8_t expected, const char *what)
 {
@@ -97,21 +108,61 @@ static void fill(struct build *build, uint32_t slots, uint32_t units, uint32_t l
             require(build->erase(build->bytes, build->length, key), 0, "erase");
             continue;
         }
+        if (unit == 0)
+            build->present = key;
         counts[unit]++;
         left--;
     }
     build->absent = key;
+    memcpy(build->lost, build->bytes, build->length);
+    require(build->out(build->lost, build->length, 0), 0, "out");
 }
 
-/* Nanoseconds of one test, over so many: each is a read of a key that is not there. */
-static double batch(const struct build *build, unsigned long runs)
+/* The soundness test: a read of a key that is not there. */
+static void test(struct build *build)
 {
     uint8_t out[WIDEST_FIELD];
+    require(build->read(build->bytes, build->length, build->absent, out, build->field), 6, "read");
+}
+
+static void read_lost(struct build *build)
+{
+    uint8_t out[WIDEST_FIELD];
+    require(build->read(build->lost, build->length, build->present, out, build->field), 0, "read");
+}
+
+static void list_lost(struct build *build)
+{
+    static uint8_t out[MAX_UNITS * MAX_SLOTS * SLOT(WIDEST_FIELD)];
+    size_t count;
+    require(build->list(build->lost, build->length, out, sizeof out, &count), 0, "list");
+}
+
+static void out_and_repair(struct build *build)
+{
+    require(build->out(build->bytes, build->length, 0), 0, "out");
+    require(build->repair(build->bytes, build->length, 0), 0, "repair");
+}
+
+struct operation {
+    const char *name;
+    void (*run)(struct build *);
+};
+
+static const struct operation operations[] = {
+    {"test", test},
+    {"read, unit out", read_lost},
+    {"list, unit out", list_lost},
+    {"unit out + repair", out_and_repair},
+};
+
+/* Nanoseconds of one run, over so many. */
+static double batch(const struct operation *operation, struct build *build, unsigned long runs)
+{
     struct timespec start, end;
     clock_gettime(CLOCK_MONOTONIC, &start);
     for (unsigned long i = 0; i < runs; i++)
-        require(build->read(build->bytes, build->length, build->absent, out, build->field), 6,
-                "read");
+        operation->run(build);
     clock_gettime(CLOCK_MONOTONIC, &end);
     double nanoseconds = 1e9 * (double)(end.tv_sec - start.tv_sec);
     nanoseconds += (double)(end.tv_nsec - start.tv_nsec);
@@ -123,19 +174,27 @@ static double less(double a, double b)
     return a < b ? a : b;
 }
 
-static void print_row(uint32_t slots, uint32_t units, uint32_t level)
+static void print_row(const struct operation *operation, uint32_t slots, uint32_t units,
+                      uint32_t level)
 {
     unsigned long runs = 1;
+    while (batch(operation, &earlier, runs) * (double)runs < BATCH_NANOSECONDS)
+        runs *= 2;
+    double before = batch(operation, &earlier, runs), after = batch(operation, &now, runs);
+    for (int round = 1; round < ROUNDS; round++) {
+        before = less(before, batch(operation, &earlier, runs));
+        after = less(after, batch(operation, &now, runs));
+    }
+    printf("%s\t%u\t%u\t%u\t%.1f\t%.1f\n", operation->name, (unsigned)slots, (unsigned)units,
+           (unsigned)level, before, after);
+}
+
+static void print_rows(uint32_t slots, uint32_t units, uint32_t level)
+{
     fill(&earlier, slots, units, level);
     fill(&now, slots, units, level);
-    while (batch(&earlier, runs) * (double)runs < BATCH_NANOSECONDS)
-        runs *= 2;
-    double before = batch(&earlier, runs), after = batch(&now, runs);
-    for (int round = 1; round < ROUNDS; round++) {
-        before = less(before, batch(&earlier, runs));
-        after = less(after, batch(&now, runs));
-    }
-    printf("%u %u %u %.1f %.1f\n", (unsigned)slots, (unsigned)units, (unsigned)level, before, after);
+    for (size_t i = 0; i < sizeof operations / sizeof operations[0]; i++)
+        print_row(&operations[i], slots, units, level);
 }
 
 int main(void)
@@ -144,6 +203,6 @@ int main(void)
     for (int s = 0; s < 2; s++)
         for (int u = 0; u < 3; u++)
             for (int l = 0; l < 2; l++)
-                print_row(slots[s], units[u], levels[l]);
+                print_rows(slots[s], units[u], levels[l]);
     return EXIT_SUCCESS;
 }
