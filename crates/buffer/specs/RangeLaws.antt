@@ -108,6 +108,9 @@ count-zero (suc n) p e k l =
     k
     l
 
+pub none-counted : (n : ℕ) (p : ℕ → Bool) → ltb 0 (count n p) ≡ false → (k : ℕ) → k < n → p k ≡ false
+none-counted n p e = count-zero n p (omega (arith, ltb-false 0 (count n p) e))
+
 -- one place at which it holds
 pub count-pos : (n : ℕ) (p : ℕ → Bool) (k : ℕ) → k < n → p k ≡ true → 0 < count n p
 count-pos n p k l e =
@@ -115,7 +118,7 @@ count-pos n p k l e =
     (λ t. 0 < count n p)
     (ltb 0 (count n p))
     (λ q. ltb-true 0 (count n p) q)
-    (λ q. not-both e (count-zero n p (let z : count n p ≤ 0 = ltb-false 0 (count n p) q in omega arith) k l))
+    (λ q. not-both e (none-counted n p q k l))
 
 -- the whole range is counted where the test holds throughout
 pub count-holds : (n : ℕ) (p : ℕ → Bool) → ((k : ℕ) → k < n → p k ≡ true) → count n p ≡ n

@@ -15,9 +15,10 @@ use Rattle.buffer.specs.RangeLaws.{below-four}
 use Rattle.group.specs.Members.{firstFour}
 use Rattle.group.specs.MembersLaws.{serves-ext, four-ext}
 use Rattle.model.specs.Layout.{Store, view}
-use Rattle.model.specs.Reads.{listedFill, missingIn, servesIn, beyondIn}
-use Rattle.model.specs.LossLaws.{missing-out, missing-before}
-use Rattle.model.specs.RebuildingLaws.{Rebuilding, missing-same, fill-same, serves-same}
+use Rattle.model.specs.Reads.{listedFill, missingIn, servesIn, keysLostIn, beyondIn}
+use Rattle.model.specs.LossLaws.{missing-out, keys-kept, missing-before}
+use Rattle.model.specs.SameLosses.{fill-same, missing-same}
+use Rattle.model.specs.RebuildingLaws.{Rebuilding, same-lists, serves-same}
 use Rattle.lookup.specs.Groups.{Counts}
 use Rattle.lookup.specs.GroupLaws.{marked-no, marked-yes}
 use Rattle.lookup.specs.Decoders.{endsBefore, changesAt, DecoderOf}
@@ -114,11 +115,11 @@ module _ (v w : Store) (h : Rebuilding v w) (g : ℕ) (hg : g < 4) (nb : beyondI
   ends-same p l end =
       let u : ℕ = 4 * g + p in
       let low : u < 16 = omega arith in
-      let d : u / 4 ≡ g = omega arith in
-      rw (missing-same v w h g hg nb u low d r)
+      let kept : keysLostIn v u ≡ false = keys-kept v g nb p l in
+      rw (missing-same v w (same-lists h) u low kept r)
       (by-test (λ (t : Bool). missingIn v u r ≡ t
       → pick (t && ltb (listedFill w u) end) (listedFill w u) end ≡ pick (t && ltb (listedFill v u) end) (listedFill v u) end) (missingIn v u r)
-      (λ m _. rw (fill-same v w h g hg nb u low d (missing-out v u r m)))
+      (λ m _. rw (fill-same v w (same-lists h) u low kept (missing-out v u r m)))
       (λ _ _. pick-false refl (listedFill w u) end ∙ sym (pick-false refl (listedFill v u) end)) refl)
 
   changes-same : changesAt w g r ≡ changesAt v g r

@@ -12,7 +12,7 @@ use borrow.Author.Tests.{eq-eqb, ne-eqb, eqb-true, lt-ltb, ltb-false}
 use Rattle.buffer.specs.Choice.{pick}
 use Rattle.buffer.specs.ChoiceLaws.{by-test, pick-false}
 use Rattle.buffer.specs.Range.{count}
-use Rattle.buffer.specs.RangeLaws.{count-pos, count-fails, count-zero, getD-entries}
+use Rattle.buffer.specs.RangeLaws.{count-pos, count-fails, none-counted, getD-entries}
 use Rattle.buffer.specs.Loops.{entries}
 use Rattle.buffer.specs.Bytes.{byte, part}
 use Rattle.buffer.specs.ByteLaws.{byte-part}
@@ -188,9 +188,7 @@ module _ (s : List ℕ) where
 
 pub safe-store : {s : List ℕ} → Sized s → lostIn (view s) ≡ false → Whole s
 unfolding lostIn
-safe-store {s} h e =
-    let n : ℕ = count 4 (beyondIn (view s)) in
-    record { sized = h; groups = count-zero 4 (beyondIn (view s)) (omega (arith, ltb-false 0 n e)) }
+safe-store {s} h e = record { sized = h; groups = none-counted 4 (beyondIn (view s)) e }
 
 module _ {s : List ℕ} (h : Whole s) (u : ℕ) (l : u < 16) where
   pub whole-kept : keysLostIn (view s) u ≡ false

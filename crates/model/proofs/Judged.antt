@@ -6,25 +6,25 @@ use mathlib.Core.Logic.{_≢_}
 use mathlib.Core.List.{List}
 use mathlib.Core.Bool.{Bool, true, false, not}
 use native.Mathlib.Omega.{arith}
-use lib.Dec.{eqb, ltb, leb}
+use lib.Dec.{eqb, ltb}
 use lib.ListN.{length}
-use borrow.Author.Tests.{eq-eqb, ne-eqb, le-ltb, lt-leb, le-leb}
+use borrow.Author.Tests.{eq-eqb, ne-eqb, eqb-true, eqb-false, ltb-true, le-ltb, lt-leb, le-leb}
 use Rattle.buffer.specs.Choice.{pick}
-use Rattle.buffer.specs.ChoiceLaws.{by-pick, by-test}
-use Rattle.buffer.specs.TestLaws.{not-both, and-false-first, and-false-second}
-use Rattle.buffer.specs.Range.{count}
-use Rattle.buffer.specs.RangeLaws.{all-holds, count-mono, count-fails, count-parts, count-pos}
+use Rattle.buffer.specs.ChoiceLaws.{by-test}
+use Rattle.buffer.specs.TestLaws.{and-false-first, and-false-second}
+use Rattle.buffer.specs.Range.{count, first}
+use Rattle.buffer.specs.RangeLaws.{all-holds, count-mono, count-fails, count-parts, count-pos, none-counted, first-found, first-holds}
 use Rattle.group.specs.Widths.{fieldBytes}
 use Rattle.group.specs.Members.{outs, checksServing, rebuildable}
 use Rattle.model.specs.UnitLaws.{unit-below}
 use Rattle.model.specs.Layout.{Store, view, unitsIn, levelIn}
-use Rattle.model.specs.Reads.{homeIn, outsIn, checksIn, listedFill, listedRank, missingIn, rebuildableIn, keysLostIn, keyBeyondIn, beyondIn}
-use Rattle.model.specs.LossLaws.{missing-out, none-past, none-beyond}
+use Rattle.model.specs.Reads.{homeIn, outsIn, checksIn, listedFill, listedRank, missingIn, rebuildableIn, keysLostIn, keyBeyondIn, beyondIn, lostIn}
+use Rattle.model.specs.LossLaws.{missing-out, none-in-service, none-past, kept-keys, none-beyond}
 use Rattle.model.specs.Sound.{sound}
-use Rattle.model.specs.SoundSays.{units-some, units-few, states-low}
-use Rattle.model.specs.Numbers.{read, repair, firstOf, refusalsIn, numberIn}
-use Rattle.model.specs.RowLaws.{free-first}
-use Rattle.model.specs.Judged.{LossesJudged}
+use Rattle.model.specs.SoundSays.{units-some, units-few, states-low, data-states, by-fitting}
+use Rattle.model.specs.Numbers.{read, list, repair, firstOf, refusalsIn, numberIn}
+use Rattle.model.specs.RowLaws.{free-first, lacks-first}
+use Rattle.model.specs.Judged.{WithinLevel, LossesJudged}
 use Rattle.model.proofs.Level.{level-everywhere}
 
 -- a group in place that is not beyond recovery is repaired
@@ -88,22 +88,22 @@ module _ (s : List ℕ) (ok : sound s ≡ true) (k : ℕ) where
   abbrev u : ℕ
   u = homeIn (view s) k
 
-  key-near : outsIn (view s) (u / 4) ≤ levelIn (view s) → keyBeyondIn (view s) k ≡ false
-  unfolding keyBeyondIn homeIn
+  key-near : WithinLevel s (homeIn (view s) k) → keyBeyondIn (view s) k ≡ false
+  unfolding keyBeyondIn
   key-near few =
-      let low : u < unitsIn (view s) = unit-below (unitsIn (view s)) k (units-some s ok) in
+      let r : ℕ = listedRank (view s) u k in
+      by-test (λ _. keyBeyondIn (view s) k ≡ false) (eqb (view s .dstate u) 2)
+      (λ out.
+      let low : u < unitsIn (view s) = unfold homeIn in unit-below (unitsIn (view s)) k (units-some s ok) in
       let d : 4 * (u / 4) + u % 4 ≡ u = omega arith in
-      let kept : keysLostIn (view s) u ≡ false = rw d at (keys-near s ok (u / 4) (omega arith) few (u % 4) (omega arith)) in
-      rw (kept, rank-near s ok (u / 4) (omega arith) few (listedRank (view s) u k)) (and-false-second (missingIn (view s) u (listedRank (view s) u k)) refl)
+      let level : outsIn (view s) (u / 4) ≤ levelIn (view s) = few (eqb-true (view s .dstate u) 2 out) in
+      let kept : keysLostIn (view s) u ≡ false = rw d at (keys-near s ok (u / 4) (omega arith) level (u % 4) (omega arith)) in
+      rw (kept, rank-near s ok (u / 4) (omega arith) level r) (and-false-second (missingIn (view s) u r) refl))
+      (λ on. rw (kept-keys (view s) u on, none-in-service (view s) u r (eqb-false (view s .dstate u) 2 on)))
 
   read-near : (x : List ℕ) → keyBeyondIn (view s) k ≡ false → numberIn s (read k x) ≢ 8
-  unfolding numberIn refusalsIn firstOf
-  read-near x e = rw e
-      (by-pick (λ (n : ℕ). n ≢ 8) (eqb k 0) 2 _ (λ _ q. omega arith) (λ _.
-      by-pick (λ (n : ℕ). n ≢ 8) (not (eqb (length x) fieldBytes)) 2 _ (λ _ q. omega arith) (λ _.
-      by-pick (λ (n : ℕ). n ≢ 8) (not (sound s)) 1 _ (λ _ q. omega arith) (λ _.
-      by-pick (λ (n : ℕ). n ≢ 8) false 8 _ (λ q _. not-both q refl) (λ _.
-      by-pick (λ (n : ℕ). n ≢ 8) (leb (listedFill (view s) u) (listedRank (view s) u k)) 6 0 (λ _ q. omega arith) (λ _ q. omega arith))))))
+  unfolding numberIn refusalsIn
+  read-near x e = lacks-first 8 (λ q. omega arith) _ (refl, (refl, (refl, (e, (refl, tt)))))
 
   module _ (key : k ≢ 0) (x : List ℕ) (fits : length x ≡ fieldBytes) where
     read-lost : keysLostIn (view s) u ≡ true → numberIn s (read k x) ≡ 8
@@ -116,11 +116,36 @@ module _ (s : List ℕ) (ok : sound s ≡ true) (k : ℕ) where
         rw (ne-eqb k 0 key, eq-eqb (length x) fieldBytes fits, ok, e, none-past (view s) u (listedRank (view s) u k) l)
         (rw (le-leb (listedFill (view s) u) (listedRank (view s) u k) l))
 
+-- ---- a list
+module _ (s : List ℕ) (ok : sound s ≡ true) (few : (u : ℕ) → u < 16 → WithinLevel s u) where
+  -- a group with a data unit out is in place
+  out-placed : (u : ℕ) → u < 16 → view s .dstate u ≡ 2 → u < unitsIn (view s)
+  out-placed u l e =
+      ltb-true u (unitsIn (view s)) (by-fitting (λ p n. n ≡ 2 → p ≡ true) _ (view s .dstate u) (data-states s ok u l) (λ _. refl) (λ _. refl)
+      (λ q. absurd (omega arith)) e)
+
+  groups-near : (g : ℕ) → g < 4 → beyondIn (view s) g ≡ false
+  groups-near g l =
+      let out : ℕ → Bool = λ p. eqb (view s .dstate (4 * g + p)) 2 in
+      by-test (λ _. beyondIn (view s) g ≡ false) (ltb 0 (count 4 out))
+      (λ e.
+      let p : ℕ = first 4 out in
+      let low : p < 4 = first-found 4 out (ltb-true 0 (count 4 out) e) in
+      let lost : view s .dstate (4 * g + p) ≡ 2 = eqb-true _ 2 (first-holds 4 out low) in
+      let d : (4 * g + p) / 4 ≡ g = omega arith in
+      group-near s ok g (omega (arith, out-placed (4 * g + p) (omega arith) lost)) (rw d at (few (4 * g + p) (omega arith) lost)))
+      (λ e. none-beyond (view s) g (none-counted 4 out e))
+
+  list-near : (x : List ℕ) → numberIn s (list x) ≢ 8
+  unfolding numberIn refusalsIn lostIn
+  list-near x = lacks-first 8 (λ q. omega arith) _ (refl, (rw (count-fails 4 (beyondIn (view s)) groups-near), (refl, tt)))
+
 -- WHATEVER THE BYTES
 pub losses-judged : (s : List ℕ) → LossesJudged s
 losses-judged s = record {
   within-level = λ ok g l few. near-granted s g ok l (group-near s ok g l few);
   read-within-level = λ ok k x few. read-near s ok k x (key-near s ok k few);
+  list-within-level = λ ok x few. list-near s ok few x;
   checks-alone = λ ok g l none. near-granted s g ok l (none-beyond (view s) g (λ p m. ne-eqb (view s .dstate (4 * g + p)) 2 (none p m)));
   none-lists = λ ok k key x fits. read-lost s ok k key x fits;
   not-listed = λ ok k key x fits. read-none s ok k key x fits;

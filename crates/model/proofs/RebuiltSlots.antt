@@ -25,7 +25,7 @@ use Rattle.model.specs.Reads.{listedKey, listedFill, missingIn, servesIn
 use Rattle.model.specs.ReadLaws.{listed-some, own-bytes, whole-own}
 use Rattle.model.specs.LossLaws.{missing-out, out-missing, first-check-found, four-serve, whole-kept}
 use Rattle.model.specs.Sound.{sound}
-use Rattle.model.specs.SoundSays.{known-out, zero-slot, listed-past}
+use Rattle.model.specs.SoundSays.{zero-slot, listed-past}
 use Rattle.model.specs.Recovered.{HeldFields}
 use Rattle.model.specs.history.Typed.{Bytes}
 use Rattle.model.proofs.history.alike.LedgerOf.{bytes-part}
@@ -130,7 +130,7 @@ module _ {s : List ℕ} {r : ℕ} (u : ℕ) (h : Rebuildable s (u / 4) r) where
         let off : eqb (w .dstate u) 1 ≡ false = ap (λ n. eqb n 1) (eqb-true (w .dstate u) 2 out) in
         whole-kept w u r (and-false-second (eqb (w .dstate u) 2) none)
         ∙ zero-slot s (h .ok) u r low (h .rank) (and-false-first off _)
-        ∙ sym (pick-true (eq-eqb (keyOf key) 0 (listed-past s (h .ok) u low (known-out w u kept out) r (h .rank) none)) (zeros slotBytes) (key ++ field))
+        ∙ sym (pick-true (eq-eqb (keyOf key) 0 (listed-past s (h .ok) u low kept r (h .rank) none)) (zeros slotBytes) (key ++ field))
 
     pub whole-slot : wholeSlot w u r ≡ pick (eqb (w .dstate u) 2 && eqb (keyOf key) 0) (zeros slotBytes) (key ++ field)
     whole-slot =

@@ -12,8 +12,7 @@ use borrow.Author.Tests.{eqb-true, eq-eqb, ne-eqb, ltb-false, leb-false, not-fal
 use Rattle.buffer.specs.Choice.{pick}
 use Rattle.buffer.specs.ChoiceLaws.{by-test, pick-true}
 use Rattle.buffer.specs.TestLaws.{and-other, or-false-first, or-false-second}
-use Rattle.buffer.specs.Range.{count}
-use Rattle.buffer.specs.RangeLaws.{count-zero}
+use Rattle.buffer.specs.RangeLaws.{none-counted}
 use Rattle.buffer.specs.Bytes.{zeros}
 use Rattle.group.specs.Widths.{keyBytes, fieldBytes, slotBytes}
 use Rattle.group.specs.Rebuilding.{rebuilt}
@@ -131,7 +130,7 @@ module _ (s : List ℕ) (b : Bytes s) (out : List ℕ) (zero : numberIn s (list 
   -- no group is beyond recovery
   list-near : (u : ℕ) → u < 16 → beyondIn t (u / 4) ≡ false
   unfolding refusalsIn lostIn
-  list-near u l = count-zero 4 (beyondIn t) (omega (arith, ltb-false 0 (count 4 (beyondIn t)) (free s (list out) zero .1 .0))) (u / 4) (omega arith)
+  list-near u l = none-counted 4 (beyondIn t) (free s (list out) zero .1 .0) (u / 4) (omega arith)
 
   list-rebuildable : (u r : ℕ) → u < 16 → r < listedFill t u → Rebuildable s (u / 4) r
   list-rebuildable u r l m =

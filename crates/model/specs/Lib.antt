@@ -14,6 +14,7 @@ pub mod StoreLaws
 pub mod Reads
 pub mod ReadLaws
 pub mod LossLaws
+pub mod SameLosses
 pub mod RebuildingLaws
 pub mod Sound
 pub mod SoundLaws

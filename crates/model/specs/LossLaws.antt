@@ -7,12 +7,12 @@ use mathlib.Core.Logic.{_≢_}
 use mathlib.Core.Bool.{Bool, true, false, not, _||_}
 use native.Mathlib.Omega.{arith}
 use lib.Dec.{eqb, ltb}
-use borrow.Author.Tests.{eq-eqb, ne-eqb, eqb-true, eqb-false, lt-ltb, le-ltb, ltb-true, ltb-false, le-leb, leb-true, not-false}
+use borrow.Author.Tests.{eq-eqb, ne-eqb, eqb-true, eqb-false, lt-ltb, le-ltb, ltb-true, le-leb, leb-true, not-false}
 use Rattle.buffer.specs.ChoiceLaws.{pick-false}
 use Rattle.buffer.specs.TestLaws.{same-test, and-true, and-first, and-second, and-false-first, and-false-second, and-other}
 use Rattle.buffer.specs.TestLaws.{or-false-first, or-false-second}
 use Rattle.buffer.specs.Range.{all, count, first}
-use Rattle.buffer.specs.RangeLaws.{all-true, all-holds, count-mono, count-fails, count-zero, count-pos, first-found, first-none}
+use Rattle.buffer.specs.RangeLaws.{all-true, all-holds, count-mono, count-fails, count-zero, none-counted, count-pos, first-found, first-none}
 use Rattle.buffer.specs.RangeLaws.{first-misses}
 use Rattle.group.specs.Members.{outs, checksServing, rebuildable}
 use Rattle.group.specs.MembersLaws.{enough}
@@ -49,8 +49,7 @@ module _ (v : Store) where
     pub keys-kept : (p : ℕ) → p < 4 → keysLostIn v (4 * g + p) ≡ false
     unfolding beyondIn
     keys-kept p l =
-        let n : ℕ = count 4 (λ p. keysLostIn v (4 * g + p)) in
-        count-zero 4 (λ p. keysLostIn v (4 * g + p)) (omega (arith, ltb-false 0 n (or-false-first (ltb 0 n) _ nb))) p l
+        none-counted 4 (λ p. keysLostIn v (4 * g + p)) (or-false-first (ltb 0 (count 4 (λ p. keysLostIn v (4 * g + p)))) _ nb) p l
 
     pub rank-kept : (r : ℕ) → r < v .size → rebuildableIn v g r ≡ true
     unfolding beyondIn
@@ -81,6 +80,16 @@ module _ (v : Store) where
   pub out-keys : (u : ℕ) → eqb (v .dstate u) 2 ≡ true → keysLostIn v u ≡ eqb (firstCheck v (u / 4)) (3 * (u / 4) + 3)
   unfolding keysLostIn
   out-keys u e = rw e (first-check-none (u / 4))
+
+  -- they are not, where a check unit of its group is in service
+  pub served-keys : (c p : ℕ) → p < 4 → eqb (v .cstate c) 1 ≡ true → keysLostIn v (4 * (c / 3) + p) ≡ false
+  unfolding keysLostIn checksServing
+  served-keys c p l on =
+      let u : ℕ = 4 * (c / 3) + p in
+      let serving : ℕ → Bool = λ j. eqb (v .cstate (3 * (u / 4) + j)) 1 in
+      let d : 3 * (u / 4) + c % 3 ≡ c = omega arith in
+      let some : 0 < count 3 serving = count-pos 3 serving (c % 3) (omega arith) (ap (λ (n : ℕ). eqb (v .cstate n) 1) d ∙ on) in
+      and-false-second (eqb (v .dstate u) 2) (ne-eqb (count 3 serving) 0 (λ z. omega (arith, z, some)))
 
   -- then they are listed by the first check unit in service of its group
   pub first-check-found : (u : ℕ) → keysLostIn v u ≡ false → eqb (v .dstate u) 2 ≡ true → firstCheck v (u / 4) < 3 * (u / 4) + 3

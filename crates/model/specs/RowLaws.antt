@@ -1,14 +1,15 @@
 -- Rows of the table of numbers: two lists of rows that give one number, rows of which none holds, a front part and the first row. Assumes nothing.
 use Prim.Native.Nat.{ℕ, _≤_}
 use mathlib.Core.Path.{_≡_, refl, sym, _∙_}
+use mathlib.Core.Logic.{_≢_}
 use mathlib.Core.List.{List, [], _∷_, _++_}
 use mathlib.Core.Bool.{Bool, true, false, _&&_, _||_}
 use native.Mathlib.Omega.{arith}
-use lib.Dec.{leb}
-use borrow.Author.Tests.{leb-true}
+use lib.Dec.{eqb, leb}
+use borrow.Author.Tests.{eq-eqb, leb-true}
 use Rattle.buffer.specs.Choice.{pick}
 use Rattle.buffer.specs.ChoiceLaws.{by-test, by-pick, pick-true, pick-false, pick-ext}
-use Rattle.buffer.specs.TestLaws.{and-first, and-second}
+use Rattle.buffer.specs.TestLaws.{not-both, and-true, and-first, and-second}
 use Rattle.model.specs.Layout.{Store}
 use Rattle.model.specs.Numbers.{Call, teach, correct, erase, read, readInPlace, list, unitOut, repair, grow, shrink, raise, firstOf, refusalsIn}
 
@@ -32,6 +33,11 @@ Free (t ∷ ts) = (t .0 ≡ false) × Free ts
 abbrev pub Numbered : List (Bool × ℕ) → Type 0
 Numbered [] = Unit {0}
 Numbered (t ∷ ts) = (leb 1 (t .1) && leb (t .1) 9 ≡ true) × Numbered ts
+
+-- none that gives n holds
+abbrev pub Lacks : ℕ → List (Bool × ℕ) → Type 0
+Lacks n [] = Unit {0}
+Lacks n (t ∷ ts) = ((eqb (t .1) n && t .0) ≡ false) × Lacks n ts
 
 pub agree-first : (ss ts : List (Bool × ℕ)) → Agree ss ts → firstOf ss ≡ firstOf ts
 unfolding firstOf
@@ -62,6 +68,12 @@ pub free-first : (ts : List (Bool × ℕ)) → Free ts → firstOf ts ≡ 0
 unfolding firstOf
 free-first [] f = refl
 free-first (t ∷ ts) f = pick-false (f .0) (t .1) (firstOf ts) ∙ free-first ts (f .1)
+
+pub lacks-first : (n : ℕ) → n ≢ 0 → (ts : List (Bool × ℕ)) → Lacks n ts → firstOf ts ≢ n
+unfolding firstOf
+lacks-first n some [] h = λ e. some (sym e)
+lacks-first n some (t ∷ ts) h =
+    by-pick (λ (m : ℕ). m ≢ n) (t .0) (t .1) (firstOf ts) (λ e q. not-both (and-true (eq-eqb (t .1) n q) e) (h .0)) (λ _. lacks-first n some ts (h .1))
 
 pub first-low : (ts : List (Bool × ℕ)) → Numbered ts → firstOf ts ≤ 9
 unfolding firstOf

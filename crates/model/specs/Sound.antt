@@ -10,7 +10,7 @@ use Rattle.buffer.specs.Bytes.{byte, be32, zeros, part}
 use Rattle.group.specs.Widths.{keyBytes, slotBytes, checkBytes}
 use Rattle.model.specs.Units.{unitOf}
 use Rattle.model.specs.Layout.{Store, view, version, storeBytes, unitsIn, levelIn, keyOf}
-use Rattle.model.specs.Reads.{fillIn, listedKey, listedFill}
+use Rattle.model.specs.Reads.{fillIn, listedKey, listedFill, keysLostIn}
 
 -- two lists of bytes are the same
 unfoldable pub same : List ℕ → List ℕ → Bool
@@ -47,13 +47,9 @@ zeroed v =
     all 16 (λ u. all (v .size) (λ r. (eqb (v .dstate u) 1 && ltb r (fillIn v u)) || same (v .slot u r) (zeros slotBytes)))
     && all 12 (λ c. all (v .size) (λ r. eqb (v .cstate c) 1 || same (v .check c r) (zeros checkBytes)))
 
--- the keys of a unit are known: it is in service, or it is out and a check unit of its group is in service
-unfoldable pub keysKnown : Store → ℕ → Bool
-keysKnown v u = eqb (v .dstate u) 1 || eqb (v .dstate u) 2 && not (all 3 (λ j. not (eqb (v .cstate (3 * (u / 4) + j)) 1)))
-
 -- keys are dense, different, in their own unit; an out unit's keys, where listed, obey the same rules
 unfoldable pub keysPlaced : Store → Bool
-keysPlaced v = all 16 (λ u. not (keysKnown v u) || all (v .size) (λ r.
+keysPlaced v = all 16 (λ u. keysLostIn v u || all (v .size) (λ r.
     pick (ltb r (listedFill v u))
     (eqb (unitOf (unitsIn v) (keyOf (listedKey v u r))) u && all r (λ q. not (eqb (keyOf (listedKey v u q)) (keyOf (listedKey v u r)))))
     (eqb (keyOf (listedKey v u r)) 0)))

@@ -1,6 +1,6 @@
 -- What the test of soundness says of a store, clause by clause, as facts. Assumes nothing.
 use Prim.Native.Nat.{ℕ, _+_, _*_, _/_, _≤_, _<_}
-use mathlib.Core.Path.{_≡_, refl, sym, ap, _∙_, subst}
+use mathlib.Core.Path.{_≡_, refl, sym, _∙_, subst}
 use mathlib.Core.List.{List}
 use mathlib.Core.Bool.{Bool, true, false, not, _&&_, _||_}
 use lib.Dec.{eqb, ltb}
@@ -8,17 +8,16 @@ use lib.ListN.{length}
 use borrow.Author.Tests.{eqb-true, leb-true}
 use Rattle.buffer.specs.Choice.{pick}
 use Rattle.buffer.specs.ChoiceLaws.{pick-true, pick-false, by-test}
-use Rattle.buffer.specs.TestLaws.{not-both, and-true, and-first, and-second, or-else, or-other}
-use Rattle.buffer.specs.Range.{all, first}
-use Rattle.buffer.specs.RangeLaws.{all-true, all-fails, first-holds}
+use Rattle.buffer.specs.TestLaws.{not-both, and-first, and-second, or-other}
+use Rattle.buffer.specs.Range.{all}
+use Rattle.buffer.specs.RangeLaws.{all-true}
 use Rattle.buffer.specs.Bytes.{byte, be32, zeros, part}
 use Rattle.group.specs.Widths.{keyBytes, slotBytes, checkBytes}
 use Rattle.model.specs.Units.{unitOf}
 use Rattle.model.specs.Layout.{Store, view, version, storeBytes, unitsIn, levelIn, keyOf}
 use Rattle.model.specs.StoreLaws.{units-of, level-of}
-use Rattle.model.specs.Reads.{fillIn, firstCheck, listedKey, listedFill, keysLostIn}
-use Rattle.model.specs.LossLaws.{first-check-found}
-use Rattle.model.specs.Sound.{same, ranges, stateFits, unitsPlaced, checkPlaced, checksPlaced, zeroed, keysKnown, keysPlaced, listsAgree, sound}
+use Rattle.model.specs.Reads.{fillIn, listedKey, listedFill, keysLostIn}
+use Rattle.model.specs.Sound.{same, ranges, stateFits, unitsPlaced, checkPlaced, checksPlaced, zeroed, keysPlaced, listsAgree, sound}
 use Rattle.model.specs.SoundLaws.{same-true}
 use native.Mathlib.Omega.{arith}
 
@@ -105,14 +104,6 @@ by-fitting P true n e serves lost absent =
     (λ _ q _. subst (P true) (sym (eqb-true n 1 q)) serves) (λ _ _ z. subst (P true) (sym (eqb-true n 2 z)) lost) refl (fits-placed n e refl)
 by-fitting P false n e serves lost absent = subst (P false) (sym (fits-absent n e refl)) absent
 
--- the keys of a unit that is out are known where they are not lost
-pub known-out : (v : Store) (u : ℕ) → keysLostIn v u ≡ false → eqb (v .dstate u) 2 ≡ true → keysKnown v u ≡ true
-unfolding keysKnown firstCheck
-known-out v u kept out =
-    let on : ℕ → Bool = λ j. eqb (v .cstate (3 * (u / 4) + j)) 1 in
-    let low : first 3 on < 3 = omega (arith, first-check-found v u kept out) in
-    or-else (eqb (v .dstate u) 1) _ (λ _. and-true out (ap not (all-fails 3 (λ j. not (on j)) (first 3 on) low (ap not (first-holds 3 on low)))))
-
 module _ (s : List ℕ) (h : sound s ≡ true) where
   abbrev v : Store
   v = view s
@@ -177,15 +168,15 @@ module _ (s : List ℕ) (h : sound s ≡ true) where
       same-true (v .check c r) (zeros checkBytes)
       (or-other (eqb (v .cstate c) 1) (same (v .check c r) (zeros checkBytes)) e (zeroed-says v (clauses .zeros) .checks c r l m))
 
-  -- ---- keys of a unit that are known
+  -- ---- keys of a unit that are not lost
 
-  module _ (u : ℕ) (hu : u < 16) (known : keysKnown v u ≡ true) where
+  module _ (u : ℕ) (hu : u < 16) (kept : keysLostIn v u ≡ false) where
     key-test : (r : ℕ) → r < v .size
         → pick (ltb r (listedFill v u))
         (eqb (unitOf (unitsIn v) (keyOf (listedKey v u r))) u && all r (λ q. not (eqb (keyOf (listedKey v u q)) (keyOf (listedKey v u r)))))
         (eqb (keyOf (listedKey v u r)) 0) ≡ true
     unfolding keysPlaced
-    key-test r m = all-true (v .size) _ (unless-second (keysKnown v u) _ (all-true 16 _ (clauses .keys) u hu) known) r m
+    key-test r m = all-true (v .size) _ (or-other (keysLostIn v u) _ kept (all-true 16 _ (clauses .keys) u hu)) r m
 
     listed-test : (r : ℕ) → r < v .size → ltb r (listedFill v u) ≡ true
         → (eqb (unitOf (unitsIn v) (keyOf (listedKey v u r))) u && all r (λ q. not (eqb (keyOf (listedKey v u q)) (keyOf (listedKey v u r))))) ≡ true

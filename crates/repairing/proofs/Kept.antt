@@ -18,7 +18,9 @@ use Rattle.model.specs.Parts.{withSlots}
 use Rattle.model.specs.LayoutLaws.{Shaped, Same, bytes-view, view-shaped, view-bytes, header, apart, length-header}
 use Rattle.model.specs.StoreLaws.{same-long, chunks-shaped, chunks-size, chunks-there}
 use Rattle.model.specs.Reads.{firstCheck, missingIn}
-use Rattle.model.specs.RebuildingLaws.{Rebuilding, first-check-same, fill-same, missing-same, rebuildable-same, beyond-same}
+use Rattle.model.specs.LossLaws as losses
+use Rattle.model.specs.SameLosses.{SameLists, first-check-same, fill-same, missing-same, rebuildable-same, beyond-same}
+use Rattle.model.specs.RebuildingLaws.{Rebuilding, same-lists}
 use Rattle.lookup.specs.Sized.{Sized}
 use Rattle.lookup.specs.Keys.{keysAt}
 use Rattle.lookup.specs.Groups.{Counts, Rebuildable}
@@ -85,13 +87,15 @@ module _ {s₀ s : List ℕ} {f : ℕ → ℕ → List ℕ} (w : Rewritten s₀ 
       }
 
   -- ---- so what a repair of group g goes by stays
+  lists : SameLists (view s₀) (view s)
+  lists = same-lists rebuilding
+
   module _ {g : ℕ} (h : Repairable s₀ g) where
     pub repairable-kept : Repairable s g
-    repairable-kept =
-        record { sized = sized-kept (h .sized); group = h .group; whole = beyond-same (view s₀) (view s) rebuilding g (h .group) (h .whole) ∙ h .whole }
+    repairable-kept = record { sized = sized-kept (h .sized); group = h .group; whole = beyond-same (view s₀) (view s) lists g (h .group) ∙ h .whole }
 
     pub first-check-kept : firstCheck (view s) g ≡ firstCheck (view s₀) g
-    first-check-kept = first-check-same (view s₀) (view s) rebuilding g (h .group) (h .whole)
+    first-check-kept = first-check-same (view s₀) (view s) lists g (h .group)
 
     pub counts-kept : {fills : List ℕ} → Counts s₀ g fills → Counts s g fills
     counts-kept counts =
@@ -100,7 +104,7 @@ module _ {s₀ s : List ℕ} {f : ℕ → ℕ → List ℕ} (w : Rewritten s₀ 
               let low : 4 * g + p < 16 = omega (arith, h .group) in
               let was : view s₀ .dstate (4 * g + p) ≡ 2 = sym (rebuilding .dstate (4 * g + p) low) ∙ out in
               counts .counted p l was
-              ∙ sym (fill-same (view s₀) (view s) rebuilding g (h .group) (h .whole) (4 * g + p) low (omega arith) (eq-eqb _ 2 was));
+              ∙ sym (fill-same (view s₀) (view s) lists (4 * g + p) low (losses.keys-kept (view s₀) g (h .whole) p l) (eq-eqb _ 2 was));
         }
 
   module _ {u : ℕ} (low : u < 16) (h : Repairable s₀ (u / 4)) where
@@ -112,6 +116,6 @@ module _ {s₀ s : List ℕ} {f : ℕ → ℕ → List ℕ} (w : Rewritten s₀ 
         record {
           sized = sized-kept (m .sized);
           unit = m .unit;
-          missing = missing-same (view s₀) (view s) rebuilding (u / 4) (h .group) (h .whole) u low refl r ∙ m .missing;
-          rank = rebuildable-same (view s₀) (view s) rebuilding (u / 4) (h .group) (h .whole) r ∙ m .rank;
+          missing = missing-same (view s₀) (view s) lists u low (losses.unit-keys-kept (view s₀) u (h .whole)) r ∙ m .missing;
+          rank = rebuildable-same (view s₀) (view s) lists (u / 4) (h .group) (losses.keys-kept (view s₀) (u / 4) (h .whole)) r ∙ m .rank;
         }

@@ -87,3 +87,7 @@ no-fill b key z =
     let l : b ≤ 0 = ltb-false 0 b e in
     let h : first b (λ r. eqb (key r) 0) ≤ b = first-le b (λ r. eqb (key r) 0) in
     omega arith)
+
+pub no-keys-good : (b m u : ℕ) (key : ℕ → ℕ) → ((r : ℕ) → r < b → key r ≡ 0) → keysGood b m u key ≡ true
+no-keys-good b m u key z =
+    parts-good b m u key (all-holds (fillOf b key) (ownAndNew m u key) (λ r l. absurd (omega (arith, no-fill b key z)))) (λ r _ l. z r l)

@@ -1,11 +1,6 @@
 -- Tests joined by "and" and "or", from what is known of one of them. Assumes nothing.
 use mathlib.Core.Path.{_≡_, refl}
-use mathlib.Core.Bool.{Bool, true, false, not, _&&_, _||_}
-
--- "n, or else x", where n is denied twice
-pub once : (n x : Bool) → (n ≡ false → x ≡ true) → (not (not n) || x) ≡ true
-once true x h = refl
-once false x h = h refl
+use mathlib.Core.Bool.{Bool, true, false, _&&_, _||_}
 
 -- "both a and c, or else x"
 pub or-right : (a c x : Bool) → a ≡ false → ((a && c) || x) ≡ true → x ≡ true

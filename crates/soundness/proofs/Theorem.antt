@@ -13,9 +13,9 @@ use Rattle.buffer.specs.Range.{all, first}
 use Rattle.buffer.specs.RangeLaws.{all-true, all-holds, first-le, first-holds}
 use Rattle.buffer.specs.Bytes.{byte, part, zeros}
 use Rattle.model.specs.Layout.{view, keyOf, unitsIn, levelIn, checkAt}
-use Rattle.model.specs.Reads.{fillIn, firstCheck, listedKey, listedFill}
+use Rattle.model.specs.Reads.{fillIn, firstCheck, listedKey, listedFill, keysLostIn}
 use Rattle.model.specs.SoundSays.{in-range}
-use Rattle.model.specs.Sound.{same, ranges, unitsPlaced, checksPlaced, zeroed, keysKnown, keysPlaced, listsAgree, sound}
+use Rattle.model.specs.Sound.{same, ranges, unitsPlaced, checksPlaced, zeroed, keysPlaced, listsAgree, sound}
 use Rattle.buffer.specs.Strided.{strided32}
 use Rattle.group.specs.Widths.{slotBytes, checkBytes}
 use Rattle.soundness.specs.Keys.{fillOf, isNew, ownAndNew}
@@ -121,7 +121,7 @@ module _ (s : List ℕ) where
       h c (omega arith) (w .2) r k p q ∙ ap (λ i. keyOf (listedKey (view s) (4 * i + p) r)) f
 
   -- ---- the keys
-  keys-placed : all 16 (λ u. not (keysKnown (view s) u) || keysGood (byte s 5) (byte s 6) u (λ r. keyOf (listedKey (view s) u r))) ≡ keysPlaced (view s)
+  keys-placed : all 16 (λ u. keysLostIn (view s) u || keysGood (byte s 5) (byte s 6) u (λ r. keyOf (listedKey (view s) u r))) ≡ keysPlaced (view s)
   unfolding keysPlaced
   keys-placed = rw (units-in s) (unfold keysGood ownAndNew isNew fillOf listedFill view in refl)
 
@@ -158,7 +158,7 @@ module _ (s : List ℕ) where
     to-pieces h =
         let zk = and-first (zeroed (view s) && keysPlaced (view s)) _ h in
         let z = sym zeroing ∙ and-first (zeroed (view s)) _ zk in
-        let k = all-true 16 (λ u. not (keysKnown (view s) u) || keysGood (byte s 5) (byte s 6) u (λ r. keyOf (listedKey (view s) u r)))
+        let k = all-true 16 (λ u. keysLostIn (view s) u || keysGood (byte s 5) (byte s 6) u (λ r. keyOf (listedKey (view s) u r)))
         (keys-placed ∙ and-second (zeroed (view s)) _ zk) in
         let a = agree-true (and-second (zeroed (view s) && keysPlaced (view s)) _ h) in
         and-true

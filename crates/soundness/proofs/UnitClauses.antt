@@ -1,6 +1,6 @@
 -- The test of one data unit says what soundness asks of that unit. Assumes nothing.
 use mathlib.Core.Path.{_≡_, refl, sym, ap, _∙_}
-use mathlib.Core.Bool.{Bool, true, false, not, _&&_, _||_}
+use mathlib.Core.Bool.{Bool, true, false, _&&_, _||_}
 use mathlib.Core.List.{List}
 use Prim.Native.Nat.{ℕ, _+_, _*_, _/_, _≤_, _<_}
 use native.Mathlib.Omega.{arith}
@@ -9,31 +9,31 @@ use lib.ListN.{length}
 use borrow.Author.Tests.{eqb-true, eq-eqb, ne-eqb, ltb-false, le-ltb, leb-true}
 use Rattle.buffer.specs.Choice.{pick}
 use Rattle.buffer.specs.ChoiceLaws.{by-test, pick-true, pick-false}
-use Rattle.buffer.specs.TestLaws.{and-true, and-first, and-second, or-else, or-other, same-test}
-use Rattle.buffer.specs.Range.{all, first}
-use Rattle.buffer.specs.RangeLaws.{all-true, all-holds, first-ext, first-none, first-misses}
+use Rattle.buffer.specs.TestLaws.{and-true, and-first, and-second, or-else, or-other}
+use Rattle.buffer.specs.Range.{all}
+use Rattle.buffer.specs.RangeLaws.{all-true, all-holds, first-ext}
 use Rattle.buffer.specs.Bytes.{byte, be32, zeros}
 use Rattle.model.specs.Layout.{view, keyOf, slotAt}
-use Rattle.model.specs.Reads.{fillIn, firstCheck, listedKey, listedFill, keysLostIn}
+use Rattle.model.specs.Reads.{fillIn, listedKey, listedFill, keysLostIn}
 use Rattle.model.specs.LossLaws.{kept-keys, out-keys}
-use Rattle.model.specs.Sound.{same, stateFits, keysKnown}
+use Rattle.model.specs.Sound.{same, stateFits}
 use Rattle.buffer.specs.Strided.{strided32}
 use Rattle.group.specs.Widths.{slotBytes}
 use Rattle.soundness.specs.Keys.{fillOf, ownAndNew, reached, sameKeys, noKeys}
 use Rattle.soundness.specs.Pieces.{Ranged, dataFits, dataKeys, columnKeys, unkept, dataFill, columnFill, lostFill, unitZero, restZero}
 use Rattle.soundness.specs.Pieces.{served, lost, absent, unitGood, unitFill}
 use Rattle.soundness.specs.Survey.{knownFill}
-use Rattle.soundness.proofs.Joined.{or-right, or-left, either, behind, once}
+use Rattle.soundness.proofs.Joined.{or-right, or-left, either, behind}
 use Rattle.soundness.proofs.Places.{row-within}
 use Rattle.soundness.proofs.Listed.{slot-key, listed-own, listed-out}
 use Rattle.soundness.proofs.Zeros.{Zero, zero-range, range-zero, slot-zero, zero-slots}
 use Rattle.soundness.proofs.Good.{keysGood, fill-le, reached-fill, reached-front, front-reached, good-parts, parts-good, no-keys-true, no-keys-holds}
-use Rattle.soundness.proofs.Good.{no-fill}
+use Rattle.soundness.proofs.Good.{no-fill, no-keys-good}
 
 -- the clauses of soundness that speak of data unit u
 pub record Unit (s : List ℕ) (u : ℕ) : Type 0 where
   pub zero : (r : ℕ) → r < byte s 5 → ((eqb (byte s (8 + u)) 1 && ltb r (fillIn (view s) u)) || same (view s .slot u r) (zeros slotBytes)) ≡ true
-  pub keys : (not (keysKnown (view s) u) || keysGood (byte s 5) (byte s 6) u (λ r. keyOf (listedKey (view s) u r))) ≡ true
+  pub keys : (keysLostIn (view s) u || keysGood (byte s 5) (byte s 6) u (λ r. keyOf (listedKey (view s) u r))) ≡ true
   pub lists : unkept s (u / 4) ≡ false → (r : ℕ) → r < byte s 5 → columnKeys s u r ≡ keyOf (listedKey (view s) u r)
 
 -- ---- the key of a zero slot
@@ -52,39 +52,6 @@ module _ (s : List ℕ) (u : ℕ) where
       → dataKeys s u r ≡ 0
   unfolding dataKeys strided32
   data-zero n z r l k = key-zero s (slotAt (byte s 5) u 0 + slotBytes * r) (λ i p q. z i (omega arith) (omega arith))
-
-  -- whether a unit's keys are known, by its state
-  known-served : byte s (8 + u) ≡ 1 → keysKnown (view s) u ≡ true
-  unfolding keysKnown view
-  known-served e = rw (eq-eqb _ _ e)
-
-  known-absent : byte s (8 + u) ≡ 0 → keysKnown (view s) u ≡ false
-  unfolding keysKnown view
-  known-absent e = rw e
-
-  none-kept : all 3 (λ j. not (eqb (byte s (24 + (3 * (u / 4) + j))) 1)) ≡ unkept s (u / 4)
-  unfolding unkept firstCheck view
-  none-kept =
-      same-test
-      (all 3 (λ j. not (p j)))
-      (eqb (3 * (u / 4) + first 3 p) (3 * (u / 4) + 3))
-      (λ h.
-      let e : first 3 p ≡ 3 = first-none 3 p (λ j l. negated (p j) (all-true 3 (λ j. not (p j)) h j l)) in
-      eq-eqb _ _ (ap (λ n. 3 * (u / 4) + n) e))
-      (λ h.
-      let e : 3 * (u / 4) + first 3 p ≡ 3 * (u / 4) + 3 = eqb-true _ _ h in
-      all-holds 3 (λ j. not (p j)) (λ j l. ap not (first-misses 3 p j (omega arith))))
-    where
-      p : ℕ → Bool
-      p = λ j. eqb (byte s (24 + (3 * (u / 4) + j))) 1
-
-      negated : (t : Bool) → not t ≡ true → t ≡ false
-      negated true h = sym h
-      negated false h = refl
-
-  known-out : byte s (8 + u) ≡ 2 → keysKnown (view s) u ≡ not (unkept s (u / 4))
-  unfolding keysKnown view
-  known-out e = rw (e, none-kept)
 
   -- whether its keys are lost, and how many are known where they are not
   not-lost : (byte s (8 + u) ≡ 2 → ⊥) → keysLostIn (view s) u ≡ false
@@ -180,7 +147,7 @@ module _ (s : List ℕ) (ok : Ranged s) (u : ℕ) (low : u < 16) where
               either (eqb (byte s (8 + u)) 1) (ltb r (fillIn (view s) u)) _ (eq-eqb _ _ state) (λ e.
               slot-zero s u fits (fillOf (byte s 5) (dataKeys s u)) z r
               (let w : fillIn (view s) u ≤ r = ltb-false r (fillIn (view s) u) e in omega (arith, fill-in s u)) l);
-          keys = rw (known-served s u state, own) (parts-good (byte s 5) (byte s 6) u (dataKeys s u) f (data-zero s u (fillOf (byte s 5) (dataKeys s u)) z));
+          keys = rw (not-lost s u (λ e. absurd (omega arith)), own) (parts-good (byte s 5) (byte s 6) u (dataKeys s u) f (data-zero s u (fillOf (byte s 5) (dataKeys s u)) z));
           lists = λ e r l.
               sym (eqb-true _ _ (all-true (byte s 5) (λ r. eqb (dataKeys s u r) (columnKeys s u r)) (or-other (unkept s (u / 4)) _ e c) r l))
               ∙ sym (ap (λ f. f r) own);
@@ -196,7 +163,7 @@ module _ (s : List ℕ) (ok : Ranged s) (u : ℕ) (low : u < 16) where
     unit-served : Unit s u → served s u ≡ true
     unfolding served dataFill restZero sameKeys
     unit-served g =
-        let k = good-parts (byte s 5) (byte s 6) u (dataKeys s u) (rw (known-served s u state, own) at (g .keys)) in
+        let k = good-parts (byte s 5) (byte s 6) u (dataKeys s u) (rw (not-lost s u (λ e. absurd (omega arith)), own) at (g .keys)) in
         let n : ℕ = fillOf (byte s 5) (dataKeys s u) in
         let z : Zero s (slotAt (byte s 5) u 0 + slotBytes * n) (slotAt (byte s 5) u 0 + slotBytes * byte s 5) =
         zero-slots s u fits n (λ r l w.
@@ -229,7 +196,7 @@ module _ (s : List ℕ) (ok : Ranged s) (u : ℕ) (low : u < 16) where
         let n : ℕ = reached (byte s 5) (byte s 6) u (columnKeys s u) in
         record {
           zero = blank z;
-          keys = rw (known-out s u state, listed) (once (unkept s (u / 4)) _ (λ e.
+          keys = rw (lost-out s u state, listed) (or-else (unkept s (u / 4)) _ (λ e.
               let both = or-other (unkept s (u / 4)) _ e k in
               let f = reached-front (byte s 5) (byte s 6) u (columnKeys s u) (and-first (leb n 64) _ both) in
               parts-good (byte s 5) (byte s 6) u (columnKeys s u) f
@@ -243,7 +210,7 @@ module _ (s : List ℕ) (ok : Ranged s) (u : ℕ) (low : u < 16) where
         and-true
         (unblank (λ e. absurd (omega arith)) g)
         (or-else (unkept s (u / 4)) _ (λ e.
-        let k = good-parts (byte s 5) (byte s 6) u (columnKeys s u) (rw (known-out s u state, listed, e) at (g .keys)) in
+        let k = good-parts (byte s 5) (byte s 6) u (columnKeys s u) (rw (lost-out s u state, listed, e) at (g .keys)) in
         and-true
         (front-reached (byte s 5) (byte s 6) u (columnKeys s u) (ok .few) (k .0))
         (rw (reached-fill (byte s 5) (byte s 6) u (columnKeys s u) (k .0)) (no-keys-holds _ (byte s 5) (columnKeys s u) (k .1)))))
@@ -267,6 +234,9 @@ module _ (s : List ℕ) (ok : Ranged s) (u : ℕ) (low : u < 16) where
     none : (λ r. keyOf (listedKey (view s) u r)) ≡ dataKeys s u
     none = listed-own s u (λ e. absurd (omega arith))
 
+    keyless : unitZero s u ≡ true → (r : ℕ) → r < byte s 5 → dataKeys s u r ≡ 0
+    keyless z r l = data-zero s u 0 (whole z) r (omega arith) l
+
     absent-unit : absent s u ≡ true → Unit s u
     unfolding absent
     absent-unit h =
@@ -274,10 +244,10 @@ module _ (s : List ℕ) (ok : Ranged s) (u : ℕ) (low : u < 16) where
         let k = and-second (unitZero s u) _ h in
         record {
           zero = blank z;
-          keys = rw (known-absent s u state);
+          keys = rw (not-lost s u (λ e. absurd (omega arith)), none) (no-keys-good (byte s 5) (byte s 6) u (dataKeys s u) (keyless z));
           lists = λ e r l.
               no-keys-true 0 (byte s 5) (columnKeys s u) (or-other (unkept s (u / 4)) _ e k) r (omega arith) l
-              ∙ sym (ap (λ f. f r) none ∙ data-zero s u 0 (whole z) r (omega arith) l);
+              ∙ sym (ap (λ f. f r) none ∙ keyless z r l);
         }
 
     unit-absent : Unit s u → absent s u ≡ true
@@ -285,13 +255,13 @@ module _ (s : List ℕ) (ok : Ranged s) (u : ℕ) (low : u < 16) where
     unit-absent g =
         let z = unblank (λ e. absurd (omega arith)) g in
         and-true z (or-else (unkept s (u / 4)) _ (λ e.
-        no-keys-holds 0 (byte s 5) (columnKeys s u) (λ r _ l. g .lists e r l ∙ ap (λ f. f r) none ∙ data-zero s u 0 (whole z) r (omega arith) l)))
+        no-keys-holds 0 (byte s 5) (columnKeys s u) (λ r _ l. g .lists e r l ∙ ap (λ f. f r) none ∙ keyless z r l)))
 
     absent-fill : absent s u ≡ true → 0 ≡ knownFill (view s) u
     unfolding absent
     absent-fill h =
         let z = and-first (unitZero s u) _ h in
-        sym (no-fill (byte s 5) (dataKeys s u) (λ r l. data-zero s u 0 (whole z) r (omega arith) l))
+        sym (no-fill (byte s 5) (dataKeys s u) (keyless z))
         ∙ fill-known s u (not-lost s u (λ e. absurd (omega arith))) none
 
   -- ---- by the unit's state

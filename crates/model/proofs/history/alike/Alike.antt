@@ -1,32 +1,31 @@
 -- Two stores are alike where they differ in the fields of records and in parity bytes alone: header, states, keys and key lists are the same, and so
 -- are slots without a record and check units that are not in service. Then what the calls read of states and keys is the same, and the parts that
 -- their bytes show are alike again. Assumes nothing.
-use Prim.Native.Nat.{ℕ, _+_, _*_, _-_, _/_, _%_, _<_}
+use Prim.Native.Nat.{ℕ, _+_, _*_, _-_, _<_}
 use mathlib.Core.Path.{_≡_, refl, sym, ap, ap₂, _∙_}
 use mathlib.Core.List.{List}
-use mathlib.Core.Bool.{Bool, true, false, not, _&&_, _||_}
+use mathlib.Core.Bool.{Bool, true, false}
 use native.Mathlib.Omega.{arith}
 use native.Mathlib.Nat.{zero-add}
-use lib.Dec.{eqb, ltb, leb}
+use lib.Dec.{eqb, ltb}
 use lib.ListN.{length, take}
 use borrow.Author.Tests.{ltb-true, ltb-false}
 use Rattle.buffer.specs.Choice.{pick}
-use Rattle.buffer.specs.ChoiceLaws.{pick-ext}
-use Rattle.buffer.specs.TestLaws.{not-both, or-ext}
-use Rattle.buffer.specs.Range.{all, count, first}
-use Rattle.buffer.specs.RangeLaws.{all-ext, first-ext, count-ext, count-zero}
+use Rattle.buffer.specs.ChoiceLaws.{by-test, pick-ext}
+use Rattle.buffer.specs.TestLaws.{not-both}
+use Rattle.buffer.specs.Range.{first}
+use Rattle.buffer.specs.RangeLaws.{first-ext, count-ext}
 use Rattle.buffer.specs.Bytes.{byte, zeros, part}
 use Rattle.buffer.specs.ByteLaws.{length-zeros}
 use Rattle.buffer.specs.SpliceLaws.{part-part}
 use Rattle.group.specs.Widths.{keyBytes, keysBytes, slotBytes, checkBytes}
-use Rattle.group.specs.Members.{outs, checksServing, rebuildable}
+use Rattle.group.specs.Members.{outs}
 use Rattle.model.specs.Units.{unitOf}
 use Rattle.model.specs.Layout.{Store, bytes, view, unitsIn, levelIn, keyOf}
 use Rattle.model.specs.LayoutLaws.{Shaped, Same, view-bytes, key-first}
-use Rattle.model.specs.Reads.{homeIn, fillIn, rankIn, stateIn, outsIn, unitsOutIn, firstCheck, listedKey, listedFill}
-use Rattle.model.specs.Reads.{missingIn, rebuildableIn, keysLostIn, beyondIn}
-use Rattle.model.specs.ReadLaws.{fill-le}
-use Rattle.model.specs.LossLaws.{unit-keys-kept, first-check-found}
+use Rattle.model.specs.Reads.{homeIn, fillIn, rankIn, stateIn, outsIn, unitsOutIn, listedKey, listedFill, keysLostIn}
+use Rattle.model.specs.ReadLaws.{fill-le, own-bytes}
+use Rattle.model.specs.SameLosses.{SameLists, key-same}
 
 -- two slots with one key; an empty slot is the same
 pub record LikeSlot (x y : List ℕ) : Type 0 where
@@ -161,16 +160,11 @@ module _ (v w : Store) (a : Alike v w) where
       pick-ext (ltb n 16) (v .dstate n) (v .cstate (n - 16)) (w .dstate n) (w .cstate (n - 16))
       (λ e. a .dstate n (ltb-true n 16 e)) (λ e. a .cstate (n - 16) (omega (arith, ltb-false n 16 e)))
 
-  -- a test of the states of a group's data units, and of its check units, by place
-  data-states : (f : ℕ → Bool) (g : ℕ) → g < 4 → (p : ℕ) → p < 4 → f (v .dstate (4 * g + p)) ≡ f (w .dstate (4 * g + p))
-  data-states f g l p m = ap f (a .dstate (4 * g + p) (omega arith))
-
-  pub check-states : (f : ℕ → Bool) (g : ℕ) → g < 4 → (j : ℕ) → j < 3 → f (v .cstate (3 * g + j)) ≡ f (w .cstate (3 * g + j))
-  check-states f g l j m = ap f (a .cstate (3 * g + j) (omega arith))
-
   pub outs-alike : (g : ℕ) → g < 4 → outsIn v g ≡ outsIn w g
   unfolding outsIn outs
-  outs-alike g l = ap₂ (λ (m n : ℕ). m + n) (count-ext 4 _ _ (data-states (λ n. eqb n 2) g l)) (count-ext 3 _ _ (check-states (λ n. eqb n 2) g l))
+  outs-alike g l = ap₂ (λ (m n : ℕ). m + n)
+      (count-ext 4 _ _ (λ p m. ap (λ (n : ℕ). eqb n 2) (a .dstate (4 * g + p) (omega arith))))
+      (count-ext 3 _ _ (λ j m. ap (λ (n : ℕ). eqb n 2) (a .cstate (3 * g + j) (omega arith))))
 
   pub units-out-alike : unitsOutIn v ≡ unitsOutIn w
   unfolding unitsOutIn
@@ -191,81 +185,23 @@ module _ (v w : Store) (a : Alike v w) where
       (λ r m. ap (λ (n : ℕ). eqb n k) (key-like (a .slot u r l (omega (arith, fill-le v u)))))
       ∙ ap (λ (n : ℕ). first n (λ r. eqb (keyOf (w .slot u r)) k)) (fill-alike u l)
 
-  -- the first check unit in service of a group that has one
-  abbrev pub Served : ℕ → Type 0
-  Served g = first 3 (λ j. eqb (v .cstate (3 * g + j)) 1) < 3
+  -- check records list the same keys, so the same is lost; and a unit whose keys are not lost has the same
+  pub lists-alike : SameLists v w
+  lists-alike = record {
+    size = sym (a .size);
+    dstate = λ u l. sym (a .dstate u l);
+    cstate = λ c l. sym (a .cstate c l);
+    listed = λ c r l m p q. sym (listed-like (a .check c r l m) p q);
+  }
 
-  first-check-alike : (g : ℕ) → g < 4 → firstCheck v g ≡ firstCheck w g
-  unfolding firstCheck
-  first-check-alike g l = ap (λ (n : ℕ). 3 * g + n) (first-ext 3 _ _ (check-states (λ n. eqb n 1) g l))
-
-  pub first-check-low : (g : ℕ) → g < 4 → Served g → firstCheck v g < 12
-  unfolding firstCheck
-  first-check-low g l h = omega arith
-
-  -- the listed keys of a unit, where it is not out or a check unit of its group is in service
-  module _ (u : ℕ) (hu : u < 16) (known : eqb (v .dstate u) 2 ≡ true → Served (u / 4)) where
-    kept-alike : (r : ℕ) → r < v .size → Served (u / 4)
-        → part (keyBytes * (u % 4)) keyBytes (v .check (firstCheck v (u / 4)) r) ≡ part (keyBytes * (u % 4)) keyBytes (w .check (firstCheck w (u / 4)) r)
-    kept-alike r m h =
-        listed-like (a .check (firstCheck v (u / 4)) r (first-check-low (u / 4) (omega arith) h) m) (u % 4) (omega arith)
-        ∙ ap (λ (c : ℕ). part (keyBytes * (u % 4)) keyBytes (w .check c r)) (first-check-alike (u / 4) (omega arith))
-
+  module _ (u : ℕ) (hu : u < 16) (kept : keysLostIn v u ≡ false) where
     pub listed-alike : (r : ℕ) → r < v .size → listedKey v u r ≡ listedKey w u r
-    unfolding listedKey
     listed-alike r m =
-        pick-ext (eqb (v .dstate u) 2)
-        (part (keyBytes * (u % 4)) keyBytes (v .check (firstCheck v (u / 4)) r)) (take keyBytes (v .slot u r))
-        (part (keyBytes * (u % 4)) keyBytes (w .check (firstCheck w (u / 4)) r)) (take keyBytes (w .slot u r))
-        (λ e. kept-alike r m (known e)) (λ e. a .slot u r hu m .key)
-        ∙ ap (λ (n : ℕ). pick (eqb n 2) (part (keyBytes * (u % 4)) keyBytes (w .check (firstCheck w (u / 4)) r)) (take keyBytes (w .slot u r))) (a .dstate u hu)
+        by-test (λ _. listedKey v u r ≡ listedKey w u r) (eqb (v .dstate u) 2) (λ out. sym (key-same v w lists-alike u hu kept out r m))
+        (λ on. own-bytes v u on r ∙ a .slot u r hu m .key ∙ sym (own-bytes w u (ap (λ (n : ℕ). eqb n 2) (sym (a .dstate u hu)) ∙ on) r))
 
     pub listed-fill-alike : listedFill v u ≡ listedFill w u
     unfolding listedFill
     listed-fill-alike =
         first-ext (v .size) _ _ (λ r m. ap (λ (x : List ℕ). eqb (keyOf x) 0) (listed-alike r m))
         ∙ ap (λ (n : ℕ). first n (λ r. eqb (keyOf (listedKey w u r)) 0)) (a .size)
-
-    pub missing-alike : (r : ℕ) → missingIn v u r ≡ missingIn w u r
-    unfolding missingIn
-    missing-alike r = ap₂ (λ (n f : ℕ). eqb n 2 && ltb r f) (a .dstate u hu) listed-fill-alike
-
-  -- ---- losses
-
-  checks-serving-alike : (g : ℕ) → g < 4 → checksServing (λ j. v .cstate (3 * g + j)) ≡ checksServing (λ j. w .cstate (3 * g + j))
-  unfolding checksServing
-  checks-serving-alike g l = count-ext 3 _ _ (check-states (λ n. eqb n 1) g l)
-
-  keys-lost-alike : (u : ℕ) → u < 16 → keysLostIn v u ≡ keysLostIn w u
-  unfolding keysLostIn
-  keys-lost-alike u l = ap₂ (λ (n k : ℕ). eqb n 2 && eqb k 0) (a .dstate u l) (checks-serving-alike (u / 4) (omega arith))
-
-  -- a check unit lists the keys of a unit that is out, where they are not lost
-  served : (u : ℕ) → keysLostIn v u ≡ false → eqb (v .dstate u) 2 ≡ true → Served (u / 4)
-  unfolding firstCheck
-  served u e o = omega (arith, first-check-found v u e o)
-
-  -- and so where its group is not beyond recovery
-  pub near-served : (g : ℕ) → beyondIn v g ≡ false → (u : ℕ) → u / 4 ≡ g → eqb (v .dstate u) 2 ≡ true → Served (u / 4)
-  near-served g nb u d = served u (unit-keys-kept v u (ap (beyondIn v) d ∙ nb))
-
-  pub rebuildable-alike : (g : ℕ) → g < 4 → ((p : ℕ) → p < 4 → eqb (v .dstate (4 * g + p)) 2 ≡ true → Served ((4 * g + p) / 4))
-      → (r : ℕ) → rebuildableIn v g r ≡ rebuildableIn w g r
-  unfolding rebuildableIn rebuildable
-  rebuildable-alike g l k r =
-      ap₂ leb
-      (count-ext 4 (λ p. missingIn v (4 * g + p) r) (λ p. missingIn w (4 * g + p) r) (λ p m. missing-alike (4 * g + p) (omega arith) (k p m) r))
-      (checks-serving-alike g l)
-
-  pub beyond-alike : (g : ℕ) → g < 4 → beyondIn v g ≡ beyondIn w g
-  unfolding beyondIn
-  beyond-alike g l =
-      or-ext (ltb 0 n) _ _ (λ e. ap not
-      (all-ext (v .size) (rebuildableIn v g) (rebuildableIn w g) (λ r _. rebuildable-alike g l
-      (λ p m. served (4 * g + p) (count-zero 4 (λ p. keysLostIn v (4 * g + p)) (omega (arith, ltb-false 0 n e)) p m)) r)
-      ∙ ap (λ (m : ℕ). all m (rebuildableIn w g)) (a .size)))
-      ∙ ap (λ (m : ℕ). ltb 0 m || not (all (w .size) (rebuildableIn w g)))
-      (count-ext 4 (λ p. keysLostIn v (4 * g + p)) (λ p. keysLostIn w (4 * g + p)) (λ p m. keys-lost-alike (4 * g + p) (omega arith)))
-    where
-      n : ℕ
-      n = count 4 (λ p. keysLostIn v (4 * g + p))

@@ -3,7 +3,7 @@
 use Prim.Native.Nat.{ℕ, _+_, _*_, _/_, _%_, _≤_, _<_}
 use mathlib.Core.Path.{_≡_, refl, sym, ap, _∙_}
 use mathlib.Core.List.{List, [], _∷_, _++_}
-use mathlib.Core.Bool.{Bool, true, false, not, _&&_, _||_}
+use mathlib.Core.Bool.{Bool, true, false, not, _&&_}
 use native.Mathlib.Omega.{arith}
 use lib.Dec.{eqb, ltb}
 use lib.ListN.{length, take, drop, getD}
@@ -12,7 +12,6 @@ use borrow.Author.Tests.{eqb-true, ltb-true, ltb-false}
 use Rattle.buffer.specs.ChoiceLaws.{by-test, pick-true}
 use Rattle.buffer.specs.TestLaws.{not-both, and-true, and-first, and-second, and-false-first}
 use Rattle.buffer.specs.Range.{first}
-use Rattle.buffer.specs.RangeLaws.{all-fails}
 use Rattle.buffer.specs.Bytes.{byte, bytes32, zeros, part}
 use Rattle.buffer.specs.ByteLaws.{bytes32-be32, be32-zeros}
 use Rattle.buffer.specs.SpliceLaws.{length-part, part-whole}
@@ -25,8 +24,9 @@ use Rattle.model.specs.Layout.{Store, view, storeBytes, slotAt, checkAt,
 use Rattle.model.specs.LayoutLaws.{Shaped, view-shaped, key-first}
 use Rattle.model.specs.Reads.{fillIn, listedKey, listedFill}
 use Rattle.model.specs.ReadLaws.{fill-key, own-bytes, own-key, own-fill}
-use Rattle.model.specs.Sound.{keysKnown, sound}
-use Rattle.model.specs.SoundSays.{Ranged, ranged, Stateful, fits-placed, fits-absent, by-fitting, data-states, zero-slot, zero-check, listed-past, lists}
+use Rattle.model.specs.LossLaws.{kept-keys, served-keys}
+use Rattle.model.specs.Sound.{sound}
+use Rattle.model.specs.SoundSays.{Ranged, ranged, Stateful, fits-absent, by-fitting, data-states, zero-slot, zero-check, listed-past, lists}
 use Rattle.model.specs.history.Ledger.{Rec, Ledger, empty, recordAt, state}
 use Rattle.model.specs.history.Picture.{recordBytes, pictureSlot, checkOver, pictureCheck, image}
 use Rattle.model.specs.history.Typed.{Bytes}
@@ -36,7 +36,7 @@ use Rattle.model.proofs.history.picture.Picture.{image-shaped, slot-on,
 use Rattle.model.proofs.history.picture.Seen.{past}
 use Rattle.model.proofs.history.alike.Alike.{LikeSlot, LikeCheck, Alike, slot-refl, listed-first}
 use Rattle.model.proofs.history.alike.LedgerOf.{keyRecord, listedRecords, readable, ledgerOf, bytes-part, length-listed, listed-record, dstate-shown}
-use Rattle.model.proofs.history.alike.LedgerOf.{cstate-shown, ledger-valid}
+use Rattle.model.proofs.history.alike.LedgerOf.{cstate-shown, kept, ledger-valid}
 
 -- ---- the header
 
@@ -74,11 +74,6 @@ keys-apart x e =
 
 slot-same : (x y : List ℕ) → x ≡ y → length x ≡ slotBytes → LikeSlot x y
 slot-same x y e l = rw (← e) (slot-refl x l)
-
--- a unit in place with a check unit in service beside it has known keys
-known-of : (x y n : Bool) → (x || y) ≡ true → n ≡ true → (x || y && n) ≡ true
-known-of true y n e f = refl
-known-of false y n e f = and-true e f
 
 placed-of : (p : Bool) (n : ℕ) → Stateful p n → eqb n 1 ≡ true → p ≡ true
 placed-of p n e = by-fitting (λ p n. eqb n 1 ≡ true → p ≡ true) p n e (λ _. refl) (λ _. refl) (λ q. not-both q refl)
@@ -130,7 +125,7 @@ module _ (s : List ℕ) (b : Bytes s) (h : sound s ≡ true) where
       by-test (λ (t : Bool). recordAt l u r .key ≡ keyOf (listedKey v u r)) (ltb r (listedFill v u))
       (λ q. ap (λ (x : Rec). x .key) (record-listed u r e (ltb-true r (listedFill v u) q)))
       (λ q. ap (λ (x : Rec). x .key) (past l u r (omega (arith, records-long u e, ltb-false r (listedFill v u) q)))
-      ∙ sym (listed-past s h u a (and-second (ltb u (unitsIn v)) (keysKnown v u) e) r m q))
+      ∙ sym (listed-past s h u a (kept s b h u e) r m q))
 
   -- ---- a unit in service
 
@@ -142,8 +137,7 @@ module _ (s : List ℕ) (b : Bytes s) (h : sound s ≡ true) where
     not-out = ap (λ (n : ℕ). eqb n 2) serving
 
     read : readable v u ≡ true
-    unfolding keysKnown
-    read = and-true (placed-of (ltb u (unitsIn v)) (v .dstate u) (data-states s h u hu) on) (rw on)
+    read = and-true (placed-of (ltb u (unitsIn v)) (v .dstate u) (data-states s h u hu) on) (ap not (kept-keys v u not-out))
 
     shown : (r : ℕ) → pictureSlot l u r ≡ recordBytes (recordAt l u r)
     shown r = slot-on l u r (ap (λ (n : ℕ). eqb n 1) (dstate-shown s b h u hu) ∙ on)
@@ -197,13 +191,7 @@ module _ (s : List ℕ) (b : Bytes s) (h : sound s ≡ true) where
   module _ (c : ℕ) (hc : c < 12) (on : eqb (v .cstate c) 1 ≡ true) (r : ℕ) (hr : r < v .size) where
     -- the keys at the four places, by a data unit in place and by one that is not
     in-place : (p : ℕ) → p < 4 → ltb (4 * (c / 3) + p) (unitsIn v) ≡ true → readable v (4 * (c / 3) + p) ≡ true
-    unfolding keysKnown
-    in-place p a e =
-        let u : ℕ = 4 * (c / 3) + p in
-        let k : 3 * (u / 4) + c % 3 ≡ c = omega arith in
-        and-true e (known-of (eqb (v .dstate u) 1) (eqb (v .dstate u) 2) _
-        (fits-placed (v .dstate u) (data-states s h u (omega arith)) e)
-        (ap not (all-fails 3 (λ j. not (eqb (v .cstate (3 * (u / 4) + j)) 1)) (c % 3) (omega arith) (ap (λ (n : ℕ). not (eqb (v .cstate n) 1)) k ∙ ap not on))))
+    in-place p a e = and-true e (ap not (served-keys v c p a on))
 
     not-in-place : (p : ℕ) → p < 4 → ltb (4 * (c / 3) + p) (unitsIn v) ≡ false → recordAt l (4 * (c / 3) + p) r .key ≡ keyOf (listedKey v (4 * (c / 3) + p) r)
     unfolding keyOf empty

@@ -3,7 +3,7 @@ use Prim.Native.Nat.{ℕ, _+_, _*_, _-_, _/_, _%_, _≤_, _<_}
 use mathlib.Core.Path.{_≡_, refl, ap, _∙_}
 use mathlib.Core.Logic.{_≢_}
 use mathlib.Core.List.{List, [], map}
-use mathlib.Core.Bool.{Bool, true, false, _&&_}
+use mathlib.Core.Bool.{Bool, true, false, not, _&&_}
 use native.Mathlib.Omega.{arith}
 use native.Mathlib.Nat.{not-suc-le-zero}
 use lib.Dec.{eqb, ltb}
@@ -20,9 +20,9 @@ use Rattle.group.specs.Widths.{keyBytes, fieldBytes, slotBytes, checkBytes}
 use Rattle.group.specs.BodyLaws.{zeros-is}
 use Rattle.model.specs.Units.{unitOf}
 use Rattle.model.specs.Layout.{Store, view, slotAt, checkAt, unitsIn, levelIn, keyOf}
-use Rattle.model.specs.Reads.{stateIn, firstCheck, listedKey, listedFill}
+use Rattle.model.specs.Reads.{stateIn, firstCheck, listedKey, listedFill, keysLostIn}
 use Rattle.model.specs.ReadLaws.{listed-le, listed-some}
-use Rattle.model.specs.Sound.{checkPlaced, keysKnown, sound}
+use Rattle.model.specs.Sound.{checkPlaced, sound}
 use Rattle.model.specs.SoundSays.{ranged, units-some, units-few, level-some, level-few, Stateful, fits-absent, by-fitting, data-states, check-states}
 use Rattle.model.specs.SoundSays.{listed-own, listed-differ}
 use Rattle.model.specs.history.Ledger.{Rec, Ledger, empty, recordAt, placed, state}
@@ -38,11 +38,11 @@ keyRecord k = record { key = k; field = zeros fieldBytes }
 unfoldable pub listedRecords : Store → ℕ → List Rec
 listedRecords v u = map keyRecord (entries (listedFill v u) (λ r. keyOf (listedKey v u r)))
 
--- the keys of a unit in place are known
+-- a unit in place whose keys are not lost
 abbrev pub readable : Store → ℕ → Bool
-readable v u = ltb u (unitsIn v) && keysKnown v u
+readable v u = ltb u (unitsIn v) && not (keysLostIn v u)
 
--- a unit whose keys are not known counts as one without records
+-- a unit whose keys are lost counts as one without records
 unfoldable pub ledgerOf : Store → Ledger
 ledgerOf v = record {
   size = v .size;
@@ -162,12 +162,12 @@ module _ (s : List ℕ) (b : Bytes s) (h : sound s ≡ true) where
   -- ---- records
 
   unit-low : (u : ℕ) → readable v u ≡ true → u < 16
-  unit-low u e = omega (arith, ltb-true u (unitsIn v) (and-first (ltb u (unitsIn v)) (keysKnown v u) e), units-few s h)
+  unit-low u e = omega (arith, ltb-true u (unitsIn v) (and-first (ltb u (unitsIn v)) _ e), units-few s h)
 
-  known : (u : ℕ) → readable v u ≡ true → keysKnown v u ≡ true
-  known u e = and-second (ltb u (unitsIn v)) (keysKnown v u) e
+  pub kept : (u : ℕ) → readable v u ≡ true → keysLostIn v u ≡ false
+  kept u e = not-true (keysLostIn v u) (and-second (ltb u (unitsIn v)) _ e)
 
-  -- what holds of the records of a unit whose keys are known, and of no record
+  -- what holds of the records of a unit whose keys are not lost, and of no record
   by-records {ℓ} : (P : List Rec → Type ℓ) (u : ℕ) → (readable v u ≡ true → P (listedRecords v u)) → P [] → P (l .records u)
   unfolding ledgerOf
   by-records P u k z = by-pick P (readable v u) (listedRecords v u) [] k (λ _. z)
@@ -210,14 +210,14 @@ module _ (s : List ℕ) (b : Bytes s) (h : sound s ≡ true) where
     keyed = λ u r. by-records (λ (xs : List Rec). r < length xs → getD xs r empty .key ≢ 0) u
         (λ _ a. rw (key-at u r a) (listed-some v u r (at-listed u r a))) (λ a. absurd (not-suc-le-zero a));
     own = λ u r. by-records (λ (xs : List Rec). r < length xs → unitOf (unitsIn v) (getD xs r empty .key) ≡ u) u
-        (λ e a. rw (key-at u r a) (listed-own s h u (unit-low u e) (known u e) r (omega (arith, at-listed u r a, listed-le v u))
+        (λ e a. rw (key-at u r a) (listed-own s h u (unit-low u e) (kept u e) r (omega (arith, at-listed u r a, listed-le v u))
         (lt-ltb r (listedFill v u) (at-listed u r a))))
         (λ a. absurd (not-suc-le-zero a));
     differ = λ u r q i. by-records (λ (xs : List Rec). q < length xs → getD xs r empty .key ≢ getD xs q empty .key) u
         (λ e a. rw (key-at u r (omega arith), key-at u q a)
         (eqb-false (keyOf (listedKey v u r)) (keyOf (listedKey v u q)) (not-true (eqb (keyOf (listedKey v u r)) (keyOf (listedKey v u q)))
-        (listed-differ s h u (unit-low u e) (known u e) r q i (omega (arith, at-listed u q a, listed-le v u)) (lt-ltb q (listedFill v u) (at-listed u q a))))))
+        (listed-differ s h u (unit-low u e) (kept u e) r q i (omega (arith, at-listed u q a, listed-le v u)) (lt-ltb q (listedFill v u) (at-listed u q a))))))
         (λ a. absurd (not-suc-le-zero a));
-    none = λ u a. pick-false (and-false-first (le-ltb u (unitsIn v) a) (keysKnown v u)) (listedRecords v u) [];
+    none = λ u a. pick-false (and-false-first (le-ltb u (unitsIn v) a) _) (listedRecords v u) [];
     calm = out-calm;
   }

@@ -1,6 +1,6 @@
 -- On alike stores the calls that change a store get the same numbers: the rows of the table look at states and keys alone. Assumes nothing.
 use Prim.Native.Nat.{ℕ, pred, _+_, _*_, _/_, _≤_, _<_}
-use mathlib.Core.Path.{_≡_, refl, ap, ap₂, _∙_}
+use mathlib.Core.Path.{_≡_, refl, sym, ap, ap₂, _∙_}
 use mathlib.Core.List.{List}
 use mathlib.Core.Bool.{Bool, false, not}
 use native.Mathlib.Omega.{arith}
@@ -10,9 +10,10 @@ use Rattle.model.specs.Units.{splitPointer}
 use Rattle.model.specs.UnitLaws.{split-below, unit-below}
 use Rattle.model.specs.Layout.{Store, unitsIn}
 use Rattle.model.specs.Reads.{homeIn, fillIn, rankIn, outsIn, stateIn}
+use Rattle.model.specs.SameLosses.{beyond-same}
 use Rattle.model.specs.Numbers.{teach, correct, erase, unitOut, repair, grow, shrink, raise, refusalsIn}
 use Rattle.model.specs.RowLaws.{Agree, row}
-use Rattle.model.proofs.history.alike.Alike.{Alike, units-alike, level-alike, home-alike, state-alike, outs-alike, units-out-alike, beyond-alike}
+use Rattle.model.proofs.history.alike.Alike.{Alike, units-alike, level-alike, home-alike, state-alike, outs-alike, units-out-alike, lists-alike}
 use Rattle.model.proofs.history.alike.Alike.{fill-alike, rank-alike}
 
 module _ (v w : Store) (a : Alike v w) (some : 1 ≤ unitsIn v) (few : unitsIn v ≤ 16) where
@@ -75,7 +76,7 @@ module _ (v w : Store) (a : Alike v w) (some : 1 ≤ unitsIn v) (few : unitsIn v
     unfolding refusalsIn
     repair-rows g =
         row refl (λ q. row (ap not e) (λ _. row (ap (λ (m : ℕ). leb m (4 * g)) (units-alike v w a)) (λ _.
-        row (beyond-alike v w a g (omega (arith, ltb-false 3 g q))) (λ _. tt))))
+        row (sym (beyond-same v w (lists-alike v w a) g (omega (arith, ltb-false 3 g q)))) (λ _. tt))))
 
     pub grow-rows : Agree (refusalsIn o v grow) (refusalsIn p w grow)
     unfolding refusalsIn

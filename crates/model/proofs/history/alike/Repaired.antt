@@ -23,12 +23,12 @@ use Rattle.group.specs.CheckRecord.{checkRecord}
 use Rattle.group.specs.CheckRecordLaws.{length-body, length-checkRecord, checkRecord-keys}
 use Rattle.model.specs.Layout.{Store, keyOf}
 use Rattle.model.specs.LayoutLaws.{Shaped}
-use Rattle.model.specs.Reads.{firstCheck, listedKey, missingIn, servesIn, holds, wholeSlot, rebuildableIn, beyondIn}
+use Rattle.model.specs.Reads.{firstCheck, listedKey, missingIn, servesIn, holds, wholeSlot, rebuildableIn, keysLostIn, beyondIn}
 use Rattle.model.specs.ReadLaws.{listed-some}
-use Rattle.model.specs.LossLaws.{missing-out, missing-listed, rank-kept, four-serve}
+use Rattle.model.specs.LossLaws.{missing-out, missing-listed, keys-kept, unit-keys-kept, rank-kept, first-check-found, four-serve}
+use Rattle.model.specs.SameLosses.{missing-same, rebuildable-same}
 use Rattle.model.specs.Changes.{repaired}
-use Rattle.model.proofs.history.alike.Alike.{LikeSlot, LikeCheck, Alike, pick-both, left-shaped, right-shaped, first-check-low, idle-kept}
-use Rattle.model.proofs.history.alike.Alike.{listed-alike, missing-alike, near-served, rebuildable-alike}
+use Rattle.model.proofs.history.alike.Alike.{LikeSlot, LikeCheck, Alike, pick-both, left-shaped, right-shaped, idle-kept, lists-alike, listed-alike}
 
 -- check records made anew from alike slots
 pub anew-like : (j : ℕ) (f g : ℕ → List ℕ) → ((p : ℕ) → p < 4 → LikeSlot (f p) (g p)) → LikeCheck (checkRecord j f) (checkRecord j g)
@@ -81,11 +81,14 @@ joined-like k l x y e a b c d n = record {
 
 module _ (v w : Store) (a : Alike v w) (g : ℕ) (hg : g < 4) (nb : beyondIn v g ≡ false) where
   right-rank : (r : ℕ) → r < v .size → rebuildableIn w g r ≡ true
-  right-rank r l = sym (rebuildable-alike v w a g hg (λ p m. near-served v w a g nb (4 * g + p) (omega arith)) r) ∙ rank-kept v g nb r l
+  right-rank r l = rebuildable-same v w (lists-alike v w a) g hg (keys-kept v g nb) r ∙ rank-kept v g nb r l
 
   module _ (u r : ℕ) (hu : u < 16) (hr : r < v .size) (d : u / 4 ≡ g) where
+    kept : keysLostIn v u ≡ false
+    kept = unit-keys-kept v u (ap (beyondIn v) d ∙ nb)
+
     keys-same : listedKey v u r ≡ listedKey w u r
-    keys-same = listed-alike v w a u hu (near-served v w a g nb u d) r hr
+    keys-same = listed-alike v w a u hu kept r hr
 
     rebuilt-like : missingIn v u r ≡ true
         → LikeSlot (listedKey v u r ++ rebuilt (servesIn v (u / 4) r) (holds v (u / 4) r) (u % 4))
@@ -93,15 +96,14 @@ module _ (v w : Store) (a : Alike v w) (g : ℕ) (hg : g < 4) (nb : beyondIn v g
     rebuilt-like m =
         let e : eqb (v .dstate u) 2 ≡ true = missing-out v u r m in
         let n : keyOf (listedKey v u r) ≢ 0 = listed-some v u r (missing-listed v u r m) in
-        let lv : length (listedKey v u r) ≡ keyBytes =
-        length-listed v (left-shaped v w a) u r (first-check-low v w a (u / 4) (omega arith) (near-served v w a g nb u d e)) hr e in
+        let lv : length (listedKey v u r) ≡ keyBytes = length-listed v (left-shaped v w a) u r (omega (arith, first-check-found v u kept e)) hr e in
         rw d (joined-like (listedKey v u r) (listedKey w u r) _ _ keys-same lv (ap length (sym keys-same) ∙ lv)
         (length-rebuilt v (left-shaped v w a) g hg r hr (rank-kept v g nb r hr) (u % 4))
         (length-rebuilt w (right-shaped v w a) g hg r (omega (arith, a .size)) (right-rank r hr) (u % 4)) n)
 
     whole-like : LikeSlot (wholeSlot v u r) (wholeSlot w u r)
     unfolding wholeSlot
-    whole-like = rw (← (missing-alike v w a u hu (near-served v w a g nb u d) r))
+    whole-like = rw (missing-same v w (lists-alike v w a) u hu kept r)
         (pick-both LikeSlot (missingIn v u r) _ _ (v .slot u r) (w .slot u r) rebuilt-like (λ e. a .slot u r hu hr))
 
   pub repaired-alike : Alike (repaired v g) (repaired w g)

@@ -1,29 +1,29 @@
 -- What is sound stays sound in an alike store: no clause of soundness looks at the field of a record or at parity bytes. Assumes nothing.
-use Prim.Native.Nat.{ℕ, _+_, _*_, _/_, _%_, _<_}
+use Prim.Native.Nat.{ℕ, _+_, _*_, _/_, _<_}
 use mathlib.Core.Path.{_≡_, refl, sym, ap, ap₂, _∙_}
 use mathlib.Core.List.{List}
 use mathlib.Core.Bool.{Bool, true, false, not, _&&_, _||_}
 use native.Mathlib.Omega.{arith}
 use lib.Dec.{eqb, ltb}
 use lib.ListN.{length}
-use borrow.Author.Tests.{eqb-true, ltb-true, ltb-false}
 use Rattle.buffer.specs.Choice.{pick}
-use Rattle.buffer.specs.ChoiceLaws.{by-test}
-use Rattle.buffer.specs.TestLaws.{not-both, and-true}
-use Rattle.buffer.specs.Range.{all, first}
-use Rattle.buffer.specs.RangeLaws.{all-ext, all-holds, first-misses, first-le-at}
+use Rattle.buffer.specs.TestLaws.{and-true, or-ext}
+use Rattle.buffer.specs.Range.{all}
+use Rattle.buffer.specs.RangeLaws.{all-ext, all-holds}
 use Rattle.buffer.specs.Bytes.{byte, be32, zeros}
 use Rattle.buffer.specs.ByteLaws.{be32-ext, be32-zeros}
 use Rattle.group.specs.Widths.{slotBytes, checkBytes}
 use Rattle.model.specs.Units.{unitOf}
 use Rattle.model.specs.Layout.{Store, bytes, view, storeBytes, unitsIn, keyOf}
 use Rattle.model.specs.LayoutLaws.{byte-front, length-bytes}
-use Rattle.model.specs.Reads.{fillIn, listedKey, listedFill}
-use Rattle.model.specs.Sound.{same, ranges, unitsPlaced, checksPlaced, zeroed, keysKnown, keysPlaced, listsAgree, sound}
+use Rattle.model.specs.Reads.{fillIn, listedKey, listedFill, keysLostIn}
+use Rattle.model.specs.LossLaws.{served-keys}
+use Rattle.model.specs.SameLosses.{keys-lost-same}
+use Rattle.model.specs.Sound.{same, ranges, unitsPlaced, checksPlaced, zeroed, keysPlaced, listsAgree, sound}
 use Rattle.model.specs.SoundLaws.{same-true}
 use Rattle.model.specs.SoundSays.{slot-test, check-test, Zeroed, zeroed-says, clauses}
-use Rattle.model.proofs.history.alike.Alike.{Alike, left-shaped, right-shaped, seen-alike, units-alike, level-alike, check-states}
-use Rattle.model.proofs.history.alike.Alike.{fill-alike, Served, listed-like, listed-alike, listed-fill-alike}
+use Rattle.model.proofs.history.alike.Alike.{Alike, left-shaped, right-shaped, seen-alike, units-alike, level-alike, fill-alike, lists-alike}
+use Rattle.model.proofs.history.alike.Alike.{listed-like, listed-alike, listed-fill-alike}
 
 -- ---- tests
 
@@ -41,12 +41,6 @@ unless-ext k l x y e h = ap (λ t. not t || x) e ∙ go l (λ q. h (e ∙ q))
 -- tests over ranges of one length
 all-over : (n m : ℕ) (p q : ℕ → Bool) → n ≡ m → ((k : ℕ) → k < n → p k ≡ q k) → all n p ≡ all m q
 all-over n m p q e h = all-ext n p q h ∙ ap (λ (k : ℕ). all k q) e
-
--- where a test does not fail throughout, it holds at some place
-not-all-first : (n : ℕ) (f : ℕ → Bool) → not (all n (λ j. not (f j))) ≡ true → first n f < n
-not-all-first n f e =
-    by-test (λ (t : Bool). first n f < n) (ltb (first n f) n) (λ q. ltb-true (first n f) n q)
-    (λ q. not-both e (ap not (all-holds n (λ j. not (f j)) (λ k l. ap not (first-misses n f k (omega (arith, ltb-false (first n f) n q)))))))
 
 -- ---- the parts
 
@@ -83,19 +77,7 @@ module _ (v w : Store) (a : Alike v w) where
 
   -- ---- keys
 
-  known-same : (u : ℕ) → u < 16 → keysKnown v u ≡ keysKnown w u
-  unfolding keysKnown
-  known-same u l =
-      let off : ℕ → ℕ → Bool = λ i j. not (eqb (v .cstate (3 * i + j)) 1) in
-      rw (a .dstate u l, all-ext 3 (off (u / 4)) _ (check-states v w a (λ n. not (eqb n 1)) (u / 4) (omega arith)))
-
-  known-served : (u : ℕ) → keysKnown v u ≡ true → eqb (v .dstate u) 2 ≡ true → Served v w a (u / 4)
-  unfolding keysKnown
-  known-served u e d =
-      not-all-first 3 (λ j. eqb (v .cstate (3 * (u / 4) + j)) 1)
-      (rw (eqb-true (v .dstate u) 2 d) at e)
-
-  module _ (u : ℕ) (hu : u < 16) (known : eqb (v .dstate u) 2 ≡ true → Served v w a (u / 4)) where
+  module _ (u : ℕ) (hu : u < 16) (kept : keysLostIn v u ≡ false) where
     key-test : (r : ℕ) → r < v .size
         → pick (ltb r (listedFill v u))
         (eqb (unitOf (unitsIn v) (keyOf (listedKey v u r))) u && all r (λ q. not (eqb (keyOf (listedKey v u q)) (keyOf (listedKey v u r)))))
@@ -106,13 +88,13 @@ module _ (v w : Store) (a : Alike v w) where
     key-test r m =
         let others =
         all-ext r (λ q. not (eqb (keyOf (listedKey v u q)) (keyOf (listedKey v u r)))) (λ q. not (eqb (keyOf (listedKey w u q)) (keyOf (listedKey v u r))))
-        (λ q n. ap (λ (x : List ℕ). not (eqb (keyOf x) (keyOf (listedKey v u r)))) (listed-alike v w a u hu known q (omega arith))) in
-        rw (others, listed-alike v w a u hu known r m, listed-fill-alike v w a u hu known, units-alike v w a)
+        (λ q n. ap (λ (x : List ℕ). not (eqb (keyOf x) (keyOf (listedKey v u r)))) (listed-alike v w a u hu kept q (omega arith))) in
+        rw (others, listed-alike v w a u hu kept r m, listed-fill-alike v w a u hu kept, units-alike v w a)
 
   keys-placed : keysPlaced v ≡ keysPlaced w
   unfolding keysPlaced
-  keys-placed = all-ext 16 _ _ (λ u l. unless-ext (keysKnown v u) (keysKnown w u) _ _ (known-same u l) (λ e.
-      all-over (v .size) (w .size) _ _ (a .size) (λ r m. key-test u l (known-served u e) r m)))
+  keys-placed = all-ext 16 _ _ (λ u l. rw (keys-lost-same v w (lists-alike v w a) u l) (or-ext (keysLostIn v u) _ _ (λ e.
+      all-over (v .size) (w .size) _ _ (a .size) (λ r m. key-test u l e r m))))
 
   -- ---- the lists of the check units
 
@@ -121,13 +103,7 @@ module _ (v w : Store) (a : Alike v w) where
   lists-agree = all-ext 12 _ _ (λ c l. unless-ext (eqb (v .cstate c) 1) (eqb (w .cstate c) 1) _ _ (ap (λ (n : ℕ). eqb n 1) (a .cstate c l)) (λ e.
       all-over (v .size) (w .size) _ _ (a .size) (λ r m. all-ext 4 _ _ (λ p d. ap₂ eqb
       (ap keyOf (listed-like (a .check c r l m) p d))
-      (ap keyOf (listed-alike v w a (4 * (c / 3) + p) (omega arith) (λ _. served c l e p d) r m))))))
-    where
-      served : (c : ℕ) → c < 12 → eqb (v .cstate c) 1 ≡ true → (p : ℕ) → p < 4 → Served v w a ((4 * (c / 3) + p) / 4)
-      served c l e p d =
-          let g : (4 * (c / 3) + p) / 4 ≡ c / 3 = omega arith in
-          let k : 3 * (c / 3) + c % 3 ≡ c = omega arith in
-          rw g (omega (arith, first-le-at 3 (λ j. eqb (v .cstate (3 * (c / 3) + j)) 1) (c % 3) (omega arith) (ap (λ (n : ℕ). eqb (v .cstate n) 1) k ∙ e)))
+      (ap keyOf (listed-alike v w a (4 * (c / 3) + p) (omega arith) (served-keys v c p d e) r m))))))
 
   -- ---- ranges
 

@@ -6,10 +6,8 @@ use mathlib.Core.Bool.{false}
 use native.Mathlib.Omega.{arith}
 use lib.Dec.{eqb}
 use lib.ListN.{length}
-use borrow.Author.Tests.{ltb-false}
 use Rattle.buffer.specs.Choice.{pick}
-use Rattle.buffer.specs.Range.{count}
-use Rattle.buffer.specs.RangeLaws.{count-zero, sum-ext}
+use Rattle.buffer.specs.RangeLaws.{none-counted, sum-ext}
 use Rattle.buffer.specs.Table.{tab}
 use Rattle.buffer.specs.TableLaws.{tab-ext}
 use Rattle.model.specs.Layout.{Store, view}
@@ -36,7 +34,7 @@ module _ (l : Ledger) (rest : List ℕ) (h : Valid l) where
   module _ (ok : lost l ≡ false) where
     group-near : (u : ℕ) → u < 16 → beyondOf l (u / 4) ≡ false
     unfolding lost
-    group-near u a = count-zero 4 (beyondOf l) (omega (arith, ltb-false 0 (count 4 (beyondOf l)) ok)) (u / 4) (omega arith)
+    group-near u a = none-counted 4 (beyondOf l) ok (u / 4) (omega arith)
 
     pub records-seen : SameRecords (view (picture l rest)) l
     records-seen = record {

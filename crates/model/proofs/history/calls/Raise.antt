@@ -7,11 +7,11 @@ use native.Mathlib.Omega.{arith}
 use native.Mathlib.Nat.{le-refl}
 use lib.Dec.{eqb, ltb}
 use lib.ListN.{set}
-use borrow.Author.Tests.{eq-eqb, eqb-true, eqb-false, ltb-true, ltb-false, le-ltb, lt-ltb, leb-false}
+use borrow.Author.Tests.{eq-eqb, eqb-true, eqb-false, ltb-true, le-ltb, lt-ltb, leb-false}
 use Rattle.buffer.specs.Choice.{pick}
 use Rattle.buffer.specs.ChoiceLaws.{by-pick}
 use Rattle.buffer.specs.TestLaws.{and-first, and-second, and-ext, and-false-second, ltb-suc}
-use Rattle.buffer.specs.RangeLaws.{count-zero}
+use Rattle.buffer.specs.RangeLaws.{none-counted}
 use Rattle.buffer.specs.Bytes.{byte, bytes32}
 use Rattle.group.specs.CheckRecord.{checkRecord}
 use Rattle.model.specs.Layout.{Store, view, bytes, frontOf, levelIn}
@@ -107,7 +107,7 @@ module _ (l : Ledger) (rest : List ℕ) (h : Valid l) where
   module _ (none : ltb 0 (unitsOut l) ≡ false) where
     not-out : (w : ℕ) → w < 28 → isOut l w ≡ false
     unfolding unitsOut
-    not-out w a = count-zero 28 (isOut l) (omega (arith, ltb-false 0 (unitsOut l) none)) w a
+    not-out w a = none-counted 28 (isOut l) none w a
 
     made : (c r : ℕ) → c < 12 → r < l .size → 4 * (c / 3) < l .units → c % 3 ≡ l .level
         → checkRecord (c % 3) (λ p. v .slot (4 * (c / 3) + p) r) ≡ pictureCheck next c r

@@ -10,7 +10,7 @@ use borrow.Author.Tests.{eqb-false, ltb-false, not-false}
 use Rattle.buffer.specs.ChoiceLaws.{by-test}
 use Rattle.buffer.specs.TestLaws.{and-first, and-ext, and-other, or-false-first, or-false-second, or-ext}
 use Rattle.buffer.specs.Range.{all, count}
-use Rattle.buffer.specs.RangeLaws.{all-ext, all-true, count-ext, count-zero}
+use Rattle.buffer.specs.RangeLaws.{all-ext, all-true, count-ext, none-counted}
 use Rattle.group.specs.Members.{checksServing, rebuildable}
 use Rattle.model.specs.Layout.{Store, view}
 use Rattle.model.specs.Reads.{listedFill, missingIn, rebuildableIn, keysLostIn, keyBeyondIn, beyondIn, lostIn}
@@ -38,9 +38,8 @@ module _ (l : Ledger) where
     unfolding beyondOf
     near-keys =
         let d : u ≡ 4 * (u / 4) + u % 4 = omega arith in
-        let n : ℕ = count 4 (λ p. keysLostOf l (4 * (u / 4) + p)) in
-        ap (keysLostOf l) d
-        ∙ count-zero 4 (λ p. keysLostOf l (4 * (u / 4) + p)) (omega (arith, ltb-false 0 n (or-false-first (ltb 0 n) _ nb))) (u % 4) (omega arith)
+        let lost : ℕ → Bool = λ p. keysLostOf l (4 * (u / 4) + p) in
+        ap (keysLostOf l) d ∙ none-counted 4 lost (or-false-first (ltb 0 (count 4 lost)) _ nb) (u % 4) (omega arith)
 
     pub near-rank : (r : ℕ) → r < l .size → rebuildableOf l (u / 4) r ≡ true
     unfolding beyondOf
@@ -57,7 +56,7 @@ module _ (l : Ledger) (rest : List ℕ) (h : Valid l) where
   checks-serving-seen g a = count-ext 3 (λ j. eqb (v .cstate (3 * g + j)) 1) (λ j. eqb (state l (16 + (3 * g + j))) 1)
       (λ j b. ap (λ (n : ℕ). eqb n 1) (cstate-is l rest h (3 * g + j) (omega arith)))
 
-  keys-lost-seen : (u : ℕ) → u < 16 → keysLostIn v u ≡ keysLostOf l u
+  pub keys-lost-seen : (u : ℕ) → u < 16 → keysLostIn v u ≡ keysLostOf l u
   unfolding keysLostIn keysLostOf
   keys-lost-seen u a = ap₂ (λ (s t : Bool). s && t) (dstate-out l rest h u a) (ap (λ (n : ℕ). eqb n 0) (checks-serving-seen (u / 4) (omega arith)))
 
@@ -102,13 +101,10 @@ module _ (l : Ledger) (rest : List ℕ) (h : Valid l) where
   beyond-seen g a =
       ap (λ (n : ℕ). ltb 0 n || not (all (v .size) (rebuildableIn v g)))
       (count-ext 4 (λ p. keysLostIn v (4 * g + p)) (λ p. keysLostOf l (4 * g + p)) (λ p b. keys-lost-seen (4 * g + p) (omega arith)))
-      ∙ or-ext (ltb 0 n) _ _ (λ e. ap not
+      ∙ or-ext (ltb 0 (count 4 (λ p. keysLostOf l (4 * g + p)))) _ _ (λ e. ap not
       (ap (λ (m : ℕ). all m (rebuildableIn v g)) (size-seen l rest h)
       ∙ all-ext (l .size) (rebuildableIn v g) (rebuildableOf l g) (λ r _. rebuildable-seen g a
-      (λ p b. known (4 * g + p) (omega arith) (count-zero 4 (λ p. keysLostOf l (4 * g + p)) (omega (arith, ltb-false 0 n e)) p b)) r)))
-    where
-      n : ℕ
-      n = count 4 (λ p. keysLostOf l (4 * g + p))
+      (λ p b. known (4 * g + p) (omega arith) (none-counted 4 (λ p. keysLostOf l (4 * g + p)) e p b)) r)))
 
   pub lost-seen : lostIn v ≡ lost l
   unfolding lostIn lost

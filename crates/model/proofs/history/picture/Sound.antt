@@ -1,26 +1,26 @@
 -- The picture of a valid ledger is sound, clause by clause. Assumes nothing.
-use Prim.Native.Nat.{ℕ, zero, suc, _+_, _*_, _/_, _%_, _≤_, _<_}
+use Prim.Native.Nat.{ℕ, _+_, _*_, _/_, _%_, _≤_, _<_}
 use mathlib.Core.Path.{_≡_, refl, sym, ap, _∙_, subst}
 use mathlib.Core.List.{List}
 use mathlib.Core.Bool.{Bool, true, false, _&&_, _||_, not}
 use native.Mathlib.Omega.{arith}
-use native.Mathlib.Nat.{le-refl, zero-lt-suc}
+use native.Mathlib.Nat.{le-refl}
 use lib.Dec.{eqb, ltb}
 use lib.ListN.{length}
 use borrow.Author.Tests.{eq-eqb, ne-eqb, eqb-true, ltb-true, ltb-false, le-leb}
 use Rattle.buffer.specs.Choice.{pick}
 use Rattle.buffer.specs.ChoiceLaws.{by-pick, by-test}
-use Rattle.buffer.specs.TestLaws.{and-true, or-else, not-both}
-use Rattle.buffer.specs.Range.{all, count}
-use Rattle.buffer.specs.RangeLaws.{all-holds, count-zero, count-pos}
+use Rattle.buffer.specs.TestLaws.{and-true, or-else}
+use Rattle.buffer.specs.Range.{all}
+use Rattle.buffer.specs.RangeLaws.{all-holds, count-pos}
 use Rattle.buffer.specs.Bytes.{byte, be32, bytes32, zeros, part}
 use Rattle.buffer.specs.ByteLaws.{be32-part, be32-bytes32}
 use Rattle.group.specs.Widths.{keyBytes, slotBytes, checkBytes}
 use Rattle.model.specs.Units.{unitOf}
 use Rattle.model.specs.Layout.{Store, view, version, storeBytes, keyOf, frontOf}
 use Rattle.model.specs.LayoutLaws.{Same, Shaped, byte-front, part-front}
-use Rattle.model.specs.Reads.{fillIn, listedKey, listedFill}
-use Rattle.model.specs.Sound.{ranges, unitsPlaced, checkPlaced, checksPlaced, zeroed, keysKnown, keysPlaced, listsAgree, sound}
+use Rattle.model.specs.Reads.{fillIn, listedKey, listedFill, keysLostIn}
+use Rattle.model.specs.Sound.{ranges, unitsPlaced, checkPlaced, checksPlaced, zeroed, keysPlaced, listsAgree, sound}
 use Rattle.model.specs.SoundLaws.{same-of}
 use Rattle.model.specs.history.Ledger.{Ledger, recordAt, isOut, state}
 use Rattle.model.specs.history.Picture.{recordBytes, pictureSlot, image, picture}
@@ -28,21 +28,15 @@ use Rattle.model.proofs.history.ledger.Valid.{Valid}
 use Rattle.model.proofs.history.ledger.States.{placed-unit, placed-check, state-fits}
 use Rattle.model.proofs.history.picture.Records.{empty-bytes, listed-over}
 use Rattle.model.proofs.history.picture.Picture.{seen, image-shaped, length-picture, slot-on, slot-off, check-off}
-use Rattle.model.proofs.history.picture.Seen.{past, size-seen, units-seen, level-seen, dstate-is, cstate-is, dstate-out, fill-seen, no-key}
+use Rattle.model.proofs.history.picture.Seen.{past, size-seen, units-seen, level-seen, dstate-is, cstate-is, fill-seen, no-key}
 use Rattle.model.proofs.history.picture.Listed.{Kept, check-kept, key-kept, key-known, fill-known}
+use Rattle.model.proofs.history.picture.Losses.{keys-lost-seen, known}
 
 -- ---- tests
 
 not-or : (a b : Bool) → (a ≡ true → b ≡ true) → (not a || b) ≡ true
 not-or true b h = h refl
 not-or false b h = refl
-
-not-all : (n : ℕ) (f : ℕ → Bool) → not (all n (λ j. not (f j))) ≡ true → 0 < count n f
-not-all n f e = go (count n f) refl
-  where
-    go : (m : ℕ) → count n f ≡ m → 0 < m
-    go zero q = not-both e (ap not (all-holds n (λ j. not (f j)) (λ k l. ap not (count-zero n f q k l))))
-    go (suc m) q = zero-lt-suc m
 
 module _ (l : Ledger) (rest : List ℕ) (h : Valid l) where
   abbrev v : Store
@@ -150,17 +144,11 @@ module _ (l : Ledger) (rest : List ℕ) (h : Valid l) where
       (λ d. h .differ u q r c i (sym (key-known l rest h u a k q (omega arith)) ∙ d))))))
       (λ e. eq-eqb (recordAt l u r .key) 0 (no-key l u r (ltb-false r (length (l .records u)) e))))
 
-  known-kept : (u : ℕ) → u < 16 → keysKnown v u ≡ true → isOut l u ≡ true → Kept l rest h (u / 4)
-  unfolding keysKnown
-  known-kept u a e o =
-      let d : v .dstate u ≡ 2 = eqb-true (v .dstate u) 2 (dstate-out l rest h u a ∙ o) in
-      let f : ℕ → Bool = λ j. eqb (v .cstate (3 * (u / 4) + j)) 1 in
-      not-all 3 f (subst (λ (n : ℕ). (eqb n 1 || eqb n 2 && not (all 3 (λ j. not (f j)))) ≡ true) d e)
-
   keys-true : keysPlaced v ≡ true
   unfolding keysPlaced
   keys-true = rw (units-seen l rest h)
-      (all-holds 16 _ (λ u a. not-or (keysKnown v u) _ (λ e. all-holds (v .size) _ (λ r b. key-test u a (known-kept u a e) r (rank r b)))))
+      (all-holds 16 _ (λ u a. or-else (keysLostIn v u) _ (λ e.
+      all-holds (v .size) _ (λ r b. key-test u a (known l rest h u a (sym (keys-lost-seen l rest h u a) ∙ e)) r (rank r b)))))
 
   -- ---- the lists of the check units
 
