@@ -7,10 +7,10 @@ use mathlib.Core.List.{List}
 use native.Mathlib.Omega.{arith}
 use lib.Dec.{eqb, ltb}
 use lib.ListN.{getD}
-use borrow.Author.Tests.{eqb-true, lt-ltb, le-ltb, ltb-true, ltb-false}
+use borrow.Author.Tests.{eqb-true, lt-ltb, ltb-true, ltb-false}
 use Rattle.buffer.specs.Choice.{pick}
-use Rattle.buffer.specs.ChoiceLaws.{by-pick, by-test, pick-true, pick-false}
-use Rattle.buffer.specs.TestLaws.{same-test, and-true, and-first, and-second, and-false-first, and-false-second, and-other}
+use Rattle.buffer.specs.ChoiceLaws.{by-pick, by-test, pick-false}
+use Rattle.buffer.specs.TestLaws.{same-test, and-true, and-first, and-second, and-false-first, and-other}
 use Rattle.buffer.specs.RangeLaws.{below-four}
 use Rattle.group.specs.Members.{firstFour}
 use Rattle.group.specs.MembersLaws.{serves-ext, four-ext}
@@ -44,23 +44,12 @@ module _ {s : List ℕ} {g : ℕ} {fills : List ℕ} (counts : Counts s g fills)
   unfolding endsBefore
   end-kept z = pick-false (and-false-first (marked-no (missingIn (view s) (4 * g + p) r) seen z) _) _ end
 
-  module _ (some : x ≢ 0) {i : ℕ} (at : i ≡ 4 * g + p) where
-    missing-there : missingIn (view s) (4 * g + p) r ≡ true
-    missing-there = marked-yes (missingIn (view s) (4 * g + p) r) seen some
-
-    keys-there : getD fills i 0 ≡ listedFill (view s) (4 * g + p)
-    keys-there =
-        ap (λ (j : ℕ). getD fills j 0) at ∙ counts .counted p low
-        (unfold missingIn in eqb-true (view s .dstate (4 * g + p)) 2 (and-first (eqb (view s .dstate (4 * g + p)) 2) _ missing-there))
-
-    pub end-sooner : getD fills i 0 < end → endsBefore (view s) g p r end ≡ getD fills i 0
-    unfolding endsBefore
-    end-sooner l = pick-true (and-true missing-there (lt-ltb (listedFill (view s) (4 * g + p)) end (omega (arith, l, keys-there)))) _ end ∙ sym keys-there
-
-    pub end-later : end ≤ getD fills i 0 → endsBefore (view s) g p r end ≡ end
-    unfolding endsBefore
-    end-later l =
-        pick-false (and-false-second (missingIn (view s) (4 * g + p) r) (le-ltb (listedFill (view s) (4 * g + p)) end (omega (arith, l, keys-there)))) _ end
+  pub end-earlier : x ≢ 0 → {i : ℕ} → i ≡ 4 * g + p → endsBefore (view s) g p r end ≡ pick (ltb (getD fills i 0) end) (getD fills i 0) end
+  unfolding endsBefore
+  end-earlier some at =
+      let there : missingIn (view s) (4 * g + p) r ≡ true = marked-yes (missingIn (view s) (4 * g + p) r) seen some in
+      let out : view s .dstate (4 * g + p) ≡ 2 = eqb-true (view s .dstate (4 * g + p)) 2 (missing-out (view s) (4 * g + p) r there) in
+      rw (there, ap (λ (j : ℕ). getD fills j 0) at ∙ counts .counted p low out)
 
 -- the same records are missing up to there
 module _ (v : Store) (g r q : ℕ) (l : r ≤ q) (k : q < changesAt v g r) where

@@ -21,7 +21,7 @@ use Rattle.group.specs.MembersLaws.{Members, rebuildable-ext, serves-ext, four-
 use Rattle.model.specs.Layout.{view}
 use Rattle.model.specs.Reads.{stateIn, outsIn, firstCheck, listedFill, missingIn, servesIn, rebuildableIn, keysLostIn, beyondIn, lostIn}
 use Rattle.model.specs.ReadLaws.{listed-le}
-use Rattle.model.specs.LossLaws.{none-in-service, none-past, out-missing, rank-kept, missing-kept, first-check-found, four-serve, beyond-first}
+use Rattle.model.specs.LossLaws.{none-in-service, out-missing, rank-kept, missing-kept, first-check-found, four-serve, beyond-first}
 use Rattle.model.specs.LossLaws.{kept-keys, out-keys, unit-keys-kept, group-keys-kept}
 use Rattle.model.specs.LossLaws as losses
 use Rattle.lookup.specs.Sized.{Sized}
@@ -71,14 +71,11 @@ module _ {s : List ℕ} {g : ℕ} {fills : List ℕ} (counts : Counts s g fills)
   in-service-here r h = none-in-service (view s) (4 * g + p) r (λ e. h (state-seen ∙ e))
 
   module _ (out : x ≡ 2) {i : ℕ} (at : i ≡ 4 * g + p) where
-    pub keys-here : getD fills i 0 ≡ listedFill (view s) (4 * g + p)
-    keys-here = ap (λ (j : ℕ). getD fills j 0) at ∙ counts .counted p (place .1) (sym state-seen ∙ out)
-
-    pub missing-here : (r : ℕ) → r < getD fills i 0 → missingIn (view s) (4 * g + p) r ≡ true
-    missing-here r l = out-missing (view s) (4 * g + p) r (eq-eqb _ 2 (sym state-seen ∙ out)) (omega (arith, l, keys-here))
-
-    pub none-here : (r : ℕ) → getD fills i 0 ≤ r → missingIn (view s) (4 * g + p) r ≡ false
-    none-here r l = none-past (view s) (4 * g + p) r (omega (arith, l, keys-here))
+    pub missing-here : (r : ℕ) → missingIn (view s) (4 * g + p) r ≡ ltb r (getD fills i 0)
+    unfolding missingIn
+    missing-here r =
+        let here : view s .dstate (4 * g + p) ≡ 2 = sym state-seen ∙ out in
+        rw (eq-eqb _ 2 here) (ap (ltb r) (sym (ap (λ (j : ℕ). getD fills j 0) at ∙ counts .counted p (place .1) here)))
 
 -- ---- units
 -- where no unit of the group is out, unit u is not
