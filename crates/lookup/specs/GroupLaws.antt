@@ -21,7 +21,7 @@ use Rattle.group.specs.MembersLaws.{Members, rebuildable-ext, serves-ext, four-
 use Rattle.model.specs.Layout.{view}
 use Rattle.model.specs.Reads.{stateIn, outsIn, firstCheck, listedFill, missingIn, servesIn, rebuildableIn, keysLostIn, beyondIn, lostIn}
 use Rattle.model.specs.ReadLaws.{listed-le}
-use Rattle.model.specs.LossLaws.{none-in-service, out-missing, rank-kept, missing-kept, first-check-found, four-serve, beyond-first}
+use Rattle.model.specs.LossLaws.{none-in-service, out-missing, rank-kept, missing-kept, four-serve, beyond-first}
 use Rattle.model.specs.LossLaws.{kept-keys, out-keys, unit-keys-kept, group-keys-kept}
 use Rattle.model.specs.LossLaws as losses
 use Rattle.lookup.specs.Sized.{Sized}
@@ -87,12 +87,7 @@ none-out s u h e =
     let none : count 4 (λ p. eqb (byte s (8 + (4 * (u / 4) + p))) 2) + count 3 (λ j. eqb (byte s (24 + (3 * (u / 4) + j))) 2) ≤ 0 = ltb-false 0 _ h in
     omega (arith, count-pos 4 (λ p. eqb (byte s (8 + (4 * (u / 4) + p))) 2) (u % 4) (omega arith) (eq-eqb _ 2 here))
 
--- a unit whose keys are not lost has them in its slots or listed by a check unit
-pub kept-known : {s : List ℕ} {u : ℕ} → Sized s → u < 16 → keysLostIn (view s) u ≡ false → Known s u
-kept-known {s} {u} h l e =
-    record { sized = h; unit = l; listed = λ out. first-check-found (view s) u e (eq-eqb (view s .dstate u) 2 (unfold view in out)) }
-
--- whether they are lost, as code sees the unit's state x and the first check unit in service
+-- whether its keys are lost, as code sees its state x and the first check unit in service
 module _ (s : List ℕ) (u : ℕ) (low : u < 16) {x : ℕ} (seen : x ≡ stateIn (view s) u) where
   pub lost-no : x ≢ 2 → keysLostIn (view s) u ≡ false
   lost-no h = kept-keys (view s) u (ne-eqb (view s .dstate u) 2 (λ e. h (seen ∙ state-data s u low ∙ e)))
@@ -118,7 +113,7 @@ module _ {s : List ℕ} {u r : ℕ} (h : Rebuildable s u r) where
 
   -- its key is listed, and four members serve
   pub missing-known : Known s u
-  missing-known = kept-known (h .sized) (h .unit) (missing-kept (view s) u r (h .missing) (h .rank))
+  missing-known = record { sized = h .sized; unit = h .unit; kept = missing-kept (view s) u r (h .missing) (h .rank) }
 
   pub missing-four : Members (servesIn (view s) (u / 4) r) (firstFour (servesIn (view s) (u / 4) r))
   missing-four = first-four (servesIn (view s) (u / 4) r) (four-serve (view s) (u / 4) r (h .rank))

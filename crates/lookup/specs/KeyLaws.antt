@@ -19,6 +19,7 @@ use Rattle.group.specs.Widths.{keyBytes, slotBytes, checkBytes}
 use Rattle.model.specs.Layout.{view, slotAt, checkAt, keyOf}
 use Rattle.model.specs.Reads.{fillIn, rankIn, firstCheck, listedKey, listedFill, listedRank}
 use Rattle.model.specs.ReadLaws as reads
+use Rattle.model.specs.LossLaws.{first-check-found}
 use Rattle.lookup.specs.Sized.{Sized}
 use Rattle.lookup.specs.SizedLaws.{slot-fits, check-fits}
 use Rattle.lookup.specs.Keys.{keysAt, keysFrom, keysStep, Known, Lists}
@@ -77,13 +78,17 @@ module _ {s : List ℕ} {u : ℕ} (known : Known s u) where
         within = unit-within (known .sized) u (byte s 5) at (known .unit) (omega arith) refl;
       }
 
+  -- the check unit that lists them where the unit is out
+  pub known-check : byte s (8 + u) ≡ 2 → firstCheck (view s) (u / 4) < 12
+  unfolding view
+  known-check h = omega (arith, first-check-found (view s) u (known .kept) (eq-eqb (byte s (8 + u)) 2 h), known .unit)
+
   pub lists-out : (at : ℕ) → byte s (8 + u) ≡ 2 → at ≡ keysAt s u → Lists s u at checkBytes
   lists-out at h e =
       record {
         bytes = λ r. out-bytes s u r (at + checkBytes * r) h (omega arith);
         within =
-            out-within (known .sized) (firstCheck (view s) (u / 4)) (u % 4)
-            (byte s 5) at (omega (arith, known .listed h, known .unit)) (omega arith) (omega arith) e;
+            out-within (known .sized) (firstCheck (view s) (u / 4)) (u % 4) (byte s 5) at (known-check h) (omega arith) (omega arith) e;
       }
 
   pub lists-known : {base step : ℕ} → (base ≡ keysFrom s u) × (step ≡ keysStep s u) → Lists s u base step

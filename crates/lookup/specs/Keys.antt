@@ -2,6 +2,7 @@
 -- listed by a check unit. Assumes nothing.
 use Prim.Native.Nat.{ℕ, _+_, _*_, _/_, _%_, _<_}
 use mathlib.Core.Path.{_≡_}
+use mathlib.Core.Bool.{false}
 use mathlib.Core.List.{List}
 use lib.Dec.{eqb}
 use Rattle.buffer.specs.Choice.{pick}
@@ -9,7 +10,7 @@ use Rattle.buffer.specs.Bytes.{byte, part}
 use Rattle.buffer.specs.Strided.{Within}
 use Rattle.group.specs.Widths.{keyBytes, slotBytes, checkBytes}
 use Rattle.model.specs.Layout.{view, slotAt, checkAt}
-use Rattle.model.specs.Reads.{firstCheck, listedKey}
+use Rattle.model.specs.Reads.{firstCheck, listedKey, keysLostIn}
 use Rattle.lookup.specs.Sized.{Sized}
 
 -- where the keys of unit u stand while it is out: in the first check unit in service of its group, the others a check record apart behind the first
@@ -23,11 +24,11 @@ keysFrom s u = pick (eqb (byte s (8 + u)) 2) (keysAt s u) (slotAt (byte s 5) u 0
 unfoldable pub keysStep : List ℕ → ℕ → ℕ
 keysStep s u = pick (eqb (byte s (8 + u)) 2) checkBytes slotBytes
 
--- they can be read: the unit is in service, or a check unit of its group is
+-- they can be read: they are not lost
 pub record Known (s : List ℕ) (u : ℕ) : Type 0 where
   pub sized : Sized s
   pub unit : u < 16
-  pub listed : byte s (8 + u) ≡ 2 → firstCheck (view s) (u / 4) < 3 * (u / 4) + 3
+  pub kept : keysLostIn (view s) u ≡ false
 
 -- the list at base, a key every step bytes, is that of unit u
 pub record Lists (s : List ℕ) (u base step : ℕ) : Type 0 where

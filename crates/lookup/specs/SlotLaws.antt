@@ -30,7 +30,7 @@ use Rattle.model.specs.LossLaws.{whole-kept}
 use Rattle.lookup.specs.Sized.{Sized}
 use Rattle.lookup.specs.SizedLaws.{slot-fits, check-fits}
 use Rattle.lookup.specs.Keys.{Known, Lists, keysAt}
-use Rattle.lookup.specs.KeyLaws.{lists-out, listed-fill-small}
+use Rattle.lookup.specs.KeyLaws.{known-check, lists-out, listed-fill-small}
 use Rattle.lookup.specs.Groups.{Rebuildable, Readable, Whole}
 use Rattle.lookup.specs.GroupLaws.{missing-out, missing-rank, missing-known, missing-four, readable-out, near-missing, whole-readable}
 use Rattle.lookup.specs.Decoders.{DecoderOf}
@@ -78,9 +78,8 @@ out-key-long : {s : List ℕ} {u : ℕ} → Known s u → (r : ℕ) → r < byte
 unfolding listedKey view
 out-key-long {s} {u} h r l e =
     let c : ℕ = firstCheck (view s) (u / 4) in
-    let k : c < 12 = omega (arith, h .listed e, h .unit) in
     ap length (pick-true (eq-eqb (byte s (8 + u)) 2 e) _ _ ∙ part-part (checkAt (byte s 5) c r) checkBytes (keyBytes * (u % 4)) keyBytes s (omega arith))
-    ∙ length-part (checkAt (byte s 5) c r + keyBytes * (u % 4)) keyBytes s (omega (arith, check-fits (h .sized) c r k l))
+    ∙ length-part (checkAt (byte s 5) c r + keyBytes * (u % 4)) keyBytes s (omega (arith, check-fits (h .sized) c r (known-check h e) l))
 
 -- ---- a record that is missing, by the decoder of its rank
 module _ {s : List ℕ} {u r : ℕ} (h : Rebuildable s u r) where

@@ -9,7 +9,6 @@ use borrow.Author.Tests.{not-true, not-false}
 use Rattle.buffer.specs.Bytes.{byte}
 use Rattle.model.specs.Layout.{view}
 use Rattle.model.specs.Reads.{listedFill, keysLostIn}
-use Rattle.lookup.specs.GroupLaws.{kept-known}
 use Rattle.lookup.specs.Sized.{Sized}
 use Rattle.lookup.specs.UnitCases.{home-found}
 use Rattle.soundness.specs.SurveyLaws.{found-sized, first-check-read}
@@ -100,7 +99,7 @@ listed-rank-requires c κs =
     let safe = unlost c in
     let key = sought (unit safe) in
     let first = first-check-read (key .surveyed) (key .good) _ (safe .before .before .wide .ensures .0) (omega (arith, key .low)) in
-    (kept-known (sought-sized key) (key .low) (kept safe), first, fill c .0, fill c .1)
+    (record { sized = sought-sized key; unit = key .low; kept = kept safe }, first, fill c .0, fill c .1)
 
 returns-5 : tie.Need-returns-5
 returns-5 c =
