@@ -87,7 +87,7 @@ none-out s u h e =
     let none : count 4 (λ p. eqb (byte s (8 + (4 * (u / 4) + p))) 2) + count 3 (λ j. eqb (byte s (24 + (3 * (u / 4) + j))) 2) ≤ 0 = ltb-false 0 _ h in
     omega (arith, count-pos 4 (λ p. eqb (byte s (8 + (4 * (u / 4) + p))) 2) (u % 4) (omega arith) (eq-eqb _ 2 here))
 
--- whether its keys are lost, as code sees its state x and the first check unit in service
+-- whether the keys of unit u are lost, as code sees its state x and the first check unit in service
 module _ (s : List ℕ) (u : ℕ) (low : u < 16) {x : ℕ} (seen : x ≡ stateIn (view s) u) where
   pub lost-no : x ≢ 2 → keysLostIn (view s) u ≡ false
   lost-no h = kept-keys (view s) u (ne-eqb (view s .dstate u) 2 (λ e. h (seen ∙ state-data s u low ∙ e)))
