@@ -1,8 +1,8 @@
 /*
  * Times the store's calls over the static library, a copy of the store's bytes, and two soundness
  * tests in C beside the library's, all in one run; prints a table with a row for each size of store,
- * a second one with raise beside grow, and a third one with one unit and with two out in a hall that
- * is half full. Read in place is a read without the copy. Build and run it with bench/run.
+ * a second one with raise beside grow, a third one with one unit and with two out in a hall that is
+ * half full, and a fourth one with growing in two strokes beside grow. Read in place is a read without the copy. Build and run it with bench/run.
  */
 #define _POSIX_C_SOURCE 199309L
 #include "lhrs.h"
@@ -405,6 +405,34 @@ static void two_out_and_repair(void)
     require(lhrs_repair(half.bytes, half.length, 0), 0, "repair");
 }
 
+/* Growing in two strokes: the plan, and a commit of it beside a grow, both on a copy. */
+static struct lhrs_move moves[LHRS_MOST_MOVES];
+static size_t move_count;
+
+static void read_growing(void)
+{
+    uint8_t out[LHRS_FIELD];
+    require(lhrs_read(growing.bytes, growing.length, growing.absent, out, sizeof out), 6, "read");
+}
+
+static void ask_for_plan(void)
+{
+    require(lhrs_plan(growing.bytes, growing.length, moves, LHRS_MOST_MOVES, &move_count), 0,
+            "plan");
+}
+
+static void copy_and_grow_at_once(void)
+{
+    copy(copied, growing.bytes, growing.length);
+    require(lhrs_grow(copied, growing.length), 0, "grow");
+}
+
+static void copy_and_commit(void)
+{
+    copy(copied, growing.bytes, growing.length);
+    require(lhrs_commit(copied, growing.length, moves, LHRS_MOST_MOVES, move_count), 0, "commit");
+}
+
 struct operation {
     const char *name;
     void (*run)(void);
@@ -452,6 +480,16 @@ static const struct operation half_operations[] = {
 };
 
 #define HALF_OPERATIONS (sizeof half_operations / sizeof half_operations[0])
+
+/* What the fourth table compares. */
+enum { STROKES_TEST, PLAN, GROW_AT_ONCE, COMMIT, STROKES_OPERATIONS };
+
+static const struct operation strokes_operations[STROKES_OPERATIONS] = {
+    [STROKES_TEST] = {"test", read_growing},
+    [PLAN] = {"plan", ask_for_plan},
+    [GROW_AT_ONCE] = {"memcpy + grow", copy_and_grow_at_once},
+    [COMMIT] = {"memcpy + commit", copy_and_commit},
+};
 
 /* Nanoseconds of one run, over so many. */
 static double batch(const struct operation *operation, unsigned long runs)
@@ -623,10 +661,46 @@ static void print_half_table(void)
                 print_half_row(slots[s], units[u], levels[l]);
 }
 
+static const char plan_ratio[] = "plan / test";
+static const char commit_ratio[] = "(commit - grow) / test";
+
+static void print_strokes_row(uint32_t slots, uint32_t units, uint32_t level)
+{
+    double least[STROKES_OPERATIONS];
+    build(&growing, slots, units, level);
+    fill(&growing, slots * 3 / 4, 1);
+    ask_for_plan();
+    require(move_count == growing.count, 1, "count of the plan");
+    measure(strokes_operations, STROKES_OPERATIONS, least);
+    printf("| %2u | %2u | %u |", (unsigned)slots, (unsigned)units, (unsigned)level);
+    for (size_t i = 0; i < STROKES_OPERATIONS; i++)
+        printf(" %*.0f |", (int)strlen(strokes_operations[i].name) + 4, least[i]);
+    printf(" %*.2f |", (int)strlen(plan_ratio), least[PLAN] / least[STROKES_TEST]);
+    printf(" %*.2f |\n", (int)strlen(commit_ratio),
+           (least[COMMIT] - least[GROW_AT_ONCE]) / least[STROKES_TEST]);
+    fflush(stdout);
+}
+
+static void print_strokes_table(void)
+{
+    static const uint32_t slots[] = {4, 64}, units[] = {1, 4, 15}, levels[] = {1, 3};
+    puts("\nGrowing in two strokes: the plan of a store, and a commit of it beside a grow, both of a "
+         "copy of its bytes.\n");
+    printf("|  b |  M | K |");
+    for (size_t i = 0; i < STROKES_OPERATIONS; i++)
+        printf(" %s, ns |", strokes_operations[i].name);
+    printf(" %s | %s |\n|---|---|---|---|---|---|---|---|---|\n", plan_ratio, commit_ratio);
+    for (int s = 0; s < 2; s++)
+        for (int u = 0; u < 3; u++)
+            for (int l = 0; l < 2; l++)
+                print_strokes_row(slots[s], units[u], levels[l]);
+}
+
 int main(void)
 {
     print_table();
     print_raise_table();
     print_half_table();
+    print_strokes_table();
     return EXIT_SUCCESS;
 }

@@ -10,12 +10,13 @@
  *
  * Memory. Every block passed in stays the caller's. It is used during the call only. The blocks
  * passed to one call must not overlap, and a pointer must be valid for its length; with length 0 it
- * may be null. The pointer count of lhrs_list must be that of a size_t, and not null.
+ * may be null. The pointer count of lhrs_list and lhrs_plan must be that of a size_t, and not null.
  *
  * At the same time. The library has no state. Calls on different stores may run at the same time.
- * On one store lhrs_read and lhrs_list may run beside each other and beside themselves; while any
- * other call runs, none may run beside it on that store. lhrs_rebuild_segment takes no store: it
- * may run beside any call, itself too, that is not lent the same members or marks.
+ * On one store lhrs_read, lhrs_list and lhrs_plan may run beside each other and beside themselves,
+ * with outputs of their own; while any other call runs, none may run beside it on that store.
+ * lhrs_rebuild_segment takes no store: it may run beside any call, itself too, that is not lent the
+ * same members or marks.
  *
  * Where it runs. The archive libstore.a is compiled for x86-64 Linux (ELF objects, System V calling
  * convention) and needs memcpy and memset of a C library, nothing else.
@@ -40,9 +41,15 @@
  * units, data and check units together, as the level says, and more where these have few ranks in
  * common.
  *
+ * Growing. lhrs_grow adds a data unit, and the records of one unit, the one that is split, are dealt
+ * out to it and to the new one. Who wants to see before which records will move asks for the plan
+ * (lhrs_plan), looks at the moves, and then commits them (lhrs_commit), which grows the store only
+ * where they are still its plan.
+ *
  * Numbers. Each call returns one of the numbers below. A call that returns another number than 0
- * changes no byte. Where several numbers apply, the first of 2, 1, 3, 9, 4, 8, 5, 6, 7 is given; so
- * lhrs_rebuild_segment, which returns 0, 2 or 8 alone, gives 2 before 8.
+ * changes no byte, but for the count of lhrs_list and lhrs_plan, which it sets to 0. Where several
+ * numbers apply, the first of 2, 1, 3, 9, 4, 8, 5, 6, 7, 11 is given; so lhrs_rebuild_segment, which
+ * returns 0, 2 or 8 alone, gives 2 before 8. 10 is a number of the program hallrun alone.
  */
 #ifndef LHRS_H
 #define LHRS_H
@@ -100,16 +107,16 @@ enum lhrs_number {
     /* There is no such unit or group in the store at present. */
     LHRS_NOT_IN_PLACE = 3,
     /* A unit is out: in the group of the key's unit (teach, correct, erase); in the group of the
-       unit added or removed, or of the unit that it is split from (grow, shrink); anywhere in the
-       store (raise); or the unit is out already (out). Repair the group first. */
+       unit added or removed, or of the unit that it is split from (grow, plan, commit, shrink);
+       anywhere in the store (raise); or the unit is out already (out). Repair the group first. */
     LHRS_UNIT_OUT = 4,
     /* The key is taught already. lhrs_correct gives it a new body and stamp. */
     LHRS_KEY_PRESENT = 5,
     /* The key is not taught. Where its unit is out, a check unit in service says so (read). */
     LHRS_KEY_NOT_PRESENT = 6,
     /* There is no room: the key's unit is full (teach), the records of both units do not fit into
-       one (shrink), the block is shorter than LHRS_LENGTH(b) (lay out), or the output is too short
-       for all records (list). */
+       one (shrink), the block is shorter than LHRS_LENGTH(b) (lay out), the output is too short
+       for all records (list), or the list for all moves (plan). */
     LHRS_NO_ROOM = 7,
     /* Records cannot be rebuilt. Read: the key's unit is out, and the key's rank cannot be rebuilt.
        Repair: some rank of the group cannot. List: some rank of some group cannot. All three also
@@ -118,9 +125,24 @@ enum lhrs_number {
        any. The number of units out does not matter by itself. Rebuild segment: fewer than m members
        are present. */
     LHRS_BEYOND_RECOVERY = 8,
-    /* A limit: grow at 16 units, shrink at 1, raise at level 3. */
-    LHRS_LIMIT = 9
+    /* A limit: grow, plan and commit at 16 units, shrink at 1, raise at level 3. */
+    LHRS_LIMIT = 9,
+    /* The list is not the plan of the store as it is now, or the count exceeds the list (commit).
+       Ask for the plan anew. */
+    LHRS_NOT_THE_PLAN = 11
 };
+
+/* A move: where a record of the unit that is split is, and where a grow puts it. A record that stays
+   in its unit has an entry too, since its rank may change. Units are numbered from 0, ranks from 1. */
+struct lhrs_move {
+    uint8_t old_unit;
+    uint8_t old_rank;
+    uint8_t new_unit;
+    uint8_t new_rank;
+};
+
+/* The most moves of a plan: a unit has up to 64 records. */
+#define LHRS_MOST_MOVES 64u
 
 /*
  * The parts of a field and of a record that lhrs_list has written. These functions stand in this
@@ -234,6 +256,25 @@ uint8_t lhrs_repair(uint8_t *store, size_t len, uint32_t group);
  * Returns 0, 1, 4 or 9.
  */
 uint8_t lhrs_grow(uint8_t *store, size_t len);
+
+/*
+ * Asks which records a grow would move. Writes one move for each record of the unit that is split,
+ * by its rank now, to the front of moves, which has moves_len entries. count becomes their number,
+ * 0 when refused. Entries behind them are not written, and none is when refused. The store is not
+ * changed. A list of LHRS_MOST_MOVES entries always fits.
+ * Returns 0, 1, 4, 7 or 9.
+ */
+uint8_t lhrs_plan(const uint8_t *store, size_t len, struct lhrs_move *moves, size_t moves_len,
+                  size_t *count);
+
+/*
+ * Does what lhrs_grow does, where the first count entries of moves are the plan of the store as it
+ * is now, all of it, and nothing where they are not. The list may come from anyone; entries behind
+ * the count are not looked at. The plan of a unit without records has no moves: its count is 0.
+ * Returns 0, 1, 4, 9 or 11.
+ */
+uint8_t lhrs_commit(uint8_t *store, size_t len, const struct lhrs_move *moves, size_t moves_len,
+                    size_t count);
 
 /*
  * Removes the last data unit; its records go back to the unit that it was split from. A group left

@@ -2,8 +2,9 @@
  * What include/lhrs.h says and the other tests do not show: a pointer with length 0 may be null,
  * and what its macros read, the check units of each group by the level too; widths; what its inline
  * functions make of a field and of a record, and that a stamp comes back as it was given; which
- * losses are beyond recovery; keys numbered in sixteens lie in different units; the limits of a
- * segment, which numbers it is refused with, and how it is made and rebuilt. It is C99 and C++98.
+ * losses are beyond recovery; keys numbered in sixteens lie in different units; a plan and its
+ * commit; the limits of a segment, which numbers it is refused with, and how it is made and rebuilt.
+ * It is C99 and C++98.
  * Build and run it with tests/header.
  */
 #include "lhrs.h"
@@ -44,6 +45,10 @@ static void null_blocks(void)
     expect("out", lhrs_out(NULL, 0, 0), LHRS_NOT_SOUND);
     expect("repair", lhrs_repair(NULL, 0, 0), LHRS_NOT_SOUND);
     expect("grow", lhrs_grow(NULL, 0), LHRS_NOT_SOUND);
+    count = 99;
+    expect("plan", lhrs_plan(NULL, 0, NULL, 0, &count), LHRS_NOT_SOUND);
+    expect("count of a refused plan", count, 0);
+    expect("commit", lhrs_commit(NULL, 0, NULL, 0, 0), LHRS_NOT_SOUND);
     expect("shrink", lhrs_shrink(NULL, 0), LHRS_NOT_SOUND);
     expect("raise", lhrs_raise(NULL, 0), LHRS_NOT_SOUND);
 }
@@ -393,6 +398,60 @@ static void posts_in_sixteens(void)
         expect("a key of the list", lhrs_record_key(records + i * LHRS_RECORD), listed[i]);
 }
 
+/* One unit of two slots with keys 1 and 2: of the two units after a grow 2 stays in the first, and 1
+   goes to the second. A plan has an entry for both. It is refused into one entry, and nothing is
+   written then; into more it leaves those behind it as they were. A commit looks at the count
+   first, then at as many entries, and at none behind. An empty unit has the plan of no entries. */
+static void two_strokes(void)
+{
+    static const struct lhrs_move filler = {0xEE, 0xEE, 0xEE, 0xEE};
+    static const struct lhrs_move due[] = {{0, 1, 1, 1}, {0, 2, 0, 1}};
+    struct lhrs_move moves[4];
+    size_t count = 99, i, j;
+    expect("bytes of a move", sizeof moves[0], 4);
+    expect("most moves", LHRS_MOST_MOVES, 64);
+    for (i = 0; i < 4; i++)
+        moves[i] = filler;
+    expect("lay out", lhrs_lay_out(store, sizeof store, SLOTS), LHRS_GRANTED);
+    expect("teach", lhrs_teach(store, sizeof store, 1, field, LHRS_FIELD), LHRS_GRANTED);
+    expect("teach", lhrs_teach(store, sizeof store, 2, field, LHRS_FIELD), LHRS_GRANTED);
+    expect("plan into one entry", lhrs_plan(store, sizeof store, moves, 1, &count), LHRS_NO_ROOM);
+    expect("count of a refused plan", count, 0);
+    expect("an entry when refused", memcmp(&moves[0], &filler, sizeof filler) == 0, 1);
+    expect("plan", lhrs_plan(store, sizeof store, moves, 3, &count), LHRS_GRANTED);
+    expect("count of the plan", count, 2);
+    expect("the plan", memcmp(moves, due, sizeof due) == 0, 1);
+    expect("the entry behind", memcmp(&moves[2], &filler, sizeof filler) == 0, 1);
+    expect("commit, a count less", lhrs_commit(store, sizeof store, moves, 3, 1),
+           LHRS_NOT_THE_PLAN);
+    expect("commit, a count more", lhrs_commit(store, sizeof store, moves, 3, 3),
+           LHRS_NOT_THE_PLAN);
+    expect("commit, a count above the list", lhrs_commit(store, sizeof store, moves, 2, 3),
+           LHRS_NOT_THE_PLAN);
+    expect("commit of no list", lhrs_commit(store, sizeof store, NULL, 0, 0), LHRS_NOT_THE_PLAN);
+    for (i = 0; i < sizeof due; i++) {
+        ((uint8_t *)moves)[i]++;
+        expect("commit, another byte", lhrs_commit(store, sizeof store, moves, 4, 2),
+               LHRS_NOT_THE_PLAN);
+        ((uint8_t *)moves)[i]--;
+    }
+    expect("commit", lhrs_commit(store, sizeof store, moves, 4, 2), LHRS_GRANTED);
+    expect("units after it", LHRS_UNITS(store), 2);
+    expect("commit again", lhrs_commit(store, sizeof store, moves, 4, 2), LHRS_NOT_THE_PLAN);
+    expect("out", lhrs_out(store, sizeof store, 0), LHRS_GRANTED);
+    expect("plan, a unit out", lhrs_plan(store, sizeof store, moves, 4, &count), LHRS_UNIT_OUT);
+    expect("commit, a unit out", lhrs_commit(store, sizeof store, moves, 4, 5), LHRS_UNIT_OUT);
+    expect("lay out", lhrs_lay_out(store, sizeof store, SLOTS), LHRS_GRANTED);
+    for (j = 1; j < 16; j++) {
+        count = 99;
+        expect("plan of none", lhrs_plan(store, sizeof store, NULL, 0, &count), LHRS_GRANTED);
+        expect("count of none", count, 0);
+        expect("commit of none", lhrs_commit(store, sizeof store, NULL, 0, 0), LHRS_GRANTED);
+    }
+    expect("plan at 16 units", lhrs_plan(store, sizeof store, moves, 4, &count), LHRS_LIMIT);
+    expect("commit at 16 units", lhrs_commit(store, sizeof store, moves, 4, 5), LHRS_LIMIT);
+}
+
 /* Room for a member more than a segment has, each a byte longer than a member is. */
 static uint8_t members[(LHRS_MOST_MEMBERS + 1) * (LHRS_LONGEST_MEMBER + 1)];
 static uint8_t marks[LHRS_MOST_MEMBERS + 1];
@@ -487,6 +546,7 @@ int main(void)
     stamps_come_back();
     losses_by_ranks();
     posts_in_sixteens();
+    two_strokes();
     null_segments();
     segment_limits();
     segment_numbers();

@@ -6,7 +6,7 @@ use Prim.Native.Nat.{ℕ, zero, suc, _+_, _*_, _≤_, _<_}
 use native.Mathlib.Nat.{zero-add, suc-add, le-of-suc-le-suc, not-suc-le-zero}
 use native.Mathlib.Numerals.{add-one}
 use native.Mathlib.Omega.{arith}
-use lib.ListN.{length, getD, set, drop, length-append, length-set, take-append-drop, drop-of-length-le, List·getD-eq-default, List·getD-append}
+use lib.ListN.{length, getD, set, drop, length-append, length-drop, length-set, take-append-drop, drop-of-length-le, List·getD-eq-default, List·getD-append}
 use lib.Seq.{take-at, drop-at, drop-drop}
 use Rattle.buffer.specs.Loops.{entries}
 use Rattle.buffer.specs.RangeLaws.{length-entries, getD-entries, entries-ext}
@@ -18,25 +18,29 @@ use Rattle.buffer.specs.TableLaws.{Wide, tab-more, length-tab}
 
 -- ---- from the front, an entry a turn
 -- l with its first n entries replaced by f's
-unfoldable pub filled : (ℕ → ℕ) → ℕ → List ℕ → List ℕ
+unfoldable pub filled : {A : Type 0} → (ℕ → A) → ℕ → List A → List A
 filled f n l = entries n f ++ drop n l
 
-pub filled-none : (f : ℕ → ℕ) (l : List ℕ) → l ≡ filled f 0 l
+pub filled-none : {A : Type 0} (f : ℕ → A) (l : List A) → l ≡ filled f 0 l
 unfolding filled entries
 filled-none f l = refl
 
-pub filled-all : (f : ℕ → ℕ) (l : List ℕ) (n : ℕ) → length l ≤ n → filled f n l ≡ entries n f
+pub filled-all : {A : Type 0} (f : ℕ → A) (l : List A) (n : ℕ) → length l ≤ n → filled f n l ≡ entries n f
 unfolding filled
 filled-all f l n h = rw (drop-of-length-le l h) (append-nil (entries n f))
 
-fill-suc : (f : ℕ → ℕ) (l : List ℕ) (i : ℕ) → i < length l → set (filled f i l) i (f i) ≡ filled f (suc i) l
+fill-suc : {A : Type 0} (f : ℕ → A) (l : List A) (i : ℕ) → i < length l → set (filled f i l) i (f i) ≡ filled f (suc i) l
 unfolding filled entries
 fill-suc f [] i h = absurd (not-suc-le-zero h)
 fill-suc f (x ∷ l) zero h = refl
-fill-suc f (x ∷ l) (suc i) h = ap (λ (t : List ℕ). f 0 ∷ t) (fill-suc (λ (k : ℕ). f (suc k)) l i (le-of-suc-le-suc h))
+fill-suc f (x ∷ l) (suc i) h = ap (λ t. f 0 ∷ t) (fill-suc (λ (k : ℕ). f (suc k)) l i (le-of-suc-le-suc h))
 
-pub filled-more : (f : ℕ → ℕ) (l : List ℕ) (i : ℕ) → i < length l → set (filled f i l) i (f i) ≡ filled f (i + 1) l
+pub filled-more : {A : Type 0} (f : ℕ → A) (l : List A) (i : ℕ) → i < length l → set (filled f i l) i (f i) ≡ filled f (i + 1) l
 filled-more f l i h = rw add-one (fill-suc f l i h)
+
+pub length-filled : {A : Type 0} (f : ℕ → A) (l : List A) (n : ℕ) → n ≤ length l → length (filled f n l) ≡ length l
+unfolding filled
+length-filled f l n h = simp (length-append, length-entries, length-drop) (omega arith)
 
 -- an entry that no turn has written yet
 pub filled-rest : (f : ℕ → ℕ) (l : List ℕ) (i : ℕ) → getD (filled f i l) i 0 ≡ getD l i 0

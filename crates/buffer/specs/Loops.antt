@@ -11,7 +11,7 @@ use Rattle.buffer.specs.Range.{all}
 unfoldable pub allZero : List ℕ → Bool
 allZero s = all (length s) (λ i. eqb (byte s i) 0)
 
--- the list of the numbers f 0 to f (n - 1)
-unfoldable pub entries : ℕ → (ℕ → ℕ) → List ℕ
+-- the list of f 0, f 1, .., f (n - 1)
+unfoldable pub entries : {A : Type 0} → ℕ → (ℕ → A) → List A
 entries zero f = []
 entries (suc n) f = f 0 ∷ entries n (λ (k : ℕ). f (suc k))

@@ -142,6 +142,11 @@ count-below n k h =
     ∙ add-zero k
 
 -- a test that is counted in two parts
+pub count-front : (n : ℕ) (p : ℕ → Bool) → count (suc n) p ≡ pick (p 0) 1 0 + count n (λ k. p (suc k))
+unfolding count
+count-front zero p = omega arith
+count-front (suc n) p = omega (arith, count-front n p)
+
 pub count-parts : (n : ℕ) (p q r : ℕ → Bool) → ((k : ℕ) → k < n → pick (p k) 1 0 + pick (q k) 1 0 ≡ pick (r k) 1 0) → count n p + count n q ≡ count n r
 unfolding count
 count-parts zero p q r h = refl
@@ -295,22 +300,22 @@ count-blocks (suc n) w p =
     rw e (count-append (w * n) w p ∙ ap (λ (m : ℕ). m + count w (λ i. p (w * n + i))) (count-blocks n w p))
 
 -- ---- entries
-pub length-entries : (n : ℕ) (f : ℕ → ℕ) → length (entries n f) ≡ n
+pub length-entries : {A : Type 0} (n : ℕ) (f : ℕ → A) → length (entries n f) ≡ n
 unfolding entries
 length-entries zero f = refl
 length-entries (suc n) f = ap suc (length-entries n (λ (k : ℕ). f (suc k)))
 
-pub getD-entries : (n : ℕ) (f : ℕ → ℕ) (k d : ℕ) → k < n → getD (entries n f) k d ≡ f k
+pub getD-entries : {A : Type 0} (n : ℕ) (f : ℕ → A) (k : ℕ) (d : A) → k < n → getD (entries n f) k d ≡ f k
 unfolding entries
 getD-entries zero f k d h = absurd (not-suc-le-zero h)
 getD-entries (suc n) f zero d h = refl
 getD-entries (suc n) f (suc k) d h = getD-entries n (λ (k : ℕ). f (suc k)) k d (le-of-suc-le-suc h)
 
-pub entries-ext : (n : ℕ) (f g : ℕ → ℕ) → ((k : ℕ) → k < n → f k ≡ g k) → entries n f ≡ entries n g
+pub entries-ext : {A : Type 0} (n : ℕ) (f g : ℕ → A) → ((k : ℕ) → k < n → f k ≡ g k) → entries n f ≡ entries n g
 unfolding entries
 entries-ext zero f g h = refl
 entries-ext (suc n) f g h =
-    ap₂ (λ (x : ℕ) (l : List ℕ). x ∷ l) (h 0 (omega arith)) (entries-ext n (λ (k : ℕ). f (suc k)) (λ (k : ℕ). g (suc k)) (λ k l. h (suc k) (omega arith)))
+    ap₂ _∷_ (h 0 (omega arith)) (entries-ext n (λ (k : ℕ). f (suc k)) (λ (k : ℕ). g (suc k)) (λ k l. h (suc k) (omega arith)))
 
 -- a list of which the length and each entry are known
 pub entries-of : (l : List ℕ) (n : ℕ) (f : ℕ → ℕ) → length l ≡ n → ((k : ℕ) → k < n → getD l k 0 ≡ f k) → l ≡ entries n f

@@ -1,3 +1,4 @@
 pub mod Values
 pub mod Widths
 pub mod Losses
+pub mod Plans

@@ -19,22 +19,18 @@ use Rattle.group.specs.RebuildingLaws.{bodies-fixed, rebuilt-from-is, rebuilt-f
 use Rattle.model.specs.Layout.{Store, view, storeBytes}
 use Rattle.model.specs.Field.{bodyOf}
 use Rattle.model.specs.FieldLaws.{stamp-bytes}
-use Rattle.model.specs.GrantedLayout.{Granted, layout-granted}
-use Rattle.model.specs.Numbers.{Call}
 use Rattle.model.specs.Perform.{layOutNumber}
 use Rattle.model.specs.Demand2.{HoldsLedger, CoversStamps, SymbolsFixed, BodiesFixed, Demand2}
-use Rattle.model.specs.history.Ledger.{Rec, Ledger, opened, recordAt, state}
+use Rattle.model.specs.history.Ledger.{Rec, Ledger, recordAt, state}
 use Rattle.model.specs.history.Picture.{checkOver, picture}
-use Rattle.model.specs.history.Answers.{final}
-use Rattle.model.specs.history.Typed.{AllTyped}
-use Rattle.model.specs.history.Claims.{left}
+use Rattle.model.specs.history.Steps.{Step, StepsTyped}
+use Rattle.model.specs.history.Claims.{calls, left, recorded}
 use Rattle.model.proofs.history.ledger.Valid.{Goods, Valid}
 use Rattle.model.proofs.history.picture.Records.{length-keys}
 use Rattle.model.proofs.history.picture.Seen.{size-seen, cstate-is}
 use Rattle.model.proofs.history.picture.Listed.{check-kept}
-use Rattle.model.proofs.history.calls.Opened.{opened-valid}
-use Rattle.model.proofs.history.claims.History.{run}
-use Rattle.model.proofs.history.claims.Demand3.{outlives}
+use Rattle.model.proofs.history.claims.Kept.{whole}
+use Rattle.model.proofs.history.claims.Demand3.{typed-calls, same-ledger, outlives}
 use Rattle.model.proofs.Hashing.{linear-hashing, units-reached}
 use Rattle.model.proofs.MadeAnew.{made-anew}
 use Rattle.model.proofs.Recovered.{recovered}
@@ -62,21 +58,21 @@ covered v l g j r good e =
           ∙ at-ext (4 + j) _ _ (λ p _. sym (stamp-bytes (fields p) (good (4 * g + p) r .field)));
     }
 
-module _ (s : List ℕ) (b : ℕ) (zero : layOutNumber s b ≡ 0) (cs : List Call) (typed : AllTyped cs) where
+module _ (s : List ℕ) (b : ℕ) (zero : layOutNumber s b ≡ 0) (xs : List Step) (typed : StepsTyped xs) where
   abbrev rest : List ℕ
   rest = drop (storeBytes b) s
 
-  valid : Valid (final (opened b) cs)
-  valid = let a : Granted s b = layout-granted s b zero in run cs (opened b) rest (opened-valid b (a .least) (a .most)) typed .valid
+  valid : Valid (recorded s b xs)
+  valid = rw (same-ledger s b zero xs typed) (whole s b zero (calls s b xs) (typed-calls s b zero xs typed) .valid)
 
-  in-histories : HoldsLedger (view (left s b cs)) (final (opened b) cs)
-  in-histories = rw (outlives s b zero cs typed .histories .pictured) (picture-holds (final (opened b) cs) rest valid)
+  in-histories : HoldsLedger (view (left s b xs)) (recorded s b xs)
+  in-histories = rw (outlives s b zero xs typed .histories .pictured) (picture-holds (recorded s b xs) rest valid)
 
-  covers-stamps : (g j r : ℕ) → g < 4 → j < 3 → r < view (left s b cs) .size → view (left s b cs) .cstate (3 * g + j) ≡ 1
-      → CoversStamps (view (left s b cs)) (final (opened b) cs) g j r
+  covers-stamps : (g j r : ℕ) → g < 4 → j < 3 → r < view (left s b xs) .size → view (left s b xs) .cstate (3 * g + j) ≡ 1
+      → CoversStamps (view (left s b xs)) (recorded s b xs) g j r
   covers-stamps g j r hg hj hr e =
-      let records : ℕ → Rec = λ p. recordAt (final (opened b) cs) (4 * g + p) r in
-      covered (view (left s b cs)) (final (opened b) cs) g j r (valid .good)
+      let records : ℕ → Rec = λ p. recordAt (recorded s b xs) (4 * g + p) r in
+      covered (view (left s b xs)) (recorded s b xs) g j r (valid .good)
       (ap (drop keysBytes) (in-histories g j r hg hj hr e) ∙ drop-at (tab 4 (λ p. bytes32 (records p .key))) _ keysBytes (length-keys records))
 
 symbols-fixed : (cs : List ℕ) → FourColumns cs → SymbolsFixed cs

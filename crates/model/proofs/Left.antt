@@ -1,23 +1,23 @@
--- The store that a granted call leaves, part by part, of any sound store: read back from the bytes (`left-same`), for a repair (`repair-left`) and for a
--- raise (`raise-left`); and the units that keep their bytes (`unit-kept`). Assumes nothing.
+-- The store that a granted call leaves, part by part, of any sound store: read back from the bytes (`left-same`), for a repair (`repair-left`), a raise
+-- (`raise-left`) and a grow (`grow-left`); and the units that keep their bytes (`unit-kept`). Assumes nothing.
 use Prim.Native.Nat.{ℕ, _-_, _<_}
 use mathlib.Core.Path.{_≡_, refl}
 use mathlib.Core.List.{List}
 use mathlib.Core.Bool.{true, false}
 use native.Mathlib.Omega.{arith}
 use lib.Dec.{ltb}
-use borrow.Author.Tests.{eq-eqb, ltb-true, ltb-false, not-false}
+use borrow.Author.Tests.{eq-eqb, ltb-true, ltb-false, leb-false, not-false}
 use Rattle.buffer.specs.Choice.{pick}
 use Rattle.buffer.specs.ChoiceLaws.{by-test, pick-true}
 use Rattle.buffer.specs.Table.{tab}
 use Rattle.buffer.specs.TableLaws.{tab-ext}
-use Rattle.model.specs.Layout.{Store, bytes, view}
+use Rattle.model.specs.Layout.{Store, bytes, view, unitsIn}
 use Rattle.model.specs.LayoutLaws.{Shaped, Same, view-bytes, view-shaped}
 use Rattle.model.specs.Reads.{stateIn, beyondIn}
 use Rattle.model.specs.Sound.{sound}
-use Rattle.model.specs.SoundSays.{ranged}
-use Rattle.model.specs.Changes.{repaired, raised}
-use Rattle.model.specs.Numbers.{Call, repair, raise, refusalsIn, numberIn}
+use Rattle.model.specs.SoundSays.{ranged, units-some, units-few}
+use Rattle.model.specs.Changes.{repaired, grown, raised}
+use Rattle.model.specs.Numbers.{Call, repair, grow, raise, refusalsIn, numberIn}
 use Rattle.model.specs.RowLaws.{Free}
 use Rattle.model.specs.Perform.{grantedIn, afterIn, perform}
 use Rattle.model.specs.PerformLaws.{none-holds}
@@ -26,6 +26,8 @@ use Rattle.model.specs.history.Runs.{unitIn}
 use Rattle.model.proofs.history.alike.Alike.{Alike, alike-refl, left-shaped}
 use Rattle.model.proofs.history.alike.Repaired.{repaired-alike}
 use Rattle.model.proofs.history.alike.Raised.{raised-alike}
+use Rattle.model.proofs.history.alike.Numbers.{split-inside}
+use Rattle.model.proofs.history.alike.Dealt.{grown-shaped}
 
 -- ---- a sound store
 
@@ -86,6 +88,25 @@ module _ (s : List ℕ) (zero : numberIn s raise ≡ 0) where
   raise-left =
       let v : Store = view s in
       left-same s raise zero (raised v) refl (left-shaped (raised v) (raised v) (raised-alike v v (itself s raise-sound)))
+
+-- ---- a granted grow
+
+module _ (s : List ℕ) (zero : numberIn s grow ≡ 0) where
+  pub grow-sound : sound s ≡ true
+  unfolding refusalsIn
+  grow-sound = not-false (sound s) (free s grow zero .0)
+
+  pub grow-room : unitsIn (view s) < 16
+  unfolding refusalsIn
+  grow-room = leb-false 16 (unitsIn (view s)) (free s grow zero .1 .0)
+
+  pub grow-left : Same (leftBy s grow) (grown (view s) (unitsIn (view s)))
+  unfolding grantedIn
+  grow-left =
+      let v : Store = view s in
+      let a : Alike (view s) (view s) = itself s grow-sound in
+      left-same s grow zero (grown v (unitsIn v)) refl
+      (grown-shaped v v a (unitsIn v) grow-room (split-inside v v a (units-some s grow-sound) (units-few s grow-sound)))
 
 -- ---- units in service that keep what they hold keep their bytes
 

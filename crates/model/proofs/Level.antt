@@ -19,22 +19,24 @@ use Rattle.model.specs.Sound.{checkPlaced, sound}
 use Rattle.model.specs.SoundSays.{units-few, level-few, fits-absent, by-fitting, check-states}
 use Rattle.model.specs.Changes.{added, raised}
 use Rattle.model.specs.Numbers.{Call, teach, correct, erase, read, readInPlace, list, unitOut, repair, grow, shrink, raise, numberIn}
-use Rattle.model.specs.Perform.{layOutNumber}
+use Rattle.model.specs.Perform.{layOutNumber, layOut}
 use Rattle.model.specs.MadeAnew.{leftBy}
 use Rattle.model.specs.Level.{EachGroupHas, LevelEverywhere}
 use Rattle.model.specs.history.Ledger.{Ledger, opened, withRecords, grownLedger, shrunkLedger, granted}
 use Rattle.model.specs.history.Picture.{picture}
 use Rattle.model.specs.history.Table.{number}
 use Rattle.model.specs.history.Answers.{after, final}
-use Rattle.model.specs.history.Runs.{raises, raisesIn, unitIn}
+use Rattle.model.specs.history.Runs.{finalIn, raises, raisesIn, unitIn}
 use Rattle.model.specs.history.Typed.{AllTyped}
-use Rattle.model.specs.history.Claims.{laid, left}
+use Rattle.model.specs.history.Steps.{Step, StepsTyped}
+use Rattle.model.specs.history.Claims.{laid, calls, left}
 use Rattle.model.proofs.history.ledger.Valid.{Valid}
 use Rattle.model.proofs.history.picture.Seen.{level-seen}
 use Rattle.model.proofs.history.picture.Sound.{picture-sound}
 use Rattle.model.proofs.history.calls.Simulation.{number-agrees, after-agrees, after-valid}
 use Rattle.model.proofs.history.claims.History.{simulated}
-use Rattle.model.proofs.history.claims.Demand3.{start, opened-is, whole, left-is}
+use Rattle.model.proofs.history.claims.Kept.{start, opened-is, whole, left-is}
+use Rattle.model.proofs.history.claims.Demand3.{typed-calls, same-store}
 use Rattle.model.proofs.Left.{raise-sound, shaped, raise-left, unit-kept}
 
 -- ---- a sound store
@@ -143,24 +145,29 @@ module _ (s : List ℕ) (b : ℕ) (cs : List Call) (zero : layOutNumber s b ≡ 
   abbrev rest : List ℕ
   rest = drop (storeBytes b) s
 
-  level-is : levelIn (view (left s b cs)) ≡ suc (raisesIn (laid s b cs) cs)
+  level-is : levelIn (view (finalIn (layOut s b .store) cs)) ≡ suc (raisesIn (layOut s b .store) cs)
   unfolding opened
   level-is =
-      rw (left-is s b zero cs typed, start s b zero cs typed)
+      rw (left-is s b zero cs typed, start s b zero)
       (level-seen end rest (whole s b zero cs typed .valid)
-      ∙ final-level cs (opened b) rest (opened-is s b zero cs typed) typed
+      ∙ final-level cs (opened b) rest (opened-is s b zero) typed
       ∙ omega arith)
 
-  each-group : EachGroupHas (view (left s b cs)) (suc (raisesIn (laid s b cs) cs))
+  each-group : EachGroupHas (view (finalIn (layOut s b .store) cs)) (suc (raisesIn (layOut s b .store) cs))
   each-group g a =
-      sound-level (left s b cs) (ap sound (left-is s b zero cs typed) ∙ picture-sound end rest (whole s b zero cs typed .valid)) g a ∙ level-is
+      sound-level (finalIn (layOut s b .store) cs) (ap sound (left-is s b zero cs typed) ∙ picture-sound end rest (whole s b zero cs typed .valid)) g a ∙ level-is
+
+-- ---- the same by steps
+
+by-steps : (s : List ℕ) (b : ℕ) (xs : List Step) → layOutNumber s b ≡ 0 → StepsTyped xs
+    → EachGroupHas (view (left s b xs)) (suc (raisesIn (laid s b xs) (calls s b xs)))
+by-steps s b xs zero typed = rw (same-store s b zero xs typed) (each-group s b (calls s b xs) zero (typed-calls s b zero xs typed))
 
 -- EVERYWHERE
 pub level-everywhere : LevelEverywhere
 level-everywhere = record {
   in-sound-stores = sound-level;
   raised = λ s z. record { level = raise-level s z; serves = raise-serves s z; holds = raise-holds s z };
-  in-histories = each-group;
-  equal-raises = λ s t b d cs ds y z p q e g h i j.
-      each-group s b cs y p g i ∙ ap suc e ∙ sym (each-group t d ds z q h j);
+  in-histories = by-steps;
+  equal-raises = λ s t b d xs ys y z p q e g h i j. by-steps s b xs y p g i ∙ ap suc e ∙ sym (by-steps t d ys z q h j);
 }

@@ -1,10 +1,12 @@
 pub mod Refusals
 pub mod InPlace
-pub mod Demand1
 pub mod history
+pub mod Further
+pub mod Demand1
 pub mod Left
 pub mod Level
 pub mod Judged
+pub mod Planning
 pub mod MadeAnew
 pub mod RepairKeeps
 pub mod Hashing

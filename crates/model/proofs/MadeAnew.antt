@@ -19,9 +19,9 @@ use Rattle.model.specs.Numbers.{repair, grow, shrink, raise, refusalsIn}
 use Rattle.model.specs.Perform.{grantedIn}
 use Rattle.model.specs.MadeAnew.{HoldsCheckRecords, leftBy, MadeAnew}
 use Rattle.model.proofs.history.alike.Alike.{left-shaped}
-use Rattle.model.proofs.history.alike.Numbers.{split-inside, split-before}
-use Rattle.model.proofs.history.alike.Dealt.{grown-shaped, shrunk-alike}
-use Rattle.model.proofs.Left.{itself, free, left-same, repair-left, raise-left}
+use Rattle.model.proofs.history.alike.Numbers.{split-before}
+use Rattle.model.proofs.history.alike.Dealt.{shrunk-alike}
+use Rattle.model.proofs.Left.{itself, free, left-same, repair-left, raise-left, grow-left}
 
 -- what check unit c holds, in stores whose parts are the same
 same-holds : (s t : Store) → Same s t → (c : ℕ) → c < 12 → HoldsCheckRecords t c → HoldsCheckRecords s c
@@ -57,13 +57,9 @@ pub made-anew : (s : List ℕ) → MadeAnew s
 unfolding refusalsIn grantedIn
 made-anew s = record {
   by-grow = λ z c l q e.
-      let f = free s grow z in
-      let ok : sound s ≡ true = not-false (sound s) (f .0) in
       let v : Store = view s in
       let m : ℕ = unitsIn (view s) in
-      let h : Same (leftBy s grow) (grown v m) =
-      left-same s grow z (grown v m) refl
-      (grown-shaped v v (itself s ok) m (leb-false 16 m (f .1 .0)) (split-inside v v (itself s ok) (units-some s ok) (units-few s ok))) in
+      let h : Same (leftBy s grow) (grown v m) = grow-left s z in
       same-holds (leftBy s grow) (grown v m) h c l (grown-holds v m c q (sym (h .cstate c l) ∙ e));
   by-shrink = λ z c l q e.
       let f = free s shrink z in

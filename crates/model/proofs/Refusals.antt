@@ -29,7 +29,7 @@ number-low s c = first-low (refusalsIn (sound s) (view s) c) (numbered-in (sound
 
 -- ---- a number other than 0
 
-refused-output : (n : ℕ) (y out : List ℕ) → n ≢ 0 → output n y out ≡ out
+pub refused-output : {A : Type 0} (n : ℕ) (y out : List A) → n ≢ 0 → output n y out ≡ out
 unfolding output
 refused-output n y out e = pick-false (ne-eqb n 0 e) (y ++ drop (length y) out) out
 

@@ -5,4 +5,5 @@ pub mod picture
 pub mod calls
 pub mod alone
 pub mod alike
+pub mod steps
 pub mod claims

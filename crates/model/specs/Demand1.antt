@@ -15,12 +15,20 @@ use Rattle.model.specs.Reads.{homeIn, stateIn, lostIn, totalIn}
 use Rattle.model.specs.Sound.{sound}
 use Rattle.model.specs.Numbers.{Call, teach, correct, erase, read, readInPlace, list, unitOut, repair, numberIn}
 use Rattle.model.specs.Perform.{plain, refusal, outcome, givenIn, perform, laidOut, layOutNumber, layOut}
+use Rattle.model.specs.history.Further.{Further, furtherNumberIn, furtherRefusal}
+use Rattle.model.specs.history.Steps.{further, performStep}
 
 -- a call on any bytes: its number is the table's; refused, it leaves all as it was; a damaged store gets 1 where 2 does not apply
 pub record Refuses (s : List ℕ) (c : Call) : Type 0 where
   pub numbered : numberIn s c ≤ 9
   pub refused : numberIn s c ≢ 0 → perform s c ≡ outcome (refusal c (numberIn s c)) s
   pub damaged : sound s ≡ false → numberIn s c ≢ 2 → perform s c ≡ outcome (refusal c 1) s
+
+-- the same of a further call
+pub record FurtherRefuses (s : List ℕ) (a : Further) : Type 0 where
+  pub numbered : furtherNumberIn s a ≤ 11
+  pub refused : furtherNumberIn s a ≢ 0 → performStep s (further a) ≡ outcome (furtherRefusal a (furtherNumberIn s a)) s
+  pub damaged : sound s ≡ false → furtherNumberIn s a ≢ 2 → performStep s (further a) ≡ outcome (furtherRefusal a 1) s
 
 -- each of these calls is refused with the number n
 abbrev pub RefusedWith : List ℕ → ℕ → List Call → Type 0
@@ -57,6 +65,7 @@ pub record LaysOut (s : List ℕ) (b : ℕ) : Type 0 where
 -- DEMAND 1
 pub record Demand1 : Type 0 where
   pub calls : (s : List ℕ) (c : Call) → Refuses s c
+  pub further-calls : (s : List ℕ) (a : Further) → FurtherRefuses s a
   pub misuses : (s : List ℕ) → Misused s
   pub in-place : (s : List ℕ) (k : ℕ) → InPlace s k
   pub layouts : (s : List ℕ) (b : ℕ) → LaysOut s b

@@ -18,15 +18,14 @@ use Rattle.group.specs.Rebuilding.{rebuiltFrom}
 use Rattle.model.specs.Units.{digitSum, unitOf}
 use Rattle.model.specs.Layout.{Store, view}
 use Rattle.model.specs.Field.{bodyOf, stampOf}
-use Rattle.model.specs.Numbers.{Call}
 use Rattle.model.specs.Perform.{layOutNumber}
 use Rattle.model.specs.MadeAnew.{MadeAnew}
 use Rattle.model.specs.Recovered.{Recovered}
 use Rattle.model.specs.RepairKeeps.{RepairKeeps}
-use Rattle.model.specs.history.Ledger.{Ledger, opened, recordAt}
-use Rattle.model.specs.history.Answers.{final}
-use Rattle.model.specs.history.Typed.{Bytes, AllTyped}
-use Rattle.model.specs.history.Claims.{left}
+use Rattle.model.specs.history.Ledger.{Ledger, recordAt}
+use Rattle.model.specs.history.Typed.{Bytes}
+use Rattle.model.specs.history.Steps.{Step, StepsTyped}
+use Rattle.model.specs.history.Claims.{left, recorded}
 
 -- linear hashing over m units: there is a largest j for which 2^j ≤ m, and the unit of a key with digit sum x is x mod 2^j, or x mod 2^(j+1) where
 -- the former is below n = m - 2^j
@@ -74,9 +73,9 @@ pub record Demand2 : Type 0 where
   pub hashed : (m : ℕ) → 1 ≤ m → m ≤ 16 → LinearHashing m
   pub reached : (m : ℕ) → 1 ≤ m → m ≤ 16 → UnitsReached m
   -- "Check records are the group's records times the paper's matrix": in every history, and of every check unit that a call makes anew
-  pub in-histories : (s : List ℕ) (b : ℕ) → layOutNumber s b ≡ 0 → (cs : List Call) → AllTyped cs → HoldsLedger (view (left s b cs)) (final (opened b) cs)
-  pub covers-stamps : (s : List ℕ) (b : ℕ) → layOutNumber s b ≡ 0 → (cs : List Call) → AllTyped cs → (g j r : ℕ) → g < 4 → j < 3
-      → r < view (left s b cs) .size → view (left s b cs) .cstate (3 * g + j) ≡ 1 → CoversStamps (view (left s b cs)) (final (opened b) cs) g j r
+  pub in-histories : (s : List ℕ) (b : ℕ) → layOutNumber s b ≡ 0 → (xs : List Step) → StepsTyped xs → HoldsLedger (view (left s b xs)) (recorded s b xs)
+  pub covers-stamps : (s : List ℕ) (b : ℕ) → layOutNumber s b ≡ 0 → (xs : List Step) → StepsTyped xs → (g j r : ℕ) → g < 4 → j < 3
+      → r < view (left s b xs) .size → view (left s b xs) .cstate (3 * g + j) ≡ 1 → CoversStamps (view (left s b xs)) (recorded s b xs) g j r
   pub made-anew : (s : List ℕ) → MadeAnew s
   -- "Four members under any four different columns fix the data, and rebuilding returns just that data": of symbols and of bodies of any width
   pub symbols : (cs : List ℕ) → FourColumns cs → SymbolsFixed cs

@@ -7,12 +7,12 @@ use mathlib.Core.Bool.{true}
 use Rattle.model.specs.Layout.{Store, view, unitsIn, levelIn}
 use Rattle.model.specs.Reads.{stateIn, checksIn}
 use Rattle.model.specs.Sound.{sound}
-use Rattle.model.specs.Numbers.{Call, raise, numberIn}
+use Rattle.model.specs.Numbers.{raise, numberIn}
 use Rattle.model.specs.Perform.{layOutNumber}
 use Rattle.model.specs.MadeAnew.{leftBy}
 use Rattle.model.specs.history.Runs.{unitIn, raisesIn}
-use Rattle.model.specs.history.Typed.{AllTyped}
-use Rattle.model.specs.history.Claims.{laid, left}
+use Rattle.model.specs.history.Steps.{Step, StepsTyped}
+use Rattle.model.specs.history.Claims.{laid, calls, left}
 
 -- each group in place has the same number n of check units
 abbrev pub EachGroupHas : Store → ℕ → Type 0
@@ -28,9 +28,9 @@ pub record LevelEverywhere : Type 0 where
   pub in-sound-stores : (s : List ℕ) → sound s ≡ true → EachGroupHas (view s) (levelIn (view s))
   pub raised : (s : List ℕ) → numberIn s raise ≡ 0 → Raised s
   -- one check unit, and one more for each raise granted since the layout
-  pub in-histories : (s : List ℕ) (b : ℕ) (cs : List Call) → layOutNumber s b ≡ 0 → AllTyped cs
-      → EachGroupHas (view (left s b cs)) (suc (raisesIn (laid s b cs) cs))
-  pub equal-raises : (s t : List ℕ) (b d : ℕ) (cs ds : List Call) → layOutNumber s b ≡ 0 → layOutNumber t d ≡ 0 → AllTyped cs → AllTyped ds
-      → raisesIn (laid s b cs) cs ≡ raisesIn (laid t d ds) ds
-      → (g h : ℕ) → 4 * g < unitsIn (view (left s b cs)) → 4 * h < unitsIn (view (left t d ds))
-      → checksIn (view (left s b cs)) g ≡ checksIn (view (left t d ds)) h
+  pub in-histories : (s : List ℕ) (b : ℕ) (xs : List Step) → layOutNumber s b ≡ 0 → StepsTyped xs
+      → EachGroupHas (view (left s b xs)) (suc (raisesIn (laid s b xs) (calls s b xs)))
+  pub equal-raises : (s t : List ℕ) (b d : ℕ) (xs ys : List Step) → layOutNumber s b ≡ 0 → layOutNumber t d ≡ 0 → StepsTyped xs → StepsTyped ys
+      → raisesIn (laid s b xs) (calls s b xs) ≡ raisesIn (laid t d ys) (calls t d ys)
+      → (g h : ℕ) → 4 * g < unitsIn (view (left s b xs)) → 4 * h < unitsIn (view (left t d ys))
+      → checksIn (view (left s b xs)) g ≡ checksIn (view (left t d ys)) h

@@ -31,6 +31,7 @@ pub mod MadeAnew
 pub mod Recovered
 pub mod RepairKeeps
 pub mod Judged
+pub mod Planning
 pub mod Demand2
 pub mod Level
 pub mod history

@@ -6,6 +6,7 @@ use lib.Dec.{eqb, ltb}
 use lib.ListN.{length, drop}
 use Rattle.buffer.specs.Choice.{pick}
 use Rattle.buffer.specs.Bytes.{zeros, part}
+use Rattle.moves.specs.declared.Move.{Move}
 use Rattle.group.specs.Widths.{keyBytes, fieldBytes, slotBytes, checkBytes}
 use Rattle.model.specs.Layout.{Store, bytes, view, storeBytes, frontOf, slotAt, slotOf, unitsIn}
 use Rattle.model.specs.Reads.{homeIn, fillIn, rankIn, fieldIn, totalIn, listingIn}
@@ -20,9 +21,10 @@ pub data Answer : Type 0 where
   copied : ℕ → List ℕ → Answer  -- read: its number, and the output buffer
   lent : List ℕ → Answer  -- read in place: the part handed back, and no number
   listed : ℕ → ℕ → List ℕ → Answer  -- list: its number, the count, and the output buffer
+  planned : ℕ → ℕ → List Move → Answer  -- asking for a plan: its number, the count, and the lent list of moves
 
--- an output buffer after a call with the number n that hands back the bytes y: these and the old rest; when refused it is as it was
-unfoldable pub output : ℕ → List ℕ → List ℕ → List ℕ
+-- an output buffer, or a lent list, after a call with the number n that hands back y: that and the old rest; when refused it is as it was
+unfoldable pub output : {A : Type 0} → ℕ → List A → List A → List A
 output n y out = pick (eqb n 0) (y ++ drop (length y) out) out
 
 -- a call's answer, of its number, the bytes that it hands back and the count

@@ -36,17 +36,17 @@ plain-reply of-raise n y m = refl
 
 -- the code's number r, from the store's rows with the test ok of its soundness
 module _ (s : List ℕ) {c : Call} (alone : Plain c) {ok : Bool} {r : ℕ} (tested : ok ≡ sound s) (found : r ≡ firstOf (refusalsIn ok (view s) c)) where
-  number : r ≡ numberIn s c
+  pub number-is : r ≡ numberIn s c
   unfolding numberIn
-  number = found ∙ ap (λ t. firstOf (refusalsIn t (view s) c)) tested
+  number-is = found ∙ ap (λ t. firstOf (refusalsIn t (view s) c)) tested
 
   pub refused : (r ≡ 0 → ⊥) → outcome (plain r) s ≡ perform s c
   unfolding perform answerIn afterIn
-  refused h = rw (plain-reply alone, ← number, pick-false (ne-eqb r 0 h))
+  refused h = rw (plain-reply alone, ← number-is, pick-false (ne-eqb r 0 h))
 
   pub granted : {s′ : List ℕ} → r ≡ 0 → s′ ≡ grantedIn s c → outcome (plain 0) s′ ≡ perform s c
   unfolding perform answerIn afterIn
-  granted z e = rw (plain-reply alone, ← number, z, e, pick-true (eq-eqb 0 0 refl))
+  granted z e = rw (plain-reply alone, ← number-is, z, e, pick-true (eq-eqb 0 0 refl))
 
 -- where the number is 0, none of the call's rows holds
 pub none-holds : (ok : Bool) (v : Store) (c : Call) (r : ℕ) → r ≡ firstOf (refusalsIn ok v c) → r ≡ 0 → Free (refusalsIn ok v c)

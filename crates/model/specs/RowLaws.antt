@@ -1,12 +1,12 @@
 -- Rows of the table of numbers: two lists of rows that give one number, rows of which none holds, a front part and the first row. Assumes nothing.
 use Prim.Native.Nat.{ℕ, _≤_}
-use mathlib.Core.Path.{_≡_, refl, sym, _∙_}
+use mathlib.Core.Path.{_≡_, refl, sym, _∙_, subst}
 use mathlib.Core.Logic.{_≢_}
 use mathlib.Core.List.{List, [], _∷_, _++_}
 use mathlib.Core.Bool.{Bool, true, false, _&&_, _||_}
 use native.Mathlib.Omega.{arith}
 use lib.Dec.{eqb, leb}
-use borrow.Author.Tests.{eq-eqb, leb-true}
+use borrow.Author.Tests.{eq-eqb, eqb-true, eqb-false, leb-true}
 use Rattle.buffer.specs.Choice.{pick}
 use Rattle.buffer.specs.ChoiceLaws.{by-test, by-pick, pick-true, pick-false, pick-ext}
 use Rattle.buffer.specs.TestLaws.{not-both, and-true, and-first, and-second}
@@ -23,6 +23,10 @@ Agree (s ∷ ss) (t ∷ ts) = (s .1 ≡ t .1) × (s .0 ≡ t .0) × (t .0 ≡ fa
 -- one row of the two lists, and those behind it, P
 pub row : {n : ℕ} {s t : Bool} {P : Type 0} → s ≡ t → (t ≡ false → P) → (n ≡ n) × (s ≡ t) × (t ≡ false → P)
 row e h = (refl, e, h)
+
+pub agree-same : (ts : List (Bool × ℕ)) → Agree ts ts
+agree-same [] = tt
+agree-same (t ∷ ts) = (refl, refl, λ _. agree-same ts)
 
 -- none holds
 abbrev pub Free : List (Bool × ℕ) → Type 0
@@ -94,6 +98,20 @@ pub front-free : (ts us : List (Bool × ℕ)) → Free ts → firstOf (ts ++ us)
 unfolding firstOf
 front-free [] us f = refl
 front-free (t ∷ ts) us f = pick-false (f .0) (t .1) (firstOf (ts ++ us)) ∙ front-free ts us (f .1)
+
+-- rows behind count only where none of the front part holds
+pub agree-append : (ss ts us vs : List (Bool × ℕ)) → Agree ss ts → (Free ts → Agree us vs) → Agree (ss ++ us) (ts ++ vs)
+agree-append [] [] us vs h k = k tt
+agree-append [] (t ∷ ts) us vs h k = absurd h
+agree-append (s ∷ ss) [] us vs h k = absurd h
+agree-append (s ∷ ss) (t ∷ ts) us vs h k = (h .0, h .1, λ e. agree-append ss ts us vs (h .2 e) (λ f. k (e, f)))
+
+-- by whether the front part refuses
+pub by-front {ℓ} : (P : ℕ → Type ℓ) (ts us : List (Bool × ℕ)) → Numbered ts
+    → (firstOf ts ≢ 0 → P (firstOf ts)) → (Free ts → P (firstOf us)) → P (firstOf (ts ++ us))
+by-front P ts us n refused free = by-test (λ (t : Bool). P (firstOf (ts ++ us))) (eqb (firstOf ts) 0)
+    (λ e. let f : Free ts = first-free ts n (eqb-true (firstOf ts) 0 e) in subst P (sym (front-free ts us f)) (free f))
+    (λ e. let z : firstOf ts ≢ 0 = eqb-false (firstOf ts) 0 e in subst P (sym (front-holds ts us z)) (refused z))
 
 -- ---- the first row
 

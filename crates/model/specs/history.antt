@@ -4,6 +4,9 @@ pub mod Table
 pub mod Answers
 pub mod Runs
 pub mod Typed
+pub mod Plan
+pub mod Further
+pub mod Steps
 pub mod Leaves
 pub mod Claims
 pub mod StaysSound

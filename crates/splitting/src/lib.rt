@@ -6,16 +6,17 @@ pub mod states;
 
 ghost use mathlib.Core.Path.{_≡_};
 ghost use Prim.Native.Nat.{_+_, _≤_, _<_};
-ghost use lib.Dec.{ltb};
+ghost use lib.Dec.{eqb, ltb};
 ghost use lib.ListN.{getD};
 ghost use Rattle.buffer.specs.Choice.{pick};
 ghost use Rattle.buffer.specs.Range.{sum};
 ghost use Rattle.buffer.specs.Bytes.{byte};
+ghost use Rattle.model.specs.Units.{splitPointer};
 ghost use Rattle.model.specs.Layout.{bytes, view};
 ghost use Rattle.model.specs.Reads.{fillIn};
-ghost use Rattle.model.specs.Numbers.{Call, grow, shrink, raise, firstOf, refusalsIn};
+ghost use Rattle.model.specs.Numbers.{Call, grow, shrink, raise, firstOf, refusalsIn, numberIn};
 ghost use Rattle.model.specs.Changes.{grown, shrunk};
-ghost use Rattle.model.specs.Perform.{outcome, plain, perform};
+ghost use Rattle.model.specs.Perform.{outcome, plain, grantedIn, perform};
 ghost use Rattle.soundness.specs.Survey.{Surveyed};
 ghost use Rattle.splitting.specs.Steps.{Split, Blank, pairOut, pairCrowded};
 
@@ -101,6 +102,38 @@ fn grow_number(s: &[u8], survey: soundness::Survey) -> u8
     row(pair_out(outs, m), 4, 0)
 }
 
+// The number of a grow, and where that is 0 how many records the unit that is split has, else 0.
+pub struct Growth {
+    pub number: u8,
+    pub count: u8,
+}
+
+pub fn growth_of(s: &[u8]) -> Growth
+    ensures { λ g. ⌜ (g .number ≡ numberIn (now (s .entry)) Call.grow)
+        × (g .count ≡ pick (eqb (g .number) 0) (fillIn (view (now (s .entry))) (splitPointer (byte (now (s .entry)) 6))) 0) ⌝ }
+{
+    let survey = soundness::survey_of(s);
+    let number = grow_number(s, survey);
+    if number != 0 {
+        return Growth { number, count: 0 };
+    }
+    let n = lookup::split_pointer(buffer::byte_at(s, lookup::UNITS_AT));
+    let fills = survey.fills;
+    Growth {
+        number: 0,
+        count: fills[buffer::wide(n)],
+    }
+}
+
+// Grows the store where that is granted, by a unit split from one with count records.
+pub fn add_next(s: &mut [u8], count: u8)
+    requires { ⌜ (numberIn (now s) Call.grow ≡ 0) × (count ≡ fillIn (view (now s)) (splitPointer (byte (now s) 6))) ⌝ }
+    ensures { λ _. ⌜ now (s .exit) ≡ grantedIn (now (s .entry)) Call.grow ⌝ }
+{
+    let m = s[lookup::UNITS_AT];
+    add_unit(s, lookup::split_pointer(m), m, count);
+}
+
 // The number of a shrink.
 fn shrink_number(s: &[u8], survey: soundness::Survey) -> u8
     requires { ⌜ Surveyed (now s) (survey .sound) (survey .fills) (survey .«first_checks») (survey .outs) ⌝ }
@@ -138,15 +171,11 @@ fn raise_number(s: &[u8], survey: soundness::Survey) -> u8
 pub fn grow(s: &mut [u8]) -> u8
     ensures { λ r. ⌜ outcome (plain r) (now (s .exit)) ≡ perform (now (s .entry)) Call.grow ⌝ }
 {
-    let survey = soundness::survey_of(s);
-    let number = grow_number(s, survey);
-    if number != 0 {
-        return number;
+    let growth = growth_of(s);
+    if growth.number != 0 {
+        return growth.number;
     }
-    let m = buffer::byte_at(s, lookup::UNITS_AT);
-    let n = lookup::split_pointer(m);
-    let fills = survey.fills;
-    add_unit(s, n, m, fills[buffer::wide(n)]);
+    add_next(s, growth.count);
     0
 }
 

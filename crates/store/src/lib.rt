@@ -3,7 +3,9 @@ pub mod lay_out;
 
 ghost use mathlib.Core.Path.{_≡_};
 ghost use Rattle.model.specs.Numbers.{Call};
-ghost use Rattle.model.specs.Perform.{outcome, plain, copied, listed, perform, layOut};
+ghost use Rattle.model.specs.Perform.{outcome, plain, copied, listed, planned, perform, layOut};
+ghost use Rattle.model.specs.history.Further.{Further, plan, commit};
+ghost use Rattle.model.specs.history.Steps.{Step, further, performStep};
 ghost use Rattle.coder.specs.Segment.{ending, rebuildSegment};
 
 #[no_mangle]
@@ -71,6 +73,24 @@ pub extern "C" fn lhrs_grow(store: &mut [u8]) -> u8
     ensures { λ r. ⌜ outcome (plain r) (now (store .exit)) ≡ perform (now (store .entry)) Call.grow ⌝ }
 {
     splitting::grow(store)
+}
+
+// The count goes into the number that the caller lends; 0 when refused.
+#[no_mangle]
+pub extern "C" fn lhrs_plan(store: &[u8], list: &mut [moves::Move], count: &mut usize) -> u8
+    ensures { λ r. ⌜ outcome (planned r (now (count .exit)) (now (list .exit))) (now (store .entry))
+        ≡ performStep (now (store .entry)) (further (Further.plan (now (list .entry)))) ⌝ }
+{
+    let planned = planning::plan(store, list);
+    *count = planned.count;
+    planned.number
+}
+
+#[no_mangle]
+pub extern "C" fn lhrs_commit(store: &mut [u8], list: &[moves::Move], count: usize) -> u8
+    ensures { λ r. ⌜ outcome (plain r) (now (store .exit)) ≡ performStep (now (store .entry)) (further (Further.commit (now (list .entry)) count)) ⌝ }
+{
+    planning::commit(store, list, count)
 }
 
 #[no_mangle]

@@ -1,7 +1,8 @@
--- The theorems: every history is the ledger's, demand 3, the stores that a history leaves, demand 3 of functions that meet their contracts, and a sound
+-- The theorems: every list of base calls is the ledger's and keeps what was taught, demand 3, the stores that a history leaves, demand 3 of functions that meet their contracts, and a sound
 -- store stays sound.
 pub mod History
 pub mod HandedBack
+pub mod Kept
 pub mod Demand3
 pub mod Leaves
 pub mod StaysSound

@@ -36,11 +36,7 @@ answer l c = reply c (number l c) (given l c) (total l)
 unfoldable pub after : Ledger → Call → Ledger
 after l c = pick (eqb (number l c) 0) (granted l c) l
 
--- a list of calls: the answers, and the ledger at the end
-unfoldable pub answers : Ledger → List Call → List Answer
-answers l [] = []
-answers l (c ∷ cs) = answer l c ∷ answers (after l c) cs
-
+-- the ledger at the end of a list of calls
 unfoldable pub final : Ledger → List Call → Ledger
 final l [] = l
 final l (c ∷ cs) = final (after l c) cs

@@ -1,4 +1,4 @@
--- Demand 3: the statements, over every list of calls after one granted layout. What the types give (a key has 32 bits, a slice holds bytes) is
+-- Demand 3: the statements, over every list of steps, base calls and further ones, after one granted layout. What the types give (a key has 32 bits, a slice holds bytes) is
 -- the only side condition. Assumes nothing.
 use Prim.Native.Nat.{ℕ, _*_, _<_, _≤_}
 use mathlib.Core.Path.{_≡_}
@@ -17,30 +17,16 @@ use Rattle.model.specs.Numbers.{Call, read, readInPlace, list, repair, n
 use Rattle.model.specs.Perform.{copied, lent, listed, perform, layOut}
 use Rattle.model.specs.history.Ledger.{Ledger, opened, keyBeyondOf, beyondOf}
 use Rattle.model.specs.history.Picture.{picture}
-use Rattle.model.specs.history.Answers.{answers, final}
-use Rattle.model.specs.history.Runs.{answersIn, finalIn, aloneIn, allGranted, unitIn, lastTaught, asTaught}
+use Rattle.model.specs.history.Runs.{finalIn, aloneIn, allGranted, unitIn, lastTaught, asTaught}
+use Rattle.model.specs.history.Steps.{Step, stepAnswersIn, stepsLeaveIn, callsIn, stepAnswers, stepsLeave}
 
 -- a field has this body and this stamp
 abbrev pub HasParts : List ℕ → ℕ → List ℕ → Type 0
 HasParts body stamp x = (bodyOf x ≡ body) × (stampOf x ≡ stamp)
 
-module _ (s : List ℕ) (b : ℕ) (cs : List Call) where
-  -- the store as laid out, and as the list leaves it
-  abbrev pub laid : List ℕ
-  laid = layOut s b .store
+-- ---- of a store as laid out, the base calls that count, the store as they leave it, and the ledger then
 
-  abbrev pub left : List ℕ
-  left = finalIn (layOut s b .store) cs
-
-  -- the ledger at the end of the list
-  abbrev pub recorded : Ledger
-  recorded = final (opened b) cs
-
-  -- all answers are those of the ledger, and the store ends, byte for byte, as the ledger pictures it; behind it nothing is touched
-  pub record Histories : Type 0 where
-    pub answered : answersIn laid cs ≡ answers (opened b) cs
-    pub pictured : left ≡ picture recorded (drop (storeBytes b) s)
-
+module _ (laid : List ℕ) (cs : List Call) (left : List ℕ) (recorded : Ledger) where
   -- each unit in service holds what the granted calls other than losses and repairs alone would have left there: run alone, from the same
   -- start, they are granted again, and the unit is in service there with the same bytes
   pub record Unlost : Type 0 where
@@ -78,10 +64,35 @@ module _ (s : List ℕ) (b : ℕ) (cs : List Call) where
   BeyondRecovery = (g : ℕ) → numberIn left (repair g)
       ≡ pick (ltb 3 g) 2 (pick (leb (unitsIn (view left)) (4 * g)) 3 (pick (beyondOf recorded g) 8 0))
 
-  -- DEMAND 3: a taught position outlives its unit. One claim about the whole list.
-  pub record Outlives : Type 0 where
-    pub histories : Histories
+  -- what was taught is kept
+  pub record Kept : Type 0 where
     pub unlost : Unlost
     pub reads-as-taught : ReadsAsTaught
     pub with-stamps : (k : ℕ) (body : List ℕ) (stamp : ℕ) → TaughtWith k body stamp → HandsBackBoth k body stamp
     pub beyond-recovery : BeyondRecovery
+
+-- ---- after one granted layout, whatever the steps
+
+module _ (s : List ℕ) (b : ℕ) (xs : List Step) where
+  -- the store as laid out, the base calls that the steps count as (a granted commit as a grow), the store as the steps leave it, and the ledger then
+  abbrev pub laid : List ℕ
+  laid = layOut s b .store
+
+  abbrev pub calls : List Call
+  calls = callsIn (layOut s b .store) xs
+
+  abbrev pub left : List ℕ
+  left = stepsLeaveIn (layOut s b .store) xs
+
+  abbrev pub recorded : Ledger
+  recorded = stepsLeave (opened b) xs
+
+  -- all answers are those of the ledger, and the store ends, byte for byte, as the ledger pictures it; behind it nothing is touched
+  pub record Histories : Type 0 where
+    pub answered : stepAnswersIn laid xs ≡ stepAnswers (opened b) xs
+    pub pictured : left ≡ picture recorded (drop (storeBytes b) s)
+
+  -- DEMAND 3: a taught position outlives its unit. One claim about the whole list.
+  pub record Outlives : Type 0 where
+    pub histories : Histories
+    pub kept : Kept laid calls left recorded

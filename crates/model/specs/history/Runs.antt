@@ -10,11 +10,7 @@ use Rattle.model.specs.Layout.{Store}
 use Rattle.model.specs.Numbers.{Call, teach, correct, erase, read, readInPlace, list, unitOut, repair, grow, shrink, raise, byKind, numberIn}
 use Rattle.model.specs.Perform.{Answer, copied, perform}
 
--- the answers of a list of calls, and the bytes at its end
-unfoldable pub answersIn : List ℕ → List Call → List Answer
-answersIn s [] = []
-answersIn s (c ∷ cs) = perform s c .answer ∷ answersIn (perform s c .store) cs
-
+-- the bytes at the end of a list of calls
 unfoldable pub finalIn : List ℕ → List Call → List ℕ
 finalIn s [] = s
 finalIn s (c ∷ cs) = finalIn (perform s c .store) cs

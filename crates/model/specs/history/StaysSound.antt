@@ -5,9 +5,8 @@ use mathlib.Core.Path.{_≡_}
 use mathlib.Core.List.{List}
 use mathlib.Core.Bool.{true}
 use Rattle.model.specs.Sound.{sound}
-use Rattle.model.specs.Numbers.{Call}
-use Rattle.model.specs.Perform.{perform}
-use Rattle.model.specs.history.Typed.{Bytes, Typed}
+use Rattle.model.specs.history.Typed.{Bytes}
+use Rattle.model.specs.history.Steps.{Step, performStep, StepTyped}
 
 abbrev pub StaysSound : Type 0
-StaysSound = (s : List ℕ) → Bytes s → sound s ≡ true → (c : Call) → Typed c → sound (perform s c .store) ≡ true
+StaysSound = (s : List ℕ) → Bytes s → sound s ≡ true → (x : Step) → StepTyped x → sound (performStep s x .store) ≡ true

@@ -1,4 +1,4 @@
--- Every call, and every list of calls: run on a picture it answers as the ledger does, and leaves the ledger's picture. Assumes nothing.
+-- Every base call, and every list of them: run on a picture it leaves the ledger's picture, and what it says of a key is what the ledger says. Assumes nothing.
 use Prim.Native.Nat.{ℕ}
 use mathlib.Core.Path.{_≡_, refl}
 use mathlib.Core.List.{List, [], _∷_}
@@ -6,13 +6,13 @@ use mathlib.Core.Option.{Option}
 use Rattle.model.specs.Numbers.{Call, teach, correct, erase, read, readInPlace, list, unitOut, repair, grow, shrink, raise}
 use Rattle.model.specs.history.Ledger.{Ledger}
 use Rattle.model.specs.history.Picture.{picture}
-use Rattle.model.specs.history.Answers.{after, answers, final}
-use Rattle.model.specs.history.Runs.{answersIn, finalIn, aloneIn, allGranted, lastTaught}
+use Rattle.model.specs.history.Answers.{after, final}
+use Rattle.model.specs.history.Runs.{finalIn, aloneIn, allGranted, lastTaught}
 use Rattle.model.specs.history.Typed.{Typed, AllTyped}
 use Rattle.model.proofs.history.ledger.Valid.{Valid}
 use Rattle.model.proofs.history.taught.Recorded.{Ordered}
 use Rattle.model.proofs.history.taught.Taught.{lastTaughtBy, Throughout}
-use Rattle.model.proofs.history.calls.Simulation.{Simulated, number-agrees, answer-agrees, after-agrees, after-valid}
+use Rattle.model.proofs.history.calls.Simulation.{Simulated, number-agrees, after-agrees, after-valid}
 use Rattle.model.proofs.history.calls.Teach.{teach-simulated}
 use Rattle.model.proofs.history.calls.Correct.{correct-simulated}
 use Rattle.model.proofs.history.calls.Erase.{erase-simulated}
@@ -28,7 +28,6 @@ use Rattle.model.proofs.history.alone.Lossless.{alone, allGrantedBy}
 
 -- what a run of the store on the picture of l has in common with the ledger's
 pub record Run (l : Ledger) (rest : List ℕ) (cs : List Call) : Type 0 where
-  pub answered : answersIn (picture l rest) cs ≡ answers l cs
   pub left : finalIn (picture l rest) cs ≡ picture (final l cs) rest
   pub valid : Valid (final l cs)
   pub ordered : Throughout l cs
@@ -54,15 +53,14 @@ simulated l rest h raise t = raise-simulated l rest h
 
 -- WHATEVER THE CALLS
 pub run : (cs : List Call) (l : Ledger) (rest : List ℕ) → Valid l → AllTyped cs → Run l rest cs
-unfolding answersIn finalIn answers final aloneIn alone allGranted allGrantedBy lastTaught lastTaughtBy
-run [] l rest h t = record { answered = refl; left = refl; valid = h; ordered = tt; alone = refl; granted = refl; taught = λ k x. refl }
+unfolding finalIn final aloneIn alone allGranted allGrantedBy lastTaught lastTaughtBy
+run [] l rest h t = record { left = refl; valid = h; ordered = tt; alone = refl; granted = refl; taught = λ k x. refl }
 run (c ∷ cs) l rest h t =
     let s : Simulated l rest c = simulated l rest h c (t .0) in
     let n = number-agrees l rest c s in
     let a = after-agrees l rest c s in
     let r : Run (after l c) rest cs = run cs (after l c) rest (after-valid l rest c s h) (t .1) in
     record {
-      answered = rw (answer-agrees l rest c s, a, r .answered);
       left = rw a (r .left);
       valid = r .valid;
       ordered = (ordered-of l h, r .ordered);

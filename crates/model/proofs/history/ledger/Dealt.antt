@@ -5,25 +5,27 @@ use mathlib.Core.Logic.{_≢_}
 use mathlib.Core.List.{List, [], _∷_, _++_, map}
 use mathlib.Core.Bool.{Bool, true}
 use native.Mathlib.Omega.{arith}
-use native.Mathlib.Nat.{not-suc-le-zero, zero-lt-suc}
+use native.Mathlib.Nat.{zero-add, add-comm, not-suc-le-zero, zero-lt-suc}
+use native.Mathlib.Numerals.{add-one}
 use lib.Dec.{ltb}
 use lib.ListN.{length, getD, length-append, length-map, List·getD-append, List·getD-map}
 use lib.Seq.{getD-append-add, getD-at, ext-getD}
 use borrow.Author.Tests.{ltb-true, ltb-false}
 use Rattle.buffer.specs.Choice.{pick}
 use Rattle.buffer.specs.ChoiceLaws.{by-test, by-pick, pick-map}
-use Rattle.buffer.specs.RangeLaws.{below-suc}
+use Rattle.buffer.specs.Range.{count}
+use Rattle.buffer.specs.RangeLaws.{below-suc, count-none, count-front}
 use Rattle.model.specs.Changes.{filterBy, rows}
 
 -- ---- the list of f 0 to f (n - 1)
 
 module _ {A : Type 0} where
-  length-rows : (n : ℕ) (f : ℕ → A) → length (rows n f) ≡ n
+  pub length-rows : (n : ℕ) (f : ℕ → A) → length (rows n f) ≡ n
   unfolding rows
   length-rows zero f = refl
   length-rows (suc n) f = simp length-append (omega (arith, length-rows n f))
 
-  getD-rows : (n : ℕ) (f : ℕ → A) (d : A) (r : ℕ) → r < n → getD (rows n f) r d ≡ f r
+  pub getD-rows : (n : ℕ) (f : ℕ → A) (d : A) (r : ℕ) → r < n → getD (rows n f) r d ≡ f r
   unfolding rows
   getD-rows zero f d r a = absurd (not-suc-le-zero a)
   getD-rows (suc n) f d r a =
@@ -83,6 +85,21 @@ module _ {A : Type 0} where
   unfolding filterBy
   filter-ext p q d [] h = refl
   filter-ext p q d (x ∷ xs) h = rw (h zero (zero-lt-suc (length xs)), filter-ext p q d xs (λ r a. h (suc r) (omega arith)))
+
+  -- one for which the test holds stands behind those before it for which it does
+  pub filter-place : (p : A → Bool) (d : A) (l : List A) (r : ℕ) → r < length l → p (getD l r d) ≡ true
+      → (count r (λ q. p (getD l q d)) < length (filterBy p l)) × (getD (filterBy p l) (count r (λ q. p (getD l q d))) d ≡ getD l r d)
+  unfolding filterBy pick
+  filter-place p d [] r a e = absurd (not-suc-le-zero a)
+  filter-place p d (x ∷ xs) zero a e = rw (count-none (λ q. p (getD (x ∷ xs) q d)), e) (omega arith, refl)
+  filter-place p d (x ∷ xs) (suc r) a e =
+      let ih = filter-place p d xs r (omega arith) e in
+      rw (count-front r (λ q. p (getD (x ∷ xs) q d)))
+      (by-test (λ t. (pick t 1 0 + count r (λ q. p (getD xs q d)) < length (pick t (x ∷ filterBy p xs) (filterBy p xs)))
+      × (getD (pick t (x ∷ filterBy p xs) (filterBy p xs)) (pick t 1 0 + count r (λ q. p (getD xs q d))) d ≡ getD xs r d))
+      (p x)
+      (λ _. (omega (arith, ih .0), ap (λ (k : ℕ). getD (x ∷ filterBy p xs) k d) (add-comm 1 (count r (λ q. p (getD xs q d))) ∙ add-one _) ∙ ih .1))
+      (λ _. (omega (arith, ih .0), ap (λ (k : ℕ). getD (filterBy p xs) k d) (zero-add (count r (λ q. p (getD xs q d)))) ∙ ih .1)))
 
   -- an element of one of two lists, one behind the other
   pub joint : (P : A → Type 0) (d : A) (xs ys : List A) (r : ℕ) → (r < length xs → P (getD xs r d)) → ((i : ℕ) → r ≡ length xs + i → P (getD ys i d))

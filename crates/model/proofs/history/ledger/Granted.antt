@@ -11,7 +11,7 @@ use Rattle.model.specs.history.Ledger.{Ledger, withRecords, grownLedger,
 use Rattle.model.specs.history.Table.{refusals, number}
 use Rattle.model.specs.history.Answers.{after}
 
-numbered : (l : Ledger) (c : Call) → Numbered (refusals l c)
+pub numbered : (l : Ledger) (c : Call) → Numbered (refusals l c)
 unfolding refusals
 numbered l (teach k x) = (refl, (refl, (refl, (refl, (refl, (refl, tt))))))
 numbered l (correct k x) = (refl, (refl, (refl, (refl, (refl, tt)))))

@@ -12,7 +12,7 @@ use lib.ListN.{length, getD}
 use borrow.Author.Tests.{eq-eqb, ne-eqb, eqb-true, eqb-false, ltb-true, ltb-false, leb-true, leb-false}
 use Rattle.buffer.specs.Choice.{pick}
 use Rattle.buffer.specs.ChoiceLaws.{by-test, by-pick, pick-true, pick-false, pick-same, pick-map}
-use Rattle.buffer.specs.RangeLaws.{first-holds, first-misses}
+use Rattle.buffer.specs.RangeLaws.{first-at, first-holds, first-misses}
 use Rattle.model.specs.Changes.{filterBy}
 use Rattle.model.specs.history.Ledger.{Rec, empty, rankOf}
 use Rattle.model.proofs.history.ledger.Dealt.{Differ}
@@ -86,7 +86,11 @@ seek-hit (x ∷ xs) k (suc r) d a e =
     pick-false (ne-eqb (x .key) k (λ q. d zero (suc r) (zero-lt-suc r) a (q ∙ sym e))) (some (x .field)) (seek xs k)
     ∙ seek-hit xs k r (λ i j b c. d (suc i) (suc j) (omega arith) (omega arith)) (omega arith) e
 
--- ---- the rank of a key says whether it stands in a list
+-- ---- the rank of a key: of one that stands in a list, and whether it does
+
+pub rank-at : (xs : List Rec) (r : ℕ) → Different xs → r < length xs → rankOf xs (getD xs r empty .key) ≡ r
+unfolding rankOf
+rank-at xs r d a = first-at (length xs) _ r a (λ q b. ne-eqb _ _ (d q r b a)) (eq-eqb (getD xs r empty .key) _ refl)
 
 module _ (xs : List Rec) (k : ℕ) where
   pub rank-key : rankOf xs k < length xs → getD xs (rankOf xs k) empty .key ≡ k
