@@ -80,9 +80,11 @@ loop-again c =
 returns : tie.Need-returns Inv-loop μ-loop
 returns c =
     let t = c .before in
-    let e = t .before .before .before in
-    (refl, omega (arith, c .wide2 .ensures .0, most e),
-    dealing-end (e .args .s .now) _ (e .pre .1) (e .pre .0 .from) (e .pre .2) (most e) (t .loop-test .left) (t .before .loop .inv) (c .wide2 .ensures .0))
+    let e = t .before .before .before in (
+      refl,
+      omega (arith, c .wide2 .ensures .0, most e),
+      dealing-end (e .args .s .now) _ (e .pre .1) (e .pre .0 .from) (e .pre .2) (most e) (t .loop-test .left) (t .before .loop .inv) (c .wide2 .ensures .0),
+    )
 
 pub dealt-spec : {M : Type 1} → statement M
 dealt-spec =

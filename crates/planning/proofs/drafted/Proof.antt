@@ -36,11 +36,12 @@ dealt-requires c κs =
     let b = c .before in
     let g = b .before .before .before in
     let next = next-unit (store b) (granted b) (b .byte-at .ensures) in
-    let from = c .split-pointer .ensures in
-    (record { sized = next .0; from = from .0; apart = from .1; unit = next .2 },
-    b .byte-at .ensures,
-    g .growth-of .ensures .1 ∙ pick-true (eq-eqb _ 0 (b .before .if1 .left)) _ 0
-    ∙ ap (fillIn (view (store b))) (sym (from .0 ∙ ap splitPointer (b .byte-at .ensures))))
+    let from = c .split-pointer .ensures in (
+      record { sized = next .0; from = from .0; apart = from .1; unit = next .2 },
+      b .byte-at .ensures,
+      g .growth-of .ensures .1 ∙ pick-true (eq-eqb _ 0 (b .before .if1 .left)) _ 0
+          ∙ ap (fillIn (view (store b))) (sym (from .0 ∙ ap splitPointer (b .byte-at .ensures))),
+    )
 
 returns-2 : tie.Need-returns-2
 returns-2 c =

@@ -43,11 +43,12 @@ returns-2 : tie.Need-returns-2
 returns-2 c =
     let n = c .before .before in
     let m = n .before in
-    let zero = m .before .if1 .left in
-    (sym zero ∙ number-is _ of-grow (survey m .survey-of .ensures .tested) (m .before .before .grow-number .ensures),
-    added m .from _ _ (n .split-pointer .ensures .0) (n .split-pointer .ensures .1) (c .wide .ensures .0)
-    ∙ ap (fillIn (view (store m))) (n .split-pointer .ensures .0 ∙ ap splitPointer (m .byte-at .ensures))
-    ∙ sym (pick-true (eq-eqb 0 0 refl) _ 0))
+    let zero = m .before .if1 .left in (
+      sym zero ∙ number-is _ of-grow (survey m .survey-of .ensures .tested) (m .before .before .grow-number .ensures),
+      added m .from _ _ (n .split-pointer .ensures .0) (n .split-pointer .ensures .1) (c .wide .ensures .0)
+          ∙ ap (fillIn (view (store m))) (n .split-pointer .ensures .0 ∙ ap splitPointer (m .byte-at .ensures))
+          ∙ sym (pick-true (eq-eqb 0 0 refl) _ 0),
+    )
 
 pub growth-of-spec : {M : Type 1} → statement M
 growth-of-spec =
