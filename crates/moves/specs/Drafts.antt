@@ -3,13 +3,17 @@ use Prim.Native.Nat.{ℕ}
 use mathlib.Core.List.{List}
 use mathlib.Core.Bool.{Bool, not, _&&_}
 use lib.Dec.{eqb, ltb}
-use lib.ListN.{getD}
+use lib.ListN.{getD, replicate}
 use Rattle.buffer.specs.Choice.{pick}
 use Rattle.buffer.specs.Loops.{entries}
 use Rattle.moves.specs.declared.Move.{Move}
 use Rattle.moves.specs.declared.Draft.{Draft}
 use Rattle.moves.specs.declared.Planned.{Planned}
 use Rattle.moves.specs.Moves.{noMove}
+
+-- the entries of a plan with no move
+unfoldable pub blank : List Move
+blank = replicate 64 noMove
 
 -- entry i, which has a place among the 64
 unfoldable pub entryOf : Draft → ℕ → Move

@@ -6,8 +6,8 @@ ghost use Prim.Native.Nat.{_≤_, min};
 ghost use lib.Dec.{ltb};
 ghost use lib.ListN.{length, take};
 ghost use Rattle.buffer.specs.LoopWrites.{filled};
-ghost use Rattle.moves.specs.Moves.{sameMove, sameMoves};
-ghost use Rattle.moves.specs.Drafts.{entryOf, movesOf, answerOf, rightCount};
+ghost use Rattle.moves.specs.Moves.{noMove, sameMove, sameMoves};
+ghost use Rattle.moves.specs.Drafts.{blank, entryOf, movesOf, answerOf, rightCount};
 
 // Where a record is, and where it goes. Ranks count from 1.
 #[repr(C)]
@@ -33,19 +33,38 @@ pub struct Planned {
 
 // ---- by value
 
-// Entry i of a plan; zeros behind its end.
-pub fn entry(p: Draft, i: usize) -> Move
-    ensures { λ r. ⌜ r ≡ entryOf p i ⌝ }
+// An entry that says nothing.
+fn no_move() -> Move
+    ensures { λ r. ⌜ r ≡ noMove ⌝ }
 {
-    if i < 64 {
-        return p.moves[i];
-    }
     Move {
         old_unit: 0,
         old_rank: 0,
         new_unit: 0,
         new_rank: 0,
     }
+}
+
+// A plan with no move, for a call with this number.
+pub fn no_plan(number: u8) -> Draft
+    ensures { λ p. ⌜ (p .number ≡ number) × (p .count ≡ 0) × (p .moves ≡ blank) ⌝ }
+{
+    let none = no_move();
+    Draft {
+        number,
+        count: 0,
+        moves: [none; 64],
+    }
+}
+
+// Entry i of a plan; zeros behind its end.
+fn entry(p: Draft, i: usize) -> Move
+    ensures { λ r. ⌜ r ≡ entryOf p i ⌝ }
+{
+    if i < 64 {
+        return p.moves[i];
+    }
+    no_move()
 }
 
 // The answer to asking for a plan with a list of len entries.

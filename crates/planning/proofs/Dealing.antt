@@ -6,7 +6,7 @@ use mathlib.Core.Bool.{Bool, not}
 use native.Mathlib.Omega.{arith}
 use native.Mathlib.Numerals.{add-one}
 use lib.Dec.{eqb, ltb}
-use lib.ListN.{length, getD, set, replicate, List·getD-append}
+use lib.ListN.{length, getD, set, List·getD-append}
 use borrow.Author.Tests.{lt-ltb}
 use Rattle.buffer.specs.Choice.{pick}
 use Rattle.buffer.specs.ChoiceLaws.{pick-true}
@@ -18,17 +18,13 @@ use Rattle.buffer.specs.LoopWrites.{filled, filled-none, filled-more}
 use Rattle.moves.specs.declared.Move.{Move}
 use Rattle.moves.specs.declared.Draft.{Draft}
 use Rattle.moves.specs.Moves.{move, noMove}
-use Rattle.moves.specs.Drafts.{entryOf, movesOf}
+use Rattle.moves.specs.Drafts.{blank, entryOf, movesOf}
 use Rattle.model.specs.Units.{splitPointer, unitOf, moves}
 use Rattle.model.specs.Layout.{Store, view, unitsIn, keyOf}
 use Rattle.model.specs.StoreLaws.{units-of}
 use Rattle.model.specs.Reads.{fillIn}
 use Rattle.model.specs.history.Plan.{leaves, moveIn, planIn}
-use Rattle.planning.specs.Drafted.{moveOf}
-
--- the entries where the loop begins
-unfoldable pub blank : List Move
-blank = replicate 64 noMove
+use Rattle.planning.specs.Drafted.{moveFrom}
 
 -- r records of n are dealt
 pub record Dealing (s : List ℕ) (n : ℕ) (entries : List Move) (leaving r : ℕ) : Type 0 where
@@ -55,11 +51,11 @@ module _ (s : List ℕ) {m u n r leaving k v : ℕ} {entries : List Move} (em : 
   stayed : r - leaving ≡ count r (λ q. not (leaves t q))
   stayed = omega (arith, d .counted, count-not r (leaves t))
 
-  move-is : moveOf u m r (eqb v m) leaving ≡ moveIn t r
-  unfolding moveOf moveIn
+  move-is : moveFrom u m r (eqb v m) leaving ≡ moveIn t r
+  unfolding moveFrom moveIn
   move-is = rw (leaves-is, ← units, ← eu, ← (d .counted), ← stayed, add-one r, add-one leaving, add-one (r - leaving))
 
-  pub dealing-turn : {i : ℕ} {a : Move} → i ≡ r → a ≡ moveOf u m r (eqb v m) leaving → Dealing s n (set entries i a) (leaving + pick (eqb v m) 1 0) (r + 1)
+  pub dealing-turn : {i : ℕ} {a : Move} → i ≡ r → a ≡ moveFrom u m r (eqb v m) leaving → Dealing s n (set entries i a) (leaving + pick (eqb v m) 1 0) (r + 1)
   unfolding blank
   dealing-turn {i} {a} ei ea =
       let more : leaving + pick (eqb v m) 1 0 ≡ count (r + 1) (leaves t) = rw (count-more (leaves t) r, leaves-is, ← (d .counted)) in

@@ -16,8 +16,8 @@ use Rattle.model.specs.Perform.{plain, Outcome, outcome, grantedIn}
 use Rattle.model.specs.history.Plan.{planIn}
 
 -- the move of a record from rank r of unit n, which unit m is split from, where this many records before it leave
-unfoldable pub moveOf : ℕ → ℕ → ℕ → Bool → ℕ → Move
-moveOf n m r leaves leaving = pick leaves (move n (r + 1) m (leaving + 1)) (move n (r + 1) n (r - leaving + 1))
+unfoldable pub moveFrom : ℕ → ℕ → ℕ → Bool → ℕ → Move
+moveFrom n m r leaves leaving = pick leaves (move n (r + 1) m (leaving + 1)) (move n (r + 1) n (r - leaving + 1))
 
 -- the plan of the store s, or why there is none
 pub record DraftOf (s : List ℕ) (p : Draft) : Type 0 where

@@ -12,7 +12,7 @@ ghost use Rattle.model.specs.history.Plan.{planIn};
 ghost use Rattle.model.specs.history.Further.{Further, plan, commit};
 ghost use Rattle.model.specs.history.Steps.{Step, further, performStep};
 ghost use Rattle.splitting.specs.Steps.{Split};
-ghost use Rattle.planning.specs.Drafted.{moveOf, DraftOf, growsIf};
+ghost use Rattle.planning.specs.Drafted.{moveFrom, DraftOf, growsIf};
 
 // One more where the test holds.
 fn counted(n: u8, test: bool) -> u8
@@ -28,7 +28,7 @@ fn counted(n: u8, test: bool) -> u8
 // The move of a record from rank r of unit n, which unit m is split from, where this many records before it leave; ranks counted from 0.
 fn move_of(n: u8, m: u8, r: u8, leaves: bool, leaving: u8) -> moves::Move
     requires { ⌜ (leaving ≤ r) × (r < 255) ⌝ }
-    ensures { λ a. ⌜ a ≡ moveOf n m r leaves leaving ⌝ }
+    ensures { λ a. ⌜ a ≡ moveFrom n m r leaves leaving ⌝ }
 {
     if leaves {
         return moves::Move {
@@ -46,35 +46,13 @@ fn move_of(n: u8, m: u8, r: u8, leaves: bool, leaving: u8) -> moves::Move
     }
 }
 
-// No plan, and why.
-fn refused(number: u8) -> moves::Draft
-    ensures { λ p. ⌜ (p .number ≡ number) × (p .count ≡ 0) ⌝ }
-{
-    let none = moves::Move {
-        old_unit: 0,
-        old_rank: 0,
-        new_unit: 0,
-        new_rank: 0,
-    };
-    moves::Draft {
-        number,
-        count: 0,
-        moves: [none; 64],
-    }
-}
-
 // The plan of a store: how a grow would deal out the records of unit n, which has count of them, to it and to unit m.
 fn dealt(s: &[u8], n: u8, m: u8, count: u8) -> moves::Draft
     requires { ⌜ Split (now s) n m × (m ≡ byte (now s) 6) × (count ≡ fillIn (view (now s)) n) ⌝ }
     ensures { λ p. ⌜ (p .number ≡ 0) × (p .count ≤ 64) × (movesOf p ≡ planIn (view (now (s .entry)))) ⌝ }
 {
-    let none = moves::Move {
-        old_unit: 0,
-        old_rank: 0,
-        new_unit: 0,
-        new_rank: 0,
-    };
-    let mut entries = [none; 64];
+    let none = moves::no_plan(0);
+    let mut entries = none.moves;
     let mut leaving: u8 = 0;
     let mut r: u8 = 0;
     while r < count {
@@ -96,7 +74,7 @@ fn drafted(s: &[u8]) -> moves::Draft
 {
     let growth = splitting::growth_of(s);
     if growth.number != 0 {
-        return refused(growth.number);
+        return moves::no_plan(growth.number);
     }
     let m = buffer::byte_at(s, lookup::UNITS_AT);
     dealt(s, lookup::split_pointer(m), m, growth.count)

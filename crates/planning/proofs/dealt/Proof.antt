@@ -4,11 +4,10 @@ use Prim.Native.Nat.{_-_, _≤_}
 use Rattle.lookup.specs.Sized.{Sized}
 use mathlib.Core.Path.{refl}
 use native.Mathlib.Omega.{arith}
-use Rattle.moves.specs.Moves.{noMove}
 use Rattle.model.specs.Layout.{view}
 use Rattle.model.specs.ReadLaws.{fill-le}
 use Rattle.model.specs.StoreLaws.{size-of}
-use Rattle.planning.proofs.Dealing.{blank, Dealing, dealing-start, dealing-turn, dealing-end}
+use Rattle.planning.proofs.Dealing.{Dealing, dealing-start, dealing-turn, dealing-end}
 use Rattle.planning.proofs.dealt.Statement.{statement}
 use Rattle.planning.proofs.dealt.Tie as tie
 
@@ -19,12 +18,11 @@ abbrev μ-loop : tie.MeasureT-loop
 μ-loop s n m count entries₀ leaving₀ r₀ entries leaving r = count - r
 
 loop-holds : tie.Need-loop-holds Inv-loop μ-loop
-unfolding blank noMove
-loop-holds c = dealing-start _ _
+loop-holds c = rw (c .before .no-plan .ensures .2) (dealing-start _ _)
 
 -- ---- a turn: the store, and how many records there are at most
 abbrev start : tie.In-loop Inv-loop μ-loop → tie.Start Inv-loop μ-loop
-start c = c .before .before .before
+start c = c .before .before .before .before .before
 
 sized : (c : tie.Start Inv-loop μ-loop) → Sized (c .args .s .now)
 sized c = c .pre .0 .sized
@@ -45,12 +43,12 @@ key-at-requires c κs =
 move-of-requires : tie.Need-move-of-requires Inv-loop μ-loop
 move-of-requires c κs =
     let l = c .before .before .before in
-    (l .loop .inv .few, omega (arith, c .before .before .loop-test .taken, most (l .before .before)))
+    (l .loop .inv .few, omega (arith, c .before .before .loop-test .taken, most (l .before .before .before .before)))
 
 mul-entries : tie.Need-mul-entries Inv-loop μ-loop
 mul-entries c =
     let l = c .before .before .before .before .before in
-    omega (arith, c .wide .ensures .0, l .before .before .good)
+    omega (arith, c .wide .ensures .0, l .before .before .before .before .good)
 
 array-set-from-entries : tie.Need-array-set-from-entries Inv-loop μ-loop
 array-set-from-entries c =
@@ -80,13 +78,12 @@ loop-again c =
 returns : tie.Need-returns Inv-loop μ-loop
 returns c =
     let t = c .before in
-    let e = t .before .before .before in (
-      refl,
-      omega (arith, c .wide2 .ensures .0, most e),
-      dealing-end (e .args .s .now) _ (e .pre .1) (e .pre .0 .from) (e .pre .2) (most e) (t .loop-test .left) (t .before .loop .inv) (c .wide2 .ensures .0),
-    )
+    let e = t .before .before .before .before .before in
+    let n = c .wide2 .ensures .0 in
+    let all = dealing-end (e .args .s .now) _ (e .pre .1) (e .pre .0 .from) (e .pre .2) (most e) (t .loop-test .left) (t .before .loop .inv) n in
+    (refl, omega (arith, n, most e), all)
 
 pub dealt-spec : {M : Type 1} → statement M
 dealt-spec =
-    tie.close (tie.spec Inv-loop μ-loop loop-holds add-unit-of key-at-requires (λ c κs. search needs) move-of-requires (λ c κs. search needs) mul-entries
-    array-set-from-entries counted-requires add-r (λ c. search needs) loop-again (λ c κs. search needs) returns)
+    tie.close (tie.spec Inv-loop μ-loop (λ c κs. search needs) loop-holds add-unit-of key-at-requires (λ c κs. search needs) move-of-requires
+    (λ c κs. search needs) mul-entries array-set-from-entries counted-requires add-r (λ c. search needs) loop-again (λ c κs. search needs) returns)

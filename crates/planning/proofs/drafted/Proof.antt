@@ -25,7 +25,7 @@ granted c = sym (c .before .before .before .growth-of .ensures .0) ∙ c .before
 returns : tie.Need-returns
 returns c =
     let g = c .before .before .before in
-    let n = c .refused .ensures in
+    let n = c .no-plan .ensures in
     no-plan _ _ (n .0 ∙ g .growth-of .ensures .0) (λ e. c .before .if1 .taken (sym (n .0) ∙ e)) (n .1)
 
 split-pointer-requires : tie.Need-split-pointer-requires
