@@ -29,7 +29,7 @@ use Rattle.model.proofs.history.ledger.Valid.{Goods, Valid}
 use Rattle.model.proofs.history.picture.Records.{length-keys}
 use Rattle.model.proofs.history.picture.Seen.{size-seen, cstate-is}
 use Rattle.model.proofs.history.picture.Listed.{check-kept}
-use Rattle.model.proofs.history.claims.Kept.{whole}
+use Rattle.model.proofs.history.claims.KeepsTaught.{whole}
 use Rattle.model.proofs.history.claims.Demand3.{typed-calls, same-ledger, outlives}
 use Rattle.model.proofs.Hashing.{linear-hashing, units-reached}
 use Rattle.model.proofs.MadeAnew.{made-anew}

@@ -35,7 +35,7 @@ use Rattle.model.proofs.history.picture.Seen.{level-seen}
 use Rattle.model.proofs.history.picture.Sound.{picture-sound}
 use Rattle.model.proofs.history.calls.Simulation.{number-agrees, after-agrees, after-valid}
 use Rattle.model.proofs.history.claims.History.{simulated}
-use Rattle.model.proofs.history.claims.Kept.{start, opened-is, whole, left-is}
+use Rattle.model.proofs.history.claims.KeepsTaught.{start, opened-is, whole, left-is}
 use Rattle.model.proofs.history.claims.Demand3.{typed-calls, same-store}
 use Rattle.model.proofs.Left.{raise-sound, shaped, raise-left, unit-kept}
 

@@ -2,7 +2,7 @@
 -- store stays sound.
 pub mod History
 pub mod HandedBack
-pub mod Kept
+pub mod KeepsTaught
 pub mod Demand3
 pub mod Leaves
 pub mod StaysSound

@@ -65,7 +65,7 @@ module _ (laid : List ℕ) (cs : List Call) (left : List ℕ) (recorded : Ledger
       ≡ pick (ltb 3 g) 2 (pick (leb (unitsIn (view left)) (4 * g)) 3 (pick (beyondOf recorded g) 8 0))
 
   -- what was taught is kept
-  pub record Kept : Type 0 where
+  pub record KeepsTaught : Type 0 where
     pub unlost : Unlost
     pub reads-as-taught : ReadsAsTaught
     pub with-stamps : (k : ℕ) (body : List ℕ) (stamp : ℕ) → TaughtWith k body stamp → HandsBackBoth k body stamp
@@ -95,4 +95,4 @@ module _ (s : List ℕ) (b : ℕ) (xs : List Step) where
   -- DEMAND 3: a taught position outlives its unit. One claim about the whole list.
   pub record Outlives : Type 0 where
     pub histories : Histories
-    pub kept : Kept laid calls left recorded
+    pub keeps-taught : KeepsTaught laid calls left recorded

@@ -13,7 +13,7 @@ use Rattle.model.specs.history.Typed.{AllTyped}
 use Rattle.model.specs.history.Steps.{Step, stepAnswersIn, stepsLeaveIn, callsIn, stepsLeave, StepsTyped}
 use Rattle.model.specs.history.Claims.{Histories, Outlives}
 use Rattle.model.proofs.history.steps.Taken.{calls-typed, leave-as-calls, Taken, taken}
-use Rattle.model.proofs.history.claims.Kept.{start, opened-is, kept}
+use Rattle.model.proofs.history.claims.KeepsTaught.{start, opened-is, keeps-taught}
 
 module _ (s : List ℕ) (b : ℕ) (zero : layOutNumber s b ≡ 0) (xs : List Step) (typed : StepsTyped xs) where
   steps : Taken (opened b) (drop (storeBytes b) s) xs
@@ -40,6 +40,6 @@ module _ (s : List ℕ) (b : ℕ) (zero : layOutNumber s b ≡ 0) (xs : List Ste
 pub outlives : (s : List ℕ) (b : ℕ) → layOutNumber s b ≡ 0 → (xs : List Step) → StepsTyped xs → Outlives s b xs
 outlives s b zero xs typed = record {
   histories = histories s b zero xs typed;
-  kept = rw (same-store s b zero xs typed, same-ledger s b zero xs typed)
-      (kept s b zero (callsIn (layOut s b .store) xs) (typed-calls s b zero xs typed));
+  keeps-taught = rw (same-store s b zero xs typed, same-ledger s b zero xs typed)
+      (keeps-taught s b zero (callsIn (layOut s b .store) xs) (typed-calls s b zero xs typed));
 }

@@ -20,7 +20,7 @@ use Rattle.model.proofs.history.picture.Picture.{length-picture}
 use Rattle.model.proofs.history.calls.Simulation.{answer-agrees}
 use Rattle.model.proofs.history.calls.List.{records-seen}
 use Rattle.model.proofs.history.claims.History.{simulated}
-use Rattle.model.proofs.history.claims.Kept.{whole, left-is}
+use Rattle.model.proofs.history.claims.KeepsTaught.{whole, left-is}
 
 -- a list of calls with one more: the store at its end, and what the types give
 final-followed : (cs : List Call) (s : List ℕ) (c : Call) → finalIn s (cs ++ (c ∷ [])) ≡ perform (finalIn s cs) c .store

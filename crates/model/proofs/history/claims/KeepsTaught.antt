@@ -19,7 +19,7 @@ use Rattle.model.specs.history.Table.{refusals, number}
 use Rattle.model.specs.history.Answers.{final}
 use Rattle.model.specs.history.Runs.{finalIn, aloneIn, allGranted, lastTaught, asTaught}
 use Rattle.model.specs.history.Typed.{AllTyped}
-use Rattle.model.specs.history.Claims.{HasParts, Unlost, ReadsAsTaught, TaughtWith, HandsBackBoth, BeyondRecovery, Kept}
+use Rattle.model.specs.history.Claims.{HasParts, Unlost, ReadsAsTaught, TaughtWith, HandsBackBoth, BeyondRecovery, KeepsTaught}
 use Rattle.group.specs.Widths.{fieldBytes}
 use Rattle.model.proofs.history.ledger.Valid.{Valid}
 use Rattle.model.proofs.history.taught.Recorded.{recorded}
@@ -134,5 +134,5 @@ module _ (s : List ℕ) (b : ℕ) (zero : layOutNumber s b ≡ 0) (cs : List Cal
   beyond-recovery : BeyondRecovery laid cs left end
   beyond-recovery g = rw left-is (repairs end rest (whole .valid) g)
 
-  pub kept : Kept (layOut s b .store) cs (finalIn (layOut s b .store) cs) (final (opened b) cs)
-  kept = record { unlost = unlost; reads-as-taught = reads-as-taught; with-stamps = with-stamps; beyond-recovery = beyond-recovery }
+  pub keeps-taught : KeepsTaught (layOut s b .store) cs (finalIn (layOut s b .store) cs) (final (opened b) cs)
+  keeps-taught = record { unlost = unlost; reads-as-taught = reads-as-taught; with-stamps = with-stamps; beyond-recovery = beyond-recovery }
