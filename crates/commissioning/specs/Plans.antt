@@ -11,7 +11,7 @@ use Rattle.group.specs.Widths.{fieldBytes}
 use Rattle.moves.specs.declared.Move.{Move}
 use Rattle.moves.specs.Moves.{move, noMove, sameMove, sameMoves}
 use Rattle.model.specs.Units.{powerBelow, splitPointer, address, digitSum, unitOf}
-use Rattle.model.specs.Numbers.{Call, teach, unitOut, repair, grow, firstOf}
+use Rattle.model.specs.Numbers.{teach, unitOut, repair, grow, firstOf}
 use Rattle.model.specs.Perform.{plain, planned, output, reply}
 use Rattle.model.specs.Changes.{filterBy}
 use Rattle.model.specs.history.Ledger.{empty, opened, home, recordAt, rankOf, placed, isOut, outsOf, state, withRecords, groupOf, grownLedger, granted}

@@ -7,7 +7,7 @@ use mathlib.Core.Option.{none}
 use mathlib.Core.Bool.{false, not}
 use native.Mathlib.Omega.{arith}
 use lib.Dec.{eqb}
-use borrow.Author.Tests.{eq-eqb, ne-eqb}
+use borrow.Author.Tests.{ne-eqb}
 use Rattle.buffer.specs.ChoiceLaws.{by-pick, pick-false}
 use Rattle.model.specs.Layout.{view}
 use Rattle.model.specs.Sound.{sound}

@@ -1,7 +1,7 @@
 -- Growing in two strokes, on any bytes. Assumes nothing.
-use Prim.Native.Nat.{ℕ, suc, pred, _≤_, _<_}
+use Prim.Native.Nat.{ℕ, _≤_, _<_}
 use mathlib.Core.Path.{_≡_, refl, sym, ap, _∙_, subst}
-use mathlib.Core.List.{List, [], _∷_, _++_}
+use mathlib.Core.List.{List, _++_}
 use mathlib.Core.Option.{none, some}
 use mathlib.Core.Bool.{Bool, true, false, not}
 use native.Mathlib.Omega.{arith}
@@ -9,8 +9,7 @@ use lib.Dec.{eqb, ltb}
 use lib.ListN.{length, take, drop, getD, length-append}
 use lib.Seq.{take-at}
 use borrow.Author.Tests.{eq-eqb, ne-eqb, ltb-true, ltb-false, not-true, not-false}
-use Rattle.buffer.specs.Choice.{pick}
-use Rattle.buffer.specs.ChoiceLaws.{by-test, by-pick, pick-true, pick-false, pick-same}
+use Rattle.buffer.specs.ChoiceLaws.{by-pick, pick-true, pick-false, pick-same}
 use Rattle.buffer.specs.TestLaws.{not-both}
 use Rattle.buffer.specs.Range.{count}
 use Rattle.buffer.specs.RangeLaws.{count-ext, count-le, length-entries, getD-entries}
@@ -31,7 +30,7 @@ use Rattle.model.specs.RowLaws.{free-first, front-free, by-front, number
 use Rattle.model.specs.Changes.{filterBy, recordsIn, dealt, grown}
 use Rattle.model.specs.Perform.{planned, output, perform}
 use Rattle.model.specs.MadeAnew.{leftBy}
-use Rattle.model.specs.Planning.{splitUnit, TellsOf, TwoStrokes}
+use Rattle.model.specs.Planning.{TellsOf, TwoStrokes}
 use Rattle.model.specs.history.Plan.{leaves, moveIn, planIn}
 use Rattle.model.specs.history.Further.{plan, commit, countsAs, commitRows, planReply, furtherRefusalsIn, furtherNumberIn, furtherAnswerIn}
 use Rattle.model.specs.history.Steps.{further, countedIn, storeLeft, stepAnswerIn, performStep}

@@ -1,11 +1,11 @@
 -- The loop that makes the plan of a store: what holds at each of its turns, and what it leaves. Assumes nothing.
-use Prim.Native.Nat.{ℕ, suc, _+_, _-_, _≤_, _<_}
-use mathlib.Core.Path.{_≡_, refl, sym, ap, ap₂, _∙_}
+use Prim.Native.Nat.{ℕ, _+_, _-_, _≤_, _<_}
+use mathlib.Core.Path.{_≡_, sym, ap, _∙_}
 use mathlib.Core.List.{List}
-use mathlib.Core.Bool.{Bool, not}
+use mathlib.Core.Bool.{not}
 use native.Mathlib.Omega.{arith}
 use native.Mathlib.Numerals.{add-one}
-use lib.Dec.{eqb, ltb}
+use lib.Dec.{eqb}
 use lib.ListN.{length, getD, set, List·getD-append}
 use borrow.Author.Tests.{lt-ltb}
 use Rattle.buffer.specs.Choice.{pick}
@@ -17,7 +17,7 @@ use Rattle.buffer.specs.Loops.{entries}
 use Rattle.buffer.specs.LoopWrites.{filled, filled-none, filled-more}
 use Rattle.moves.specs.declared.Move.{Move}
 use Rattle.moves.specs.declared.Draft.{Draft}
-use Rattle.moves.specs.Moves.{move, noMove}
+use Rattle.moves.specs.Moves.{noMove}
 use Rattle.moves.specs.Drafts.{blank, entryOf, movesOf}
 use Rattle.model.specs.Units.{splitPointer, unitOf, moves}
 use Rattle.model.specs.Layout.{Store, view, unitsIn, keyOf}

@@ -1,9 +1,7 @@
 -- `planning::grow_if` meets its contract. Assumes nothing.
 use borrow.Author.Needs.{needs}
 use borrow.Author.Tests.{not-true, not-false}
-use mathlib.Core.Path.{sym, ap, _∙_}
-use lib.ListN.{length}
-use Rattle.model.specs.StoreLaws.{units-of}
+use mathlib.Core.Path.{sym, _∙_}
 use Rattle.planning.proofs.Strokes.{grow-refused, not-agreed, grows, counts}
 use Rattle.planning.proofs.grow_if.Statement.{statement}
 use Rattle.planning.proofs.grow_if.Tie as tie

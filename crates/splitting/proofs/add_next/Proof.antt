@@ -3,7 +3,6 @@ use borrow.Author.Needs.{needs}
 use mathlib.Core.Path.{refl, ap, _∙_}
 use native.Mathlib.Omega.{arith}
 use Rattle.model.specs.Layout.{bytes, view}
-use Rattle.model.specs.Reads.{fillIn}
 use Rattle.model.specs.Changes.{grown}
 use Rattle.model.specs.Perform.{grantedIn}
 use Rattle.model.specs.StoreLaws.{units-of}

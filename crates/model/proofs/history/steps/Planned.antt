@@ -2,7 +2,7 @@
 use Prim.Native.Nat.{ℕ}
 use mathlib.Core.Path.{_≡_, sym, ap, ap₂, _∙_, subst}
 use mathlib.Core.List.{List, _++_}
-use mathlib.Core.Bool.{Bool, true, false}
+use mathlib.Core.Bool.{Bool, false}
 use native.Mathlib.Omega.{arith}
 use lib.Dec.{eqb}
 use lib.ListN.{length}
@@ -13,7 +13,7 @@ use Rattle.model.specs.Layout.{view}
 use Rattle.model.specs.Sound.{sound}
 use Rattle.model.specs.Numbers.{grow, firstOf, refusalsIn}
 use Rattle.model.specs.RowLaws.{Agree, Free, agree-same, agree-first, agree-append, by-front}
-use Rattle.model.specs.Perform.{plain, planned, output}
+use Rattle.model.specs.Perform.{plain, planned}
 use Rattle.model.specs.history.Ledger.{Ledger}
 use Rattle.model.specs.history.Picture.{picture}
 use Rattle.model.specs.history.Table.{refusals}
