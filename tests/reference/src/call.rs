@@ -1,9 +1,11 @@
 //! The calls of a store with their arguments, and what they answer.
 
+use crate::moves::Move;
 use crate::record::FIELD;
 use std::fmt;
 
-/// One call. The lengths of the lent slices are arguments too.
+/// One call. The lengths of the lent slices and lists are arguments too: a plan is asked for with a list
+/// of so many entries; a commit is given a list and how many of its entries count.
 #[derive(Clone, Debug, PartialEq, Eq)]
 pub enum Call {
     LayOut { b: u32 },
@@ -18,6 +20,8 @@ pub enum Call {
     Grow,
     Shrink,
     Raise,
+    Plan { entries: usize },
+    Commit { moves: Vec<Move>, count: usize },
 }
 
 /// What a call hands back.
@@ -31,19 +35,22 @@ pub enum Answer {
     Part(Vec<u8>),
     /// Number and count of a list, and the bytes written.
     List(u8, u32, Vec<u8>),
+    /// Number and count of asking for a plan, and the entries written.
+    Plan(u8, usize, Vec<Move>),
 }
 
 impl Answer {
     /// The number, where one is returned.
     pub fn number(&self) -> Option<u8> {
         match self {
-            Answer::Number(n) | Answer::Read(n, _) | Answer::List(n, _, _) => Some(*n),
+            Answer::Number(n) | Answer::Read(n, _) => Some(*n),
+            Answer::List(n, _, _) | Answer::Plan(n, _, _) => Some(*n),
             Answer::Part(_) => None,
         }
     }
 }
 
-/// The kinds of call, in the order of document 01.
+/// The kinds of call, in the order of document 01; behind them those of document 02.
 #[derive(Clone, Copy, Debug, PartialEq, Eq, PartialOrd, Ord, Hash)]
 pub enum Kind {
     LayOut,
@@ -58,9 +65,11 @@ pub enum Kind {
     Grow,
     Shrink,
     Raise,
+    Plan,
+    Commit,
 }
 
-pub const KINDS: [Kind; 12] = [
+pub const KINDS: [Kind; 14] = [
     Kind::LayOut,
     Kind::Teach,
     Kind::Correct,
@@ -73,6 +82,8 @@ pub const KINDS: [Kind; 12] = [
     Kind::Grow,
     Kind::Shrink,
     Kind::Raise,
+    Kind::Plan,
+    Kind::Commit,
 ];
 
 impl Call {
@@ -90,6 +101,8 @@ impl Call {
             Call::Grow => Kind::Grow,
             Call::Shrink => Kind::Shrink,
             Call::Raise => Kind::Raise,
+            Call::Plan { .. } => Kind::Plan,
+            Call::Commit { .. } => Kind::Commit,
         }
     }
 
@@ -99,7 +112,7 @@ impl Call {
             Call::Teach { field, .. } | Call::Correct { field, .. } => field.len() == FIELD,
             Call::LayOut { b: n } | Call::Out { unit: n } | Call::Repair { group: n } => *n <= 255,
             Call::Read { out, .. } => *out == FIELD,
-            Call::ReadInPlace { .. } => false,
+            Call::ReadInPlace { .. } | Call::Plan { .. } | Call::Commit { .. } => false,
             _ => true,
         }
     }
@@ -127,6 +140,11 @@ impl fmt::Display for Call {
             Call::Grow => write!(f, "G"),
             Call::Shrink => write!(f, "S"),
             Call::Raise => write!(f, "K"),
+            Call::Plan { entries } => write!(f, "plan (list of {entries} entries)"),
+            Call::Commit { moves, count } => {
+                write!(f, "commit {count} of {} entries:", moves.len())?;
+                moves.iter().try_for_each(|entry| write!(f, " [{entry}]"))
+            }
         }
     }
 }

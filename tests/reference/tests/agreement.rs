@@ -13,7 +13,7 @@ use std::collections::{BTreeSet, HashSet};
 use std::ops::RangeInclusive;
 
 /// Every number that the table gives to a kind of call, but 1.
-const NUMBERS: [(Kind, &[u8]); 11] = [
+const NUMBERS: [(Kind, &[u8]); 13] = [
     (Kind::LayOut, &[0, 2]),
     (Kind::Teach, &[0, 2, 4, 5, 7]),
     (Kind::Correct, &[0, 2, 4, 6]),
@@ -25,6 +25,8 @@ const NUMBERS: [(Kind, &[u8]); 11] = [
     (Kind::Grow, &[0, 4, 9]),
     (Kind::Shrink, &[0, 4, 7, 9]),
     (Kind::Raise, &[0, 4, 9]),
+    (Kind::Plan, &[0, 4, 7, 9]),
+    (Kind::Commit, &[0, 4, 9, 11]),
 ];
 
 type Reached = HashSet<(Kind, u8)>;
@@ -464,7 +466,7 @@ fn members_shown(cases: impl Iterator<Item = Case>) -> HashSet<usize> {
 fn wrong_parity_shows_the_members_of_a_rank() {
     assert_eq!(members_shown((0..LOSSES).map(history_case)), HashSet::from([2, 3]));
     assert_eq!(members_shown((LOSSES..2500).map(history_case)), HashSet::from([2, 3]));
-    assert!(!members_shown((0..1000).map(damaged_case)).is_empty());
+    assert!(!members_shown((0..3000).map(damaged_case)).is_empty());
 }
 
 #[test]

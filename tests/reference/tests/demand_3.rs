@@ -53,6 +53,35 @@ fn nothing_is_lost_in_service() {
     }
 }
 
+/// A granted commit counts as a grow; a refused one, and asking, leave a history as it was. With grows
+/// in place of the granted ones and without the others, all other calls answer as they did, and the
+/// store is the same.
+#[test]
+fn granted_commits_count_as_grows() {
+    let mut met = BTreeSet::new();
+    for seed in 0..200 {
+        let calls = history(seed);
+        let (mut bytes, mut without) = (laid_out(&calls), laid_out(&calls));
+        for call in &calls[1..] {
+            let answer = perform(&mut bytes, call);
+            match call.kind() {
+                Kind::Plan | Kind::Commit => met.insert((call.kind(), answer.number())),
+                _ => false,
+            };
+            let counted = match (call, answer.number()) {
+                (Call::Commit { .. }, Some(0)) => &Call::Grow,
+                (Call::Plan { .. } | Call::Commit { .. }, _) => continue,
+                _ => call,
+            };
+            assert_eq!(perform(&mut without, counted), answer, "seed {seed}, {call}");
+        }
+        assert!(bytes == without, "seed {seed}");
+    }
+    let plans = [0, 4, 7, 9].map(|number| (Kind::Plan, Some(number)));
+    let commits = [0, 4, 9, 11].map(|number| (Kind::Commit, Some(number)));
+    assert_eq!(met, plans.into_iter().chain(commits).collect());
+}
+
 /// The check units of each group in place.
 fn check_units(bytes: &[u8]) -> Vec<usize> {
     let view = View::new(bytes).unwrap();

@@ -3,9 +3,12 @@
 use reference::compare::fault_names;
 use std::process::{Command, Output};
 
+/// Segments are left out where a fault, by its name, is not one of theirs.
 fn compare(fault: Option<&str>) -> Output {
+    let of_segments = fault.is_none_or(|name| name.starts_with("segment-"));
+    let segments = if of_segments { "1200" } else { "0" };
     let mut command = Command::new(env!("CARGO_BIN_EXE_compare"));
-    command.args(["--first", "1000", "600", "1200"]).env_remove("LHRS_FAULT");
+    command.args(["--first", "1000", "600", segments, "1000"]).env_remove("LHRS_FAULT");
     command.envs(fault.map(|name| ("LHRS_FAULT", name)));
     command.output().expect("compare runs")
 }

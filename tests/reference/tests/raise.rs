@@ -169,6 +169,8 @@ fn calls() -> Vec<Call> {
         Call::Grow,
         Call::Shrink,
         Call::Raise,
+        Call::Plan { entries: SLOTS as usize },
+        Call::Commit { moves: Vec::new(), count: 0 },
     ];
     assert_eq!(calls.len() + 1, KINDS.len());
     calls

@@ -1,5 +1,6 @@
 //! Compares the store and the byte coder under their C names with the reference:
-//! `compare [--first] [HISTORIES [DAMAGED [SEGMENTS]]]`.
+//! `compare [--first] [HISTORIES [DAMAGED [SEGMENTS [REBUILDINGS]]]]`. Rebuildings at every choice of
+//! columns come beside those.
 //! The last line counts the differences; the exit status is 1 if there are any. With --first no more
 //! cases are taken up once there is one.
 
@@ -7,9 +8,6 @@ use reference::compare::{compare_code, compare_segments, minimal, run, SegmentsO
 use reference::generate::cases::{damaged_case, history_case};
 use std::sync::atomic::{AtomicBool, AtomicUsize, Ordering};
 use std::{env, process, thread};
-
-/// Rebuildings beside those at every choice of columns.
-const REBUILDINGS: usize = 200_000;
 
 /// What the cases gave.
 #[derive(Default)]
@@ -26,7 +24,8 @@ fn main() {
     let histories = counts.next().unwrap_or(6_000);
     let damaged = counts.next().unwrap_or(24_000);
     let segments = counts.next().unwrap_or(24_000);
-    let code_differs = report_code();
+    let rebuildings = counts.next().unwrap_or(200_000);
+    let code_differs = report_code(rebuildings);
     let segments_differ = report_segments(segments);
     let stop = AtomicBool::new(first_alone && (code_differs || segments_differ));
     let total = compare(histories, damaged, first_alone, &stop);
@@ -45,8 +44,8 @@ fn main() {
 }
 
 /// Compares the code layer; true where it differs.
-fn report_code() -> bool {
-    let code = compare_code(REBUILDINGS);
+fn report_code(rebuildings: usize) -> bool {
+    let code = compare_code(rebuildings);
     println!("the matrix, and {} rebuildings, {} of them granted", code.compared, code.granted);
     if let Some(words) = &code.difference {
         println!("the code layer differs: {words}");

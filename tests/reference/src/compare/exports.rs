@@ -3,25 +3,27 @@
 
 use super::faults::{seeded, spoil};
 use super::misplaced::read_misses;
+use super::plan_faults::{ask_or_fail, commit_or_fail};
 use super::rank_faults::{self, lacks_check_units, lies_beside_a_lost_rank, lies_in_a_unit_out};
 use super::segment_faults::rebuild_or_fail;
 use super::stamp_faults::{clear_listed_stamps_of_units_out, list_without_stamps};
 use crate::call::Kind;
+use crate::moves::{Move, MOST_MOVES, MOVE};
 use crate::record::{BODY, FIELD, RECORD};
 use crate::segment::field::product;
 use crate::store::layout::field_at;
 use crate::store::{self, matrix};
 use std::slice;
 
-/// A slice that C lends; with length 0 its pointer may be null.
-unsafe fn lent<'a>(start: *const u8, len: usize) -> &'a [u8] {
+/// A slice or a list that C lends; with length 0 its pointer may be null.
+unsafe fn lent<'a, T>(start: *const T, len: usize) -> &'a [T] {
     if len == 0 {
         return &[];
     }
     slice::from_raw_parts(start, len)
 }
 
-unsafe fn lent_mut<'a>(start: *mut u8, len: usize) -> &'a mut [u8] {
+unsafe fn lent_mut<'a, T>(start: *mut T, len: usize) -> &'a mut [T] {
     if len == 0 {
         return &mut [];
     }
@@ -186,6 +188,42 @@ unsafe extern "C" fn lhrs_shrink(store: *mut u8, len: usize) -> u8 {
 #[no_mangle]
 unsafe extern "C" fn lhrs_raise(store: *mut u8, len: usize) -> u8 {
     spoil(Kind::Raise, lent_mut(store, len), store::raise)
+}
+
+#[no_mangle]
+unsafe extern "C" fn lhrs_plan(
+    store: *const u8,
+    len: usize,
+    moves: *mut Move,
+    moves_len: usize,
+    count: *mut usize,
+) -> u8 {
+    let (number, planned) = ask_or_fail(lent(store, len), lent_mut(moves, moves_len));
+    if seeded("plan-writes-behind-the-list") && number == 0 && planned == moves_len {
+        *moves.add(moves_len) = Move::from([0; MOVE]);
+    }
+    if seeded("plan-grows") && number == 0 {
+        store::grow(lent_mut(store.cast_mut(), len));
+    }
+    let count_left = seeded("plan-leaves-the-count-when-refused") && number != 0;
+    if !count_left {
+        *count = planned;
+    }
+    number
+}
+
+#[no_mangle]
+unsafe extern "C" fn lhrs_commit(
+    store: *mut u8,
+    len: usize,
+    moves: *const Move,
+    moves_len: usize,
+    count: usize,
+) -> u8 {
+    // The comparison has room behind each list for as many moves as a plan can have.
+    let reads_on = seeded("commit-reads-behind-the-list") && count <= MOST_MOVES;
+    let list = lent(moves, if reads_on { moves_len.max(count) } else { moves_len });
+    spoil(Kind::Commit, lent_mut(store, len), |store| commit_or_fail(store, list, count))
 }
 
 #[no_mangle]

@@ -4,6 +4,7 @@ use super::misplaced::{
     decimal_digits, digits_as_symbols, grow_by_the_key, key_itself, placed_by_the_key_accepted,
     seven_digits, teach_by, teach_compares_sums,
 };
+use super::plan_faults::{plan_fault_names, COMMIT_FAULTS};
 use super::rank_faults::{RANK_FAULTS, RULE_FAULTS};
 use super::segment_faults::SEGMENT_FAULTS;
 use super::stamp_faults::STAMP_FAULTS;
@@ -119,7 +120,7 @@ const FAULTS: [Fault; 26] = [
 ];
 
 /// Faults by an argument, or of what is handed back beside a number: `exports` asks for them by name.
-const SEEDED: [&str; 15] = [
+const SEEDED: [&str; 19] = [
     "read-by-the-key-itself",
     "read-of-a-key-not-listed-says-8",
     "read-of-a-unit-out-yields-stamp-0",
@@ -131,6 +132,10 @@ const SEEDED: [&str; 15] = [
     "list-of-a-unit-out-yields-stamp-0",
     "read-in-place-of-a-unit-out",
     "read-in-place-of-the-body-alone",
+    "plan-leaves-the-count-when-refused",
+    "plan-writes-behind-the-list",
+    "plan-grows",
+    "commit-reads-behind-the-list",
     "rebuild-leaves-data-when-refused",
     "rebuild-without-column-16",
     "a-wrong-coefficient",
@@ -140,11 +145,12 @@ const SEEDED: [&str; 15] = [
 pub fn fault_names() -> impl Iterator<Item = &'static str> {
     let of_calls = of_calls().map(|(name, _, _)| *name);
     let of_rules = RULE_FAULTS.iter().map(|(name, _, _)| *name);
-    of_calls.chain(of_rules).chain(SEEDED).chain(SEGMENT_FAULTS.iter().map(|(name, _)| *name))
+    let of_segments = SEGMENT_FAULTS.iter().map(|(name, _)| *name);
+    of_calls.chain(of_rules).chain(plan_fault_names()).chain(SEEDED).chain(of_segments)
 }
 
 fn of_calls() -> impl Iterator<Item = &'static Fault> {
-    FAULTS.iter().chain(&STAMP_FAULTS).chain(&RANK_FAULTS)
+    FAULTS.iter().chain(&STAMP_FAULTS).chain(&RANK_FAULTS).chain(&COMMIT_FAULTS)
 }
 
 /// Whether the fault of this name is chosen.

@@ -15,6 +15,8 @@ mod minimal;
 #[cfg(feature = "self")]
 mod misplaced;
 #[cfg(feature = "self")]
+mod plan_faults;
+#[cfg(feature = "self")]
 mod rank_faults;
 #[cfg(feature = "subject")]
 mod returned;

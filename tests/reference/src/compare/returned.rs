@@ -7,8 +7,8 @@ use std::fmt;
 #[derive(Clone, Copy, Debug, PartialEq, Eq)]
 pub enum Returned {
     Number(u8),
-    /// The number of a list, and its count.
-    Listed(u8, usize),
+    /// The number of a list or of asking for a plan, and its count.
+    Counted(u8, usize),
     /// The length of the part that read in place hands back.
     Part(usize),
 }
@@ -17,7 +17,7 @@ impl Returned {
     /// The number, or for a part what it is.
     fn word(self) -> String {
         match self {
-            Returned::Number(number) | Returned::Listed(number, _) => number.to_string(),
+            Returned::Number(number) | Returned::Counted(number, _) => number.to_string(),
             Returned::Part(0) => "empty".into(),
             Returned::Part(_) => "a field".into(),
         }
@@ -28,7 +28,7 @@ impl fmt::Display for Returned {
     fn fmt(&self, f: &mut fmt::Formatter) -> fmt::Result {
         match self {
             Returned::Number(number) => write!(f, "number {number}"),
-            Returned::Listed(number, count) => write!(f, "number {number}, count {count}"),
+            Returned::Counted(number, count) => write!(f, "number {number}, count {count}"),
             Returned::Part(length) => write!(f, "a part of {length} bytes"),
         }
     }

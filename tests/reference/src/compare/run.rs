@@ -6,6 +6,7 @@ use super::returned::{Returned, Tally};
 use super::subject;
 use crate::call::{Answer, Call};
 use crate::ledger::Ledger;
+use crate::moves::{bytes_of, moves_in, Move, MOST_MOVES, MOVE};
 use crate::record::FIELD;
 use crate::store;
 
@@ -67,7 +68,7 @@ impl Run {
     }
 
     fn call(&mut self, call: &Call) -> Result<(), String> {
-        let mut lent = lent_to(call);
+        let mut lent = lent_to(self.reference.slice(self.lent), call);
         let mut expected_lent = lent.clone();
         let expected = perform(self.reference.slice(self.lent), call, &mut expected_lent);
         let returned = subject::call(&mut self.subject, self.lent, call, &mut lent);
@@ -76,7 +77,7 @@ impl Run {
         }
         self.tally.add(call.kind(), returned);
         self.subject.same(&self.reference, "store")?;
-        lent.same(&expected_lent, "field or output")?;
+        lent.same(&expected_lent, "field, output or list")?;
         if let Call::ReadInPlace { key } = call {
             self.place(*key)?;
         }
@@ -95,7 +96,7 @@ impl Run {
         let at = part.as_ptr() as usize - start;
         let field = part.to_vec();
         let call = Call::ReadInPlace { key };
-        let mut lent = lent_to(&call);
+        let mut lent = lent_to(bytes, &call);
         self.subject.write(at, MARK);
         subject::call(&mut self.subject, self.lent, &call, &mut lent);
         self.subject.write(at, &field);
@@ -125,7 +126,10 @@ impl Run {
             }
             Answer::Part(part) => (Returned::Part(part.len()), part),
             Answer::List(number, count, records) => {
-                (Returned::Listed(number, count as usize), records)
+                (Returned::Counted(number, count as usize), records)
+            }
+            Answer::Plan(number, count, moves) => {
+                (Returned::Counted(number, count), bytes_of(&moves))
             }
         };
         agree(returned, expected)?;
@@ -142,15 +146,28 @@ impl Run {
     }
 }
 
-/// The arena of the field or the output of a call.
-fn lent_to(call: &Call) -> Arena {
+/// The arena of the field, the output or the list of moves of a call on a store.
+fn lent_to(store: &[u8], call: &Call) -> Arena {
     match call {
         Call::Teach { field, .. } | Call::Correct { field, .. } => Arena::holding(31, field),
         Call::Read { out, .. } => Arena::new(29, *out),
         Call::ReadInPlace { .. } => Arena::new(27, FIELD),
         Call::List { out } => Arena::new(25, *out),
+        Call::Plan { entries } => Arena::new(23, MOVE * (entries + MOST_MOVES)),
+        Call::Commit { moves, .. } => committed_list(store, moves),
         _ => Arena::new(0, 0),
     }
+}
+
+/// The arena of a list that is committed. Behind the list, in memory that is not lent, it goes on with
+/// the entries that the plan has there, so that it shows whether they are read.
+fn committed_list(store: &[u8], moves: &[Move]) -> Arena {
+    let mut list = Arena::new(21, MOVE * (moves.len() + MOST_MOVES));
+    let mut plan = [Move::from([0; MOVE]); MOST_MOVES];
+    let (_, count) = store::plan(store, &mut plan);
+    list.write(0, &bytes_of(&plan[..count]));
+    list.write(0, &bytes_of(moves));
+    list
 }
 
 fn perform(bytes: &mut [u8], call: &Call, lent: &mut Arena) -> Returned {
@@ -163,7 +180,13 @@ fn perform(bytes: &mut [u8], call: &Call, lent: &mut Arena) -> Returned {
         }
         Call::List { out } => {
             let (number, count) = store::list(bytes, lent.slice(*out));
-            Returned::Listed(number, count as usize)
+            Returned::Counted(number, count as usize)
+        }
+        Call::Plan { entries } => {
+            let mut moves = moves_in(lent.slice(MOVE * entries));
+            let (number, count) = store::plan(bytes, &mut moves);
+            lent.write(0, &bytes_of(&moves));
+            Returned::Counted(number, count)
         }
         _ => Returned::Number(store::perform(bytes, call).number().expect("a number is returned")),
     }

@@ -3,6 +3,7 @@
 use super::arena::Arena;
 use super::returned::Returned;
 use crate::call::Call;
+use crate::moves::Move;
 
 // What a library exports for C.
 extern "C" {
@@ -24,6 +25,20 @@ extern "C" {
     fn lhrs_grow(store: *mut u8, len: usize) -> u8;
     fn lhrs_shrink(store: *mut u8, len: usize) -> u8;
     fn lhrs_raise(store: *mut u8, len: usize) -> u8;
+    fn lhrs_plan(
+        store: *const u8,
+        len: usize,
+        moves: *mut Move,
+        moves_len: usize,
+        count: *mut usize,
+    ) -> u8;
+    fn lhrs_commit(
+        store: *mut u8,
+        len: usize,
+        moves: *const Move,
+        moves_len: usize,
+        count: usize,
+    ) -> u8;
     fn lhrs_rebuild_segment(
         members: *mut u8,
         members_len: usize,
@@ -47,8 +62,8 @@ extern "C" {
     fn compared_product(a: u8, b: u8) -> u8;
 }
 
-/// Makes a call on the first `len` bytes of a store's arena. `lent` is the arena of the field or of
-/// the output; the part of read in place is copied to its front.
+/// Makes a call on the first `len` bytes of a store's arena. `lent` is the arena of the field, of the
+/// output or of the list of moves; the part of read in place is copied to its front.
 pub fn call(store: &mut Arena, len: usize, call: &Call, lent: &mut Arena) -> Returned {
     let store = store.start();
     let out_len = lent.capacity();
@@ -67,7 +82,15 @@ pub fn call(store: &mut Arena, len: usize, call: &Call, lent: &mut Arena) -> Ret
             Call::List { .. } => {
                 let mut count = usize::MAX;
                 let number = lhrs_list(store, len, lent, out_len, &mut count);
-                return Returned::Listed(number, count);
+                return Returned::Counted(number, count);
+            }
+            Call::Plan { entries } => {
+                let mut count = usize::MAX;
+                let number = lhrs_plan(store, len, lent.cast(), *entries, &mut count);
+                return Returned::Counted(number, count);
+            }
+            Call::Commit { moves, count } => {
+                lhrs_commit(store, len, lent.cast(), moves.len(), *count)
             }
             Call::Out { unit } => lhrs_out(store, len, *unit),
             Call::Repair { group } => lhrs_repair(store, len, *group),

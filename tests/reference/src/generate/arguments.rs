@@ -1,7 +1,8 @@
 //! Arguments of calls: mostly fitting ones, and every kind that is refused.
 
 use crate::call::{Call, Kind};
-use crate::ledger::{digit_sum, Ledger};
+use crate::ledger::{digit_sum, unit_of, Ledger};
+use crate::moves::Move;
 use crate::random::Random;
 use crate::record::{body_of, field_of, stamp_of, BODY, FIELD, KEY, RECORD, STAMP};
 
@@ -15,6 +16,8 @@ pub struct Arguments {
     pub random: Random,
     /// The keys that calls are made with in the main.
     pub pool: Vec<u32>,
+    /// The plan that was handed back last; at first none.
+    pub asked: Vec<Move>,
     /// The stamp of the field made last.
     last_stamp: u32,
 }
@@ -33,7 +36,7 @@ impl Arguments {
             _ => small.map(|_| any_up_to(&mut random, u32::MAX)).collect(),
         };
         let last_stamp = random.next_u64() as u32;
-        Arguments { random, pool, last_stamp }
+        Arguments { random, pool, asked: Vec::new(), last_stamp }
     }
 
     /// A call of a kind, with arguments that suit a ledger or just miss.
@@ -57,6 +60,8 @@ impl Arguments {
             Kind::Grow => Call::Grow,
             Kind::Shrink => Call::Shrink,
             Kind::Raise => Call::Raise,
+            Kind::Plan => self.plan(ledger),
+            Kind::Commit => self.commit(ledger),
         }
     }
 
@@ -104,6 +109,13 @@ impl Arguments {
             return key_of_sum(unit, any_up_to(&mut self.random, u32::MAX / 16));
         }
         self.random.pick(&keys)
+    }
+
+    /// A key of a unit that is not present, but for chance. Where units are split it may stay or move.
+    pub fn new_key_of(&mut self, ledger: &Ledger, unit: usize) -> u32 {
+        let here = |&sum: &usize| unit_of(ledger.units(), sum as u32) == unit;
+        let sums: Vec<usize> = (0..16).filter(here).collect();
+        key_of_sum(self.random.pick(&sums), any_up_to(&mut self.random, u32::MAX / 16))
     }
 
     /// A field for a key, at times of a wrong length. For a key that is present the stamp goes by the

@@ -98,6 +98,7 @@ pub fn damaged_case(index: u64) -> Case {
         case.steps.extend(damage(&mut random, &bytes));
     }
     let mut arguments = Arguments::new(random, 2 * ledger.b * ledger.units());
+    arguments.asked = ledger.plan();
     let probes: Vec<Call> = KINDS.iter().map(|&kind| arguments.call(kind, &ledger)).collect();
     let start = arguments.random.below(probes.len());
     case.steps.extend(steps_of(&probes[start..]));

@@ -1,18 +1,18 @@
 //! Histories: a layout, growth with records, then calls of all kinds.
 
 use super::arguments::Arguments;
-use crate::call::{Call, Kind, KINDS};
-use crate::ledger::Ledger;
+use crate::call::{Answer, Call, Kind, KINDS};
+use crate::ledger::{split_unit, Ledger};
 use crate::random::Random;
 use crate::record::FIELD;
 
 /// How often each kind is called, in the order of `KINDS`.
-type Weights = [usize; 12];
+type Weights = [usize; 14];
 
-const BALANCED: Weights = [1, 16, 10, 10, 12, 4, 2, 4, 6, 4, 4, 2];
-const LOSING: Weights = [0, 6, 4, 4, 14, 4, 4, 16, 8, 2, 2, 2];
-const MOVING: Weights = [0, 12, 4, 8, 6, 2, 2, 2, 3, 12, 12, 4];
-const FILLING: Weights = [0, 28, 6, 8, 6, 2, 2, 1, 2, 2, 4, 1];
+const BALANCED: Weights = [1, 16, 10, 10, 12, 4, 2, 4, 6, 4, 4, 2, 2, 3];
+const LOSING: Weights = [0, 6, 4, 4, 14, 4, 4, 16, 8, 2, 2, 2, 2, 3];
+const MOVING: Weights = [0, 12, 4, 8, 6, 2, 2, 2, 3, 10, 13, 4, 4, 12];
+const FILLING: Weights = [0, 28, 6, 8, 6, 2, 2, 1, 2, 2, 4, 1, 2, 4];
 
 struct Maker {
     arguments: Arguments,
@@ -62,6 +62,9 @@ fn make(mut random: Random, b: usize, mixed: usize) -> Vec<Call> {
         if maker.arguments.random.chance(1, if left == 0 { 3 } else { 40 }) {
             maker.lose_units();
         }
+        if maker.arguments.random.chance(1, 30) {
+            maker.two_strokes(&weights);
+        }
     }
     maker.calls
 }
@@ -69,12 +72,15 @@ fn make(mut random: Random, b: usize, mixed: usize) -> Vec<Call> {
 impl Maker {
     fn push(&mut self, call: Call) {
         if !matches!(call, Call::LayOut { .. }) {
-            self.ledger.perform(&call);
+            if let Answer::Plan(0, _, moves) = self.ledger.perform(&call) {
+                self.arguments.asked = moves;
+            }
         }
         self.calls.push(call);
     }
 
-    /// Grows to so many units, with a few records between, and raises at the given numbers of units.
+    /// Grows to so many units, at times in two strokes, with a few records between, and raises at the
+    /// given numbers of units.
     fn grow_to(&mut self, units: usize, raises: &[usize]) {
         loop {
             (0..self.ledger.b.min(3)).for_each(|_| self.teach_of_pool());
@@ -83,7 +89,56 @@ impl Maker {
             if self.ledger.units() == units {
                 return;
             }
-            self.push(Call::Grow);
+            if self.arguments.random.chance(1, 4) {
+                self.ask();
+                self.commit_asked();
+            } else {
+                self.push(Call::Grow);
+            }
+        }
+    }
+
+    /// Asks for a plan with a list that just fits.
+    fn ask(&mut self) {
+        self.push(Call::Plan { entries: self.ledger.plan().len() });
+    }
+
+    /// Commits the plan that was handed back last.
+    fn commit_asked(&mut self) {
+        let moves = self.arguments.asked.clone();
+        self.push(Call::Commit { count: moves.len(), moves });
+    }
+
+    /// Asks for a plan, makes a few other calls, mostly on records of the unit to be split, and commits
+    /// what was handed back.
+    fn two_strokes(&mut self, weights: &Weights) {
+        self.ask();
+        for _ in 0..self.arguments.random.below(4) {
+            if self.arguments.random.chance(1, 3) {
+                self.any_call(weights);
+            } else {
+                self.change_split_unit();
+            }
+        }
+        self.commit_asked();
+    }
+
+    /// A record of the unit to be split next is corrected or erased, or one is taught, or both.
+    fn change_split_unit(&mut self) {
+        let unit = split_unit(self.ledger.units());
+        let key = self.arguments.key_of(&self.ledger, unit);
+        let choice = self.arguments.random.below(4);
+        if choice == 0 {
+            let field = self.arguments.field(&self.ledger, key);
+            return self.push(Call::Correct { key, field });
+        }
+        if choice < 3 {
+            self.push(Call::Erase { key });
+        }
+        if choice > 1 {
+            let key = self.arguments.new_key_of(&self.ledger, unit);
+            let field = self.arguments.field(&self.ledger, key);
+            self.push(Call::Teach { key, field });
         }
     }
 
@@ -110,7 +165,7 @@ impl Maker {
     }
 
     /// Units of one group go out, more of them than single losses would make likely; then reads of its
-    /// keys, a list and, in half of the cases, a repair.
+    /// keys, a list, at times a plan and a commit, and, in half of the cases, a repair.
     fn lose_units(&mut self) {
         let group = self.arguments.random.below(self.ledger.units().div_ceil(4));
         let data = 4 * group..self.ledger.units().min(4 * group + 4);
@@ -127,8 +182,12 @@ impl Maker {
             let key = self.arguments.key_of(&self.ledger, unit);
             self.push(Call::Read { key, out: FIELD });
         }
-        let list = self.arguments.call(Kind::List, &self.ledger);
-        self.push(list);
+        let kinds = [Kind::List, Kind::Plan, Kind::Commit];
+        let other_calls = if self.arguments.random.chance(1, 6) { &kinds[..] } else { &kinds[..1] };
+        for &kind in other_calls {
+            let call = self.arguments.call(kind, &self.ledger);
+            self.push(call);
+        }
         if self.arguments.random.chance(1, 2) {
             self.push(Call::Repair { group: group as u32 });
         }

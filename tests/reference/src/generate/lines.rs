@@ -26,14 +26,17 @@ pub fn input(index: u64) -> Vec<u8> {
     input
 }
 
-/// The lines of a history, thinned where it is long, so that late calls come within the input.
+/// The lines of a history, thinned where it is long, so that late calls come within the input. A grow
+/// stands for a commit, which has no line.
 fn chosen(random: &mut Random, calls: &[Call]) -> Vec<Vec<u8>> {
     let teaches = calls.iter().filter(|call| call.kind() == Kind::Teach).count();
     let most = random.pick(&[25, 45, 85]);
     let kept = |random: &mut Random, call: &Call| {
         call.kind() != Kind::Teach || teaches < most || random.chance(most, teaches)
     };
-    let lines = calls.iter().filter(|call| kept(random, call)).filter_map(line_of);
+    let with_line = |call| if matches!(call, &Call::Commit { .. }) { &Call::Grow } else { call };
+    let calls = calls.iter().map(with_line).filter(|call| kept(random, call));
+    let lines = calls.filter_map(line_of);
     lines.map(String::into_bytes).collect()
 }
 

@@ -7,6 +7,7 @@ pub mod fixed;
 mod history;
 pub mod lines;
 mod losses;
+mod plans;
 pub mod segments;
 
 pub use history::{history, short_history};

@@ -39,6 +39,7 @@ fn answer(bytes: &mut [u8], line: &[u8]) -> String {
         Answer::Read(number, Some(field)) => format!("{number} {}\n", hex(&field)),
         Answer::List(number, _, records) => format!("{number}\n{}", listing(bytes, &records)),
         Answer::Part(_) => unreachable!("no line reads in place"),
+        Answer::Plan(..) => unreachable!("no line asks for a plan"),
     }
 }
 

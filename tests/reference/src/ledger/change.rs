@@ -11,11 +11,12 @@ impl Ledger {
             Call::Erase { key } => self.erase(*key),
             Call::Out { unit } => self.out[*unit as usize] = true,
             Call::Repair { group } => self.repair(*group as usize),
-            Call::Grow => self.grow(),
+            Call::Grow | Call::Commit { .. } => self.grow(),
             Call::Shrink => self.shrink(),
             Call::Raise => self.level += 1,
             Call::LayOut { .. } => panic!("a layout opens a ledger of its own"),
-            Call::Read { .. } | Call::ReadInPlace { .. } | Call::List { .. } => {}
+            Call::Read { .. } | Call::ReadInPlace { .. } => {}
+            Call::List { .. } | Call::Plan { .. } => {}
         }
     }
 
@@ -42,7 +43,7 @@ impl Ledger {
         self.out[16 + 3 * group..19 + 3 * group].fill(false);
     }
 
-    fn grow(&mut self) {
+    pub(super) fn grow(&mut self) {
         let added = self.units();
         let split = split_unit(added);
         self.lists.push(Vec::new());

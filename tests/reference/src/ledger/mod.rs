@@ -6,6 +6,7 @@ mod picture;
 mod symbols;
 
 use crate::call::{Answer, Call};
+use crate::moves::{Move, Place};
 use crate::record::FIELD;
 pub use symbols::{coefficient, product};
 
@@ -134,6 +135,25 @@ impl Ledger {
         !self.lengths_out(group).is_empty() && self.serving_checks(group) == 0
     }
 
+    /// Where the record of a key stands that is present.
+    fn place_of(&self, key: u32) -> Place {
+        let unit = self.unit_of(key);
+        let place = self.lists[unit].iter().position(|record| record.key == key);
+        (unit, 1 + place.expect("a record of this key"))
+    }
+
+    /// The moves of a grow, whether it would be granted or not, at 16 units as if there could be one
+    /// more: where each record of the list that is dealt out stands, in its order, and where the grown
+    /// ledger has its key.
+    pub fn plan(&self) -> Vec<Move> {
+        let mut grown = self.clone();
+        grown.grow();
+        let records = self.lists[split_unit(self.units())].iter();
+        records
+            .map(|record| Move::new(self.place_of(record.key), grown.place_of(record.key)))
+            .collect()
+    }
+
     /// Answers a call and takes it into the ledger. A layout opens a new ledger instead.
     pub fn perform(&mut self, call: &Call) -> Answer {
         let answer = self.answer(call);
@@ -155,6 +175,10 @@ impl Ledger {
                 Answer::List(0, self.records() as u32, self.listing())
             }
             Call::List { .. } => Answer::List(number, 0, Vec::new()),
+            Call::Plan { .. } if number == 0 => {
+                Answer::Plan(0, self.lists[split_unit(self.units())].len(), self.plan())
+            }
+            Call::Plan { .. } => Answer::Plan(number, 0, Vec::new()),
             _ => Answer::Number(number),
         }
     }

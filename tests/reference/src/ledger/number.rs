@@ -5,7 +5,7 @@ use crate::call::Call;
 use crate::record::{FIELD, RECORD};
 
 /// The order in which the conditions are asked. 1, not sound, never applies to a ledger.
-const ORDER: [u8; 8] = [2, 3, 9, 4, 8, 5, 6, 7];
+const ORDER: [u8; 9] = [2, 3, 9, 4, 8, 5, 6, 7, 11];
 
 impl Ledger {
     pub fn number(&self, call: &Call) -> u8 {
@@ -21,7 +21,8 @@ impl Ledger {
             8 => self.beyond_recovery(call),
             5 => matches!(call, Call::Teach { key, .. } if self.find(*key).is_some()),
             6 => self.not_present(call),
-            _ => self.too_full(call),
+            7 => self.too_full(call),
+            _ => self.not_the_plan(call),
         }
     }
 
@@ -43,7 +44,7 @@ impl Ledger {
 
     fn at_a_limit(&self, call: &Call) -> bool {
         match call {
-            Call::Grow => self.units() == 16,
+            Call::Grow | Call::Plan { .. } | Call::Commit { .. } => self.units() == 16,
             Call::Shrink => self.units() == 1,
             Call::Raise => self.level == 3,
             _ => false,
@@ -55,7 +56,7 @@ impl Ledger {
             Call::Teach { key, .. } | Call::Correct { key, .. } | Call::Erase { key } => {
                 self.lost(self.unit_of(*key) / 4) > 0
             }
-            Call::Grow => self.pair_lost(self.units()),
+            Call::Grow | Call::Plan { .. } | Call::Commit { .. } => self.pair_lost(self.units()),
             Call::Shrink => self.pair_lost(self.units() - 1),
             Call::Raise => self.out.contains(&true),
             Call::Out { unit } => self.out[*unit as usize],
@@ -106,8 +107,16 @@ impl Ledger {
                 self.lists[last].len() + self.lists[split_unit(last)].len() > self.b
             }
             Call::List { out } => *out < RECORD * self.records(),
+            Call::Plan { entries } => *entries < self.lists[split_unit(self.units())].len(),
             _ => false,
         }
+    }
+
+    /// A commit whose count exceeds its list, or whose first entries, so many as its count says, are
+    /// not the plan.
+    fn not_the_plan(&self, call: &Call) -> bool {
+        let Call::Commit { moves, count } = call else { return false };
+        *count > moves.len() || moves[..*count] != self.plan()
     }
 }
 

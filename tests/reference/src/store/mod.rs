@@ -3,6 +3,7 @@
 pub mod field;
 pub mod layout;
 pub mod matrix;
+pub(crate) mod plan;
 pub(crate) mod records;
 pub(crate) mod recover;
 mod sound;
@@ -10,12 +11,14 @@ pub(crate) mod units;
 pub(crate) mod write;
 
 use crate::call::{Answer, Call};
+use crate::moves::{Move, MOVE};
 use crate::record::RECORD;
+pub use plan::{commit, plan};
 pub use records::{correct, erase, list, read, read_in_place, teach};
 pub use sound::{broken_clauses, clause_names, sound};
 pub use units::{grow, lay_out, raise, repair, shrink, unit_out};
 
-/// The byte that output slices are filled with beforehand, to see what is written.
+/// The byte that outputs are filled with beforehand, to see what is written.
 const UNWRITTEN: u8 = 0xA5;
 
 /// Performs a call on the lent slice.
@@ -33,6 +36,8 @@ pub fn perform(bytes: &mut [u8], call: &Call) -> Answer {
         Call::Grow => grow(bytes),
         Call::Shrink => shrink(bytes),
         Call::Raise => raise(bytes),
+        Call::Plan { entries } => return perform_plan(bytes, *entries),
+        Call::Commit { moves, count } => commit(bytes, moves, *count),
     })
 }
 
@@ -53,4 +58,13 @@ fn perform_list(bytes: &[u8], out: usize) -> Answer {
     assert!(buffer[written..].iter().all(|&x| x == UNWRITTEN));
     buffer.truncate(written);
     Answer::List(number, count, buffer)
+}
+
+fn perform_plan(bytes: &[u8], entries: usize) -> Answer {
+    let unwritten = Move::from([UNWRITTEN; MOVE]);
+    let mut list = vec![unwritten; entries];
+    let (number, count) = plan(bytes, &mut list);
+    assert!(list[count..].iter().all(|&entry| entry == unwritten));
+    list.truncate(count);
+    Answer::Plan(number, count, list)
 }

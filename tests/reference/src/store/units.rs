@@ -73,7 +73,8 @@ pub fn put_in_service(bytes: &mut [u8], group: usize, rebuilt: &[(usize, Vec<Rec
     }
 }
 
-pub fn grow(bytes: &mut [u8]) -> u8 {
+/// The number that refuses a grow, or 0.
+pub fn grow_number(bytes: &[u8]) -> u8 {
     if !sound(bytes) {
         return 1;
     }
@@ -82,11 +83,25 @@ pub fn grow(bytes: &mut [u8]) -> u8 {
     if added == 16 {
         return 9;
     }
-    let split = parent(added);
-    if view.lost(added / 4) > 0 || view.lost(split / 4) > 0 {
+    if view.lost(added / 4) > 0 || view.lost(parent(added) / 4) > 0 {
         return 4;
     }
-    let level = view.level();
+    0
+}
+
+pub fn grow(bytes: &mut [u8]) -> u8 {
+    let number = grow_number(bytes);
+    if number == 0 {
+        add_unit(bytes);
+    }
+    number
+}
+
+/// What a granted grow does.
+pub fn add_unit(bytes: &mut [u8]) {
+    let view = View::new(bytes).unwrap();
+    let (added, level) = (view.units(), view.level());
+    let split = parent(added);
     let (stay, moving): (Vec<Record>, Vec<Record>) = recover::own_records(view, split)
         .into_iter()
         .partition(|record| unit_of(added + 1, record.0) == split);
@@ -99,7 +114,6 @@ pub fn grow(bytes: &mut [u8]) -> u8 {
     }
     make_checks(bytes, split / 4);
     make_checks(bytes, added / 4);
-    0
 }
 
 pub fn shrink(bytes: &mut [u8]) -> u8 {
