@@ -1,5 +1,1 @@
-pub mod Counted
-pub mod ByValue
 pub mod Types
-pub mod Walking
-pub mod LentShared

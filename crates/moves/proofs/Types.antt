@@ -1,5 +1,5 @@
 -- The structs of the crate as plain types, for the walks by hand. Assumes nothing.
-use Rattle.moves.proofs.ByValue.{PlainType, struct}
+use Rattle.moves.specs.walks.ByValue.{PlainType, struct}
 use Rattle.moves.proofs.Move as T
 use Rattle.moves.proofs.Move.Laws as T′
 use Rattle.moves.proofs.Draft as D
