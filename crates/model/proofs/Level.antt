@@ -155,7 +155,8 @@ module _ (s : List ℕ) (b : ℕ) (cs : List Call) (zero : layOutNumber s b ≡ 
 
   each-group : EachGroupHas (view (finalIn (layOut s b .store) cs)) (suc (raisesIn (layOut s b .store) cs))
   each-group g a =
-      sound-level (finalIn (layOut s b .store) cs) (ap sound (left-is s b zero cs typed) ∙ picture-sound end rest (whole s b zero cs typed .valid)) g a ∙ level-is
+      sound-level (finalIn (layOut s b .store) cs) (ap sound (left-is s b zero cs typed) ∙ picture-sound end rest (whole s b zero cs typed .valid)) g a
+      ∙ level-is
 
 -- ---- the same by steps
 

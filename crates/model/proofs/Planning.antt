@@ -26,7 +26,7 @@ use Rattle.model.specs.ReadLaws.{fill-le}
 use Rattle.model.specs.Sound.{sound}
 use Rattle.model.specs.SoundSays.{units-some}
 use Rattle.model.specs.Numbers.{grow, firstOf, refusalsIn, numberIn}
-use Rattle.model.specs.RowLaws.{free-first, front-free, by-front, numbered-in}
+use Rattle.model.specs.RowLaws.{free-first, front-free, front-granted, numbered-in}
 use Rattle.model.specs.Changes.{filterBy, recordsIn, dealt, grown}
 use Rattle.model.specs.Perform.{planned, output, perform}
 use Rattle.model.specs.MadeAnew.{leftBy}
@@ -83,7 +83,8 @@ module _ (s : List ℕ) where
     stayed : (r : ℕ) → r < fill → leaves v r ≡ false → leftBy s grow .slot n (count r (λ q. not (leaves v q))) ≡ v .slot n r
     unfolding dealt leaves
     stayed r a e =
-        left-at n (count r (λ q. not (leaves v q))) (omega (arith, before, grow-room s zero)) (omega (arith, a, count-le r (λ q. not (leaves v q)), fill-le v n))
+        left-at n (count r (λ q. not (leaves v q))) (omega (arith, before, grow-room s zero))
+        (omega (arith, a, count-le r (λ q. not (leaves v q)), fill-le v n))
         ∙ pick-false (ne-eqb n m (λ q. omega (arith, before))) _ _
         ∙ pick-true (eq-eqb n n refl) _ _
         ∙ placed (λ k. not (moves m k)) r a (ap not e)
@@ -125,22 +126,22 @@ module _ (s : List ℕ) where
       (λ f. same (ltb-false (length lent) c e) (same-moves (take c lent) (planIn v) (not-false _ f)))))
 
   -- where asking or a commit is granted, a grow is
-  front-granted : (more : List (Bool × ℕ)) → firstOf (rows ++ more) ≡ 0 → numberIn s grow ≡ 0
+  grow-granted : (more : List (Bool × ℕ)) → firstOf (rows ++ more) ≡ 0 → numberIn s grow ≡ 0
   unfolding numberIn
-  front-granted more =
-      by-front (λ k. k ≡ 0 → firstOf rows ≡ 0) rows more (numbered-in (sound s) (view s) grow) (λ z e. absurd (z e)) (λ f e. free-first rows f)
+  grow-granted more e = free-first rows (front-granted rows more (numbered-in (sound s) (view s) grow) e)
 
   grants-grow : (lent : List Move) (c : ℕ) → furtherNumberIn s (commit lent c) ≡ 0 → numberIn s grow ≡ 0
   unfolding furtherNumberIn furtherRefusalsIn
-  grants-grow lent c = front-granted _
+  grants-grow lent c = grow-granted _
 
   asking-grows : (lent : List Move) → furtherNumberIn s (plan lent) ≡ 0 → numberIn s grow ≡ 0
   unfolding furtherNumberIn furtherRefusalsIn
-  asking-grows lent = front-granted _
+  asking-grows lent = grow-granted _
 
   is-plan : (lent : List Move) (c : ℕ) → furtherNumberIn s (commit lent c) ≡ 0 → (c ≤ length lent) × (take c lent ≡ planIn (view s))
   is-plan lent c e =
-      by-commit (grants-grow lent c e) lent c (λ k. k ≡ 0 → (c ≤ length lent) × (take c lent ≡ planIn (view s))) (λ a q _. (a, q)) (λ _ f. absurd (omega arith)) e
+      by-commit (grants-grow lent c e) lent c (λ k. k ≡ 0 → (c ≤ length lent) × (take c lent ≡ planIn (view s)))
+      (λ a q _. (a, q)) (λ _ f. absurd (omega arith)) e
 
   the-plan : numberIn s grow ≡ 0 → (lent : List Move) (c : ℕ) → c ≤ length lent → take c lent ≡ planIn (view s) → furtherNumberIn s (commit lent c) ≡ 0
   the-plan z lent c a q = by-commit z lent c (λ k. k ≡ 0) (λ _ _. refl) (λ d. absurd (d a q))

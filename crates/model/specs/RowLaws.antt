@@ -113,6 +113,10 @@ by-front P ts us n refused free = by-test (λ (t : Bool). P (firstOf (ts ++ us))
     (λ e. let f : Free ts = first-free ts n (eqb-true (firstOf ts) 0 e) in subst P (sym (front-free ts us f)) (free f))
     (λ e. let z : firstOf ts ≢ 0 = eqb-false (firstOf ts) 0 e in subst P (sym (front-holds ts us z)) (refused z))
 
+-- where all rows together refuse nothing, the front part does not
+pub front-granted : (ts us : List (Bool × ℕ)) → Numbered ts → firstOf (ts ++ us) ≡ 0 → Free ts
+front-granted ts us n = by-front (λ k. k ≡ 0 → Free ts) ts us n (λ z e. absurd (z e)) (λ f e. f)
+
 -- ---- the first row
 
 pub row-holds : {t : Bool} (n : ℕ) (ts : List (Bool × ℕ)) → t ≡ true → firstOf ((t, n) ∷ ts) ≡ n

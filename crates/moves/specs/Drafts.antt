@@ -11,13 +11,17 @@ use Rattle.moves.specs.declared.Draft.{Draft}
 use Rattle.moves.specs.declared.Planned.{Planned}
 use Rattle.moves.specs.Moves.{noMove}
 
+-- the most moves of a plan
+abbrev pub mostMoves : ℕ
+mostMoves = 64
+
 -- the entries of a plan with no move
 unfoldable pub blank : List Move
-blank = replicate 64 noMove
+blank = replicate mostMoves noMove
 
--- entry i, which has a place among the 64
+-- entry i, which has a place among these
 unfoldable pub entryOf : Draft → ℕ → Move
-entryOf p i = pick (ltb i 64) (getD (p .moves) i noMove) noMove
+entryOf p i = pick (ltb i mostMoves) (getD (p .moves) i noMove) noMove
 
 -- its moves
 unfoldable pub movesOf : Draft → List Move

@@ -18,11 +18,14 @@ pub struct Move {
     pub new_rank: u8,
 }
 
+// The most moves of a plan: a unit has up to 64 records.
+pub const MOST: usize = 64;
+
 // A plan by value: the number of the call that asks for it, and where that is 0 the moves, the first `count` entries.
 pub struct Draft {
     pub number: u8,
     pub count: usize,
-    pub moves: [Move; 64],
+    pub moves: [Move; MOST],
 }
 
 // The answer to asking for a plan: the number, and how many moves were written.
@@ -53,7 +56,7 @@ pub fn no_plan(number: u8) -> Draft
     Draft {
         number,
         count: 0,
-        moves: [none; 64],
+        moves: [none; MOST],
     }
 }
 
@@ -61,7 +64,7 @@ pub fn no_plan(number: u8) -> Draft
 fn entry(p: Draft, i: usize) -> Move
     ensures { λ r. ⌜ r ≡ entryOf p i ⌝ }
 {
-    if i < 64 {
+    if i < MOST {
         return p.moves[i];
     }
     no_move()

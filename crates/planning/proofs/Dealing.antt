@@ -18,7 +18,7 @@ use Rattle.buffer.specs.LoopWrites.{filled, filled-none, filled-more}
 use Rattle.moves.specs.declared.Move.{Move}
 use Rattle.moves.specs.declared.Draft.{Draft}
 use Rattle.moves.specs.Moves.{noMove}
-use Rattle.moves.specs.Drafts.{blank, entryOf, movesOf}
+use Rattle.moves.specs.Drafts.{mostMoves, blank, entryOf, movesOf}
 use Rattle.model.specs.Units.{splitPointer, unitOf, moves}
 use Rattle.model.specs.Layout.{Store, view, unitsIn, keyOf}
 use Rattle.model.specs.StoreLaws.{units-of}
@@ -37,7 +37,7 @@ pub dealing-start : (s : List ℕ) (n : ℕ) → Dealing s n blank 0 0
 dealing-start s n = record { within = omega arith; counted = sym (count-none _); few = omega arith; made = filled-none _ _ }
 
 module _ (s : List ℕ) {m u n r leaving k v : ℕ} {entries : List Move} (em : m ≡ byte s 6) (eu : u ≡ splitPointer m) (ek : k ≡ keyOf (view s .slot u r))
-    (ev : v ≡ unitOf (m + 1) k) (small : n ≤ 64) (before : r < n) (d : Dealing s n entries leaving r) where
+    (ev : v ≡ unitOf (m + 1) k) (small : n ≤ mostMoves) (before : r < n) (d : Dealing s n entries leaving r) where
   abbrev t : Store
   t = view s
 
@@ -66,7 +66,7 @@ module _ (s : List ℕ) {m u n r leaving k v : ℕ} {entries : List Move} (em : 
         made = rw (ei, ea, move-is, d .made) (filled-more (moveIn t) blank r (omega (arith, before, small)));
       }
 
-pub dealing-end : (s : List ℕ) {m u n r leaving : ℕ} (p : Draft) → m ≡ byte s 6 → u ≡ splitPointer m → n ≡ fillIn (view s) u → n ≤ 64 → n ≤ r
+pub dealing-end : (s : List ℕ) {m u n r leaving : ℕ} (p : Draft) → m ≡ byte s 6 → u ≡ splitPointer m → n ≡ fillIn (view s) u → n ≤ mostMoves → n ≤ r
     → Dealing s n (p .moves) leaving r → p .count ≡ n → movesOf p ≡ planIn (view s)
 unfolding movesOf planIn entryOf filled
 dealing-end s {m} {u} {n} {r} p em eu en small over d ec =
@@ -78,7 +78,7 @@ dealing-end s {m} {u} {n} {r} p em eu en small over d ec =
         let f : ℕ → Move = moveIn (view s) in
         let at : i < r = omega (arith, l, over) in
         let long : i < length (entries r f) = omega (arith, at, length-entries r f) in
-        pick-true (lt-ltb i 64 (omega (arith, l, small))) (getD (p .moves) i noMove) noMove
+        pick-true (lt-ltb i mostMoves (omega (arith, l, small))) (getD (p .moves) i noMove) noMove
         ∙ ap (λ ms. getD ms i noMove) (d .made)
         ∙ List·getD-append (entries r f) _ noMove i long
         ∙ getD-entries r f i noMove at

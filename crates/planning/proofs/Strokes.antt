@@ -19,7 +19,7 @@ use Rattle.moves.specs.declared.Move.{Move}
 use Rattle.moves.specs.declared.Draft.{Draft}
 use Rattle.moves.specs.declared.Planned.{Planned}
 use Rattle.moves.specs.Moves.{sameMoves}
-use Rattle.moves.specs.Drafts.{entryOf, movesOf, answerOf}
+use Rattle.moves.specs.Drafts.{mostMoves, entryOf, movesOf, answerOf}
 use Rattle.moves.specs.DraftLaws.{length-moves, answer-number, answer-count, answer-filled}
 use Rattle.model.specs.Units.{splitPointer}
 use Rattle.model.specs.Layout.{view}
@@ -27,7 +27,7 @@ use Rattle.model.specs.StoreLaws.{units-of}
 use Rattle.model.specs.Reads.{fillIn}
 use Rattle.model.specs.Sound.{sound}
 use Rattle.model.specs.Numbers.{grow, firstOf, refusalsIn, numberIn}
-use Rattle.model.specs.RowLaws.{Free, first-free, free-first, front-holds, front-free, by-front, row-holds, row-fails, row-pair, numbered-in}
+use Rattle.model.specs.RowLaws.{Free, first-free, free-first, front-holds, front-free, by-front, front-granted, row-holds, row-fails, row-pair, numbered-in}
 use Rattle.model.specs.Perform.{plain, planned, output, outcome, grantedIn, afterIn, perform}
 use Rattle.model.specs.history.Plan.{moveIn, planIn}
 use Rattle.model.specs.history.Further.{plan, commit, countsAs, planRows, commitRows, planReply, furtherRefusalsIn, furtherNumberIn, furtherAnswerIn}
@@ -71,7 +71,7 @@ module _ (s : List ℕ) where
     moves = ap (λ (n : ℕ). entries n (entryOf p)) empty ∙ sym (pick-false (ne-eqb (p .number) 0 z) (planIn (view s)) []);
   }
 
-  pub all-moves : (p : Draft) → p .number ≡ 0 → numberIn s grow ≡ 0 → p .count ≤ 64 → movesOf p ≡ planIn (view s) → DraftOf s p
+  pub all-moves : (p : Draft) → p .number ≡ 0 → numberIn s grow ≡ 0 → p .count ≤ mostMoves → movesOf p ≡ planIn (view s) → DraftOf s p
   all-moves p e z small moves = record {
     number = e ∙ sym z;
     small = small;
@@ -91,7 +91,8 @@ module _ (s : List ℕ) where
       tail : numberIn s grow ≡ 0 → firstOf ((not agreed, 11) ∷ []) ≡ firstOf (commitRows l c (planIn (view s)))
       unfolding commitRows
       tail z =
-          ap (λ t. firstOf ((t, 11) ∷ [])) (ap not compared ∙ either (ltb (length l) c) _ ∙ ap (λ ms. ltb (length l) c || not (sameMoves (take c l) ms)) (moves-are z))
+          ap (λ t. firstOf ((t, 11) ∷ []))
+          (ap not compared ∙ either (ltb (length l) c) _ ∙ ap (λ ms. ltb (length l) c || not (sameMoves (take c l) ms)) (moves-are z))
           ∙ sym (row-pair (ltb (length l) c) _ 11 [])
 
       number : growsNumber s agreed ≡ furtherNumberIn s (commit l c)
@@ -104,8 +105,7 @@ module _ (s : List ℕ) where
       grown : furtherNumberIn s (commit l c) ≡ 0 → grantedIn s grow ≡ perform s grow .store
       unfolding furtherNumberIn furtherRefusalsIn perform afterIn numberIn
       grown e =
-          let zero : firstOf rows ≡ 0 = by-front (λ n. n ≡ 0 → firstOf rows ≡ 0) rows _ (numbered-in (sound s) (view s) grow)
-          (λ z q. absurd (z q)) (λ f q. free-first rows f) e in
+          let zero : firstOf rows ≡ 0 = free-first rows (front-granted rows _ (numbered-in (sound s) (view s) grow) e) in
           sym (pick-true (eq-eqb (firstOf rows) 0 zero) (grantedIn s grow) s)
 
       left : pick (eqb (furtherNumberIn s (commit l c)) 0) (grantedIn s grow) s ≡ storeLeft s (countedIn s (further (commit l c)))
@@ -139,8 +139,9 @@ module _ (s : List ℕ) where
       -- the plan counts only where asking is granted
       asked : furtherNumberIn s (plan l) ≡ 0 → movesOf p ≡ planIn (view s)
       unfolding furtherNumberIn furtherRefusalsIn
-      asked = by-front (λ n. n ≡ 0 → movesOf p ≡ planIn (view s)) rows (planRows l (planIn (view s))) (numbered-in (sound s) (view s) grow)
-          (λ z e. absurd (z e)) (λ f e. moves-are (unfold numberIn in free-first rows f))
+      asked e =
+          let f : Free rows = front-granted rows (planRows l (planIn (view s))) (numbered-in (sound s) (view s) grow) e in
+          moves-are (unfold numberIn in free-first rows f)
 
       reply : planned (answerOf (length l) p .number) (answerOf (length l) p .count) (filled (entryOf p) (answerOf (length l) p .count) l)
           ≡ planReply l (furtherNumberIn s (plan l)) (planIn (view s))
@@ -164,4 +165,5 @@ module _ (s : List ℕ) where
     pub counts : numberIn s grow ≡ 0 → p .count ≡ fillIn (view s) (splitPointer (byte s 6))
     unfolding planIn
     counts z =
-        sym (length-moves p) ∙ ap length (moves-are z) ∙ length-entries _ (moveIn (view s)) ∙ ap (λ (m : ℕ). fillIn (view s) (splitPointer m)) (sym (units-of s))
+        sym (length-moves p) ∙ ap length (moves-are z) ∙ length-entries _ (moveIn (view s))
+        ∙ ap (λ (m : ℕ). fillIn (view s) (splitPointer m)) (sym (units-of s))

@@ -8,7 +8,7 @@ use Rattle.buffer.specs.Choice.{pick}
 use Rattle.moves.specs.declared.Move.{Move}
 use Rattle.moves.specs.declared.Draft.{Draft}
 use Rattle.moves.specs.Moves.{move}
-use Rattle.moves.specs.Drafts.{movesOf}
+use Rattle.moves.specs.Drafts.{mostMoves, movesOf}
 use Rattle.model.specs.Layout.{view}
 use Rattle.model.specs.Sound.{sound}
 use Rattle.model.specs.Numbers.{grow, firstOf, refusalsIn, numberIn}
@@ -22,7 +22,7 @@ moveFrom n m r leaves leaving = pick leaves (move n (r + 1) m (leaving + 1)) (mo
 -- the plan of the store s, or why there is none
 pub record DraftOf (s : List ℕ) (p : Draft) : Type 0 where
   pub number : p .number ≡ numberIn s grow
-  pub small : p .count ≤ 64
+  pub small : p .count ≤ mostMoves
   pub moves : movesOf p ≡ pick (eqb (p .number) 0) (planIn (view s)) []
 
 -- a grow where it is granted and the list agreed with the plan; else its number, or 11

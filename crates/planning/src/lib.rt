@@ -7,7 +7,7 @@ ghost use Rattle.buffer.specs.Choice.{pick};
 ghost use Rattle.model.specs.Layout.{view};
 ghost use Rattle.model.specs.Reads.{fillIn};
 ghost use Rattle.model.specs.Perform.{outcome, plain, planned};
-ghost use Rattle.moves.specs.Drafts.{movesOf};
+ghost use Rattle.moves.specs.Drafts.{mostMoves, movesOf};
 ghost use Rattle.model.specs.history.Plan.{planIn};
 ghost use Rattle.model.specs.history.Further.{Further, plan, commit};
 ghost use Rattle.model.specs.history.Steps.{Step, further, performStep};
@@ -49,7 +49,7 @@ fn move_of(n: u8, m: u8, r: u8, leaves: bool, leaving: u8) -> moves::Move
 // The plan of a store: how a grow would deal out the records of unit n, which has count of them, to it and to unit m.
 fn dealt(s: &[u8], n: u8, m: u8, count: u8) -> moves::Draft
     requires { ⌜ Split (now s) n m × (m ≡ byte (now s) 6) × (count ≡ fillIn (view (now s)) n) ⌝ }
-    ensures { λ p. ⌜ (p .number ≡ 0) × (p .count ≤ 64) × (movesOf p ≡ planIn (view (now (s .entry)))) ⌝ }
+    ensures { λ p. ⌜ (p .number ≡ 0) × (p .count ≤ mostMoves) × (movesOf p ≡ planIn (view (now (s .entry)))) ⌝ }
 {
     let none = moves::no_plan(0);
     let mut entries = none.moves;
@@ -82,7 +82,7 @@ fn drafted(s: &[u8]) -> moves::Draft
 
 // A count of moves in one byte.
 fn narrow(count: usize) -> u8
-    requires { ⌜ count ≤ 64 ⌝ }
+    requires { ⌜ count ≤ mostMoves ⌝ }
     ensures { λ r. ⌜ r ≡ count ⌝ }
 {
     count as u8

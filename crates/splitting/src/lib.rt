@@ -102,12 +102,13 @@ fn grow_number(s: &[u8], survey: soundness::Survey) -> u8
     row(pair_out(outs, m), 4, 0)
 }
 
-// The number of a grow, and where that is 0 how many records the unit that is split has, else 0.
+// What a grow comes to before it is made: its number, and where that is 0 how many records the unit that is split has, else 0.
 pub struct Growth {
     pub number: u8,
     pub count: u8,
 }
 
+// That of a store.
 pub fn growth_of(s: &[u8]) -> Growth
     ensures { λ g. ⌜ (g .number ≡ numberIn (now (s .entry)) Call.grow)
         × (g .count ≡ pick (eqb (g .number) 0) (fillIn (view (now (s .entry))) (splitPointer (byte (now (s .entry)) 6))) 0) ⌝ }

@@ -4,6 +4,7 @@ use Prim.Native.Nat.{_-_, _≤_}
 use Rattle.lookup.specs.Sized.{Sized}
 use mathlib.Core.Path.{refl}
 use native.Mathlib.Omega.{arith}
+use Rattle.moves.specs.Drafts.{mostMoves}
 use Rattle.model.specs.Layout.{view}
 use Rattle.model.specs.ReadLaws.{fill-le}
 use Rattle.model.specs.StoreLaws.{size-of}
@@ -27,7 +28,7 @@ start c = c .before .before .before .before .before
 sized : (c : tie.Start Inv-loop μ-loop) → Sized (c .args .s .now)
 sized c = c .pre .0 .sized
 
-most : (c : tie.Start Inv-loop μ-loop) → c .args .count ≤ 64
+most : (c : tie.Start Inv-loop μ-loop) → c .args .count ≤ mostMoves
 most c = omega (arith, c .pre .2, fill-le (view (c .args .s .now)) (c .args .n), size-of (c .args .s .now), sized c .ranks)
 
 -- ---- the needs
@@ -72,8 +73,8 @@ loop-again c =
     let t = k .before in
     let e = start t in
     rw (c .counted .ensures)
-    (dealing-turn (e .args .s .now) (e .pre .1) (e .pre .0 .from) (k .key-at .ensures) (u .unit-of .ensures .0) (most e) (t .loop-test .taken) (t .before .loop .inv)
-    (w .wide .ensures .0) (a .move-of .ensures))
+    (dealing-turn (e .args .s .now) (e .pre .1) (e .pre .0 .from) (k .key-at .ensures) (u .unit-of .ensures .0) (most e)
+    (t .loop-test .taken) (t .before .loop .inv) (w .wide .ensures .0) (a .move-of .ensures))
 
 returns : tie.Need-returns Inv-loop μ-loop
 returns c =

@@ -12,7 +12,7 @@ use Rattle.moves.specs.declared.Move.{Move}
 use Rattle.model.specs.Layout.{view}
 use Rattle.model.specs.Sound.{sound}
 use Rattle.model.specs.Numbers.{grow, firstOf, refusalsIn}
-use Rattle.model.specs.RowLaws.{Agree, Free, agree-same, agree-first, agree-append, by-front}
+use Rattle.model.specs.RowLaws.{Agree, Free, agree-same, agree-first, agree-append, front-granted}
 use Rattle.model.specs.Perform.{plain, planned}
 use Rattle.model.specs.history.Ledger.{Ledger}
 use Rattle.model.specs.history.Picture.{picture}
@@ -55,7 +55,7 @@ module _ (l : Ledger) (rest : List ℕ) (h : Valid l) where
 
   plan-free : (lent : List Move) → furtherNumber l (plan lent) ≡ 0 → Free (refusals l grow)
   unfolding furtherNumber furtherRefusals
-  plan-free lent = by-front (λ n. n ≡ 0 → Free (refusals l grow)) (refusals l grow) (planRows lent (planOf l)) (numbered l grow) (λ z e. absurd (z e)) (λ f e. f)
+  plan-free lent = front-granted (refusals l grow) (planRows lent (planOf l)) (numbered l grow)
 
   pub plan-agrees : (lent : List Move) → Agrees l rest (plan lent)
   unfolding furtherAnswerIn furtherAnswer
