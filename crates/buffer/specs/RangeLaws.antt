@@ -132,6 +132,12 @@ unfolding count
 count-append n zero p = let e : n + 0 ≡ n = omega arith in rw e (omega arith)
 count-append n (suc m) p = let e : n + suc m ≡ suc (n + m) = omega arith in rw (e, count, count-append n m p) (omega arith)
 
+-- the first place by itself
+pub count-front : (n : ℕ) (p : ℕ → Bool) → count (suc n) p ≡ pick (p 0) 1 0 + count n (λ k. p (suc k))
+unfolding count
+count-front zero p = omega arith
+count-front (suc n) p = omega (arith, count-front n p)
+
 -- the numbers below k
 pub count-below : (n k : ℕ) → k ≤ n → count n (λ j. ltb j k) ≡ k
 count-below n k h =
@@ -142,11 +148,6 @@ count-below n k h =
     ∙ add-zero k
 
 -- a test that is counted in two parts
-pub count-front : (n : ℕ) (p : ℕ → Bool) → count (suc n) p ≡ pick (p 0) 1 0 + count n (λ k. p (suc k))
-unfolding count
-count-front zero p = omega arith
-count-front (suc n) p = omega (arith, count-front n p)
-
 pub count-parts : (n : ℕ) (p q r : ℕ → Bool) → ((k : ℕ) → k < n → pick (p k) 1 0 + pick (q k) 1 0 ≡ pick (r k) 1 0) → count n p + count n q ≡ count n r
 unfolding count
 count-parts zero p q r h = refl

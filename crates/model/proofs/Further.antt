@@ -2,9 +2,9 @@
 use Prim.Native.Nat.{ℕ, _≤_}
 use mathlib.Core.Path.{_≡_, refl, ap, ap₂, _∙_}
 use mathlib.Core.Logic.{_≢_}
-use mathlib.Core.List.{List}
+use mathlib.Core.List.{List, _++_}
 use mathlib.Core.Option.{none}
-use mathlib.Core.Bool.{false, not}
+use mathlib.Core.Bool.{Bool, false, not}
 use native.Mathlib.Omega.{arith}
 use lib.Dec.{eqb}
 use borrow.Author.Tests.{ne-eqb}
@@ -23,15 +23,18 @@ use Rattle.model.proofs.history.steps.Planned.{refused-plan}
 
 -- ---- what each of them owes
 
--- a number up to 11
+-- a number up to 11: rows behind those of a grow give one, where they do by themselves
+low-behind : (s : List ℕ) (more : List (Bool × ℕ)) → firstOf more ≤ 11 → firstOf (refusalsIn (sound s) (view s) grow ++ more) ≤ 11
+low-behind s more low =
+    let rows : List (Bool × ℕ) = refusalsIn (sound s) (view s) grow in
+    let numbered = numbered-in (sound s) (view s) grow in
+    by-front (λ n. n ≤ 11) rows more numbered (λ _. omega (arith, first-low rows numbered)) (λ _. low)
+
 number-low : (s : List ℕ) (a : Further) → furtherNumberIn s a ≤ 11
 unfolding furtherNumberIn furtherRefusalsIn planRows commitRows firstOf
-number-low s (plan lent) = by-front (λ n. n ≤ 11) (refusalsIn (sound s) (view s) grow) _ (numbered-in (sound s) (view s) grow)
-    (λ _. omega (arith, first-low (refusalsIn (sound s) (view s) grow) (numbered-in (sound s) (view s) grow)))
-    (λ _. by-pick (λ (n : ℕ). n ≤ 11) _ 7 0 (λ _. omega arith) (λ _. omega arith))
-number-low s (commit lent c) = by-front (λ n. n ≤ 11) (refusalsIn (sound s) (view s) grow) _ (numbered-in (sound s) (view s) grow)
-    (λ _. omega (arith, first-low (refusalsIn (sound s) (view s) grow) (numbered-in (sound s) (view s) grow)))
-    (λ _. by-pick (λ (n : ℕ). n ≤ 11) _ 11 _ (λ _. omega arith) (λ _. by-pick (λ (n : ℕ). n ≤ 11) _ 11 0 (λ _. omega arith) (λ _. omega arith)))
+number-low s (plan lent) = low-behind s _ (by-pick (λ (n : ℕ). n ≤ 11) _ 7 0 (λ _. omega arith) (λ _. omega arith))
+number-low s (commit lent c) =
+    low-behind s _ (by-pick (λ (n : ℕ). n ≤ 11) _ 11 _ (λ _. omega arith) (λ _. by-pick (λ (n : ℕ). n ≤ 11) _ 11 0 (λ _. omega arith) (λ _. omega arith)))
 
 -- refused, it hands back nothing
 answer-refused : (s : List ℕ) (a : Further) → eqb (furtherNumberIn s a) 0 ≡ false → furtherAnswerIn s a ≡ furtherRefusal a (furtherNumberIn s a)

@@ -1,7 +1,7 @@
 -- Every list of steps: on a picture it answers as the ledger does and leaves the ledger's picture; and the store and the ledger that it leaves are those
 -- of the base calls that it counts as. Nothing here knows which further calls there are. Assumes nothing.
 use Prim.Native.Nat.{ℕ}
-use mathlib.Core.Path.{_≡_, refl, ap, _∙_}
+use mathlib.Core.Path.{_≡_, refl, ap, _∙_, subst}
 use mathlib.Core.List.{List, [], _∷_}
 use mathlib.Core.Option.{Option, none, some}
 use lib.Dec.{eqb}
@@ -14,7 +14,7 @@ use Rattle.model.specs.history.Picture.{picture}
 use Rattle.model.specs.history.Answers.{final}
 use Rattle.model.specs.history.Runs.{finalIn}
 use Rattle.model.specs.history.Typed.{AllTyped}
-use Rattle.model.specs.history.Further.{countsAs, furtherNumberIn, furtherNumber}
+use Rattle.model.specs.history.Further.{countsAs, furtherNumberIn}
 use Rattle.model.specs.history.Steps.{Step, call, further, countedIn, storeLeft, stepAnswerIn, performStep, stepAnswersIn, stepsLeaveIn, also, callsIn}
 use Rattle.model.specs.history.Steps.{counted, ledgerLeft, stepAnswer, afterStep, stepAnswers, stepsLeave, CountTyped, StepTyped, StepsTyped}
 use Rattle.model.proofs.history.ledger.Valid.{Valid}
@@ -80,9 +80,7 @@ module _ (l : Ledger) (rest : List ℕ) (h : Valid l) where
   left-valid (some c) t = after-valid l rest c (simulated l rest h c t) h
 
   counted-typed : (x : Step) → StepTyped x → CountTyped (counted l x)
-  unfolding counted
-  counted-typed (call c) t = t
-  counted-typed (further a) t = by-pick CountTyped (eqb (furtherNumber l a) 0) (countsAs a) none (λ e. t) (λ e. tt)
+  counted-typed x t = subst CountTyped (counted-agrees x t) (counted-typed-in (picture l rest) x t)
 
   step-answers : (x : Step) → StepTyped x → performStep (picture l rest) x .answer ≡ stepAnswer l x
   unfolding performStep stepAnswerIn stepAnswer
