@@ -1,10 +1,11 @@
 /*
- * Times the soundness test of two builds of the library in one run, in turn, and with a data unit out
- * a read, a list and a repair: this build's, and an earlier one's, whose names begin with earlier_ in
- * place of lhrs_. Each has a store of its own, laid out and filled by its own calls, so that it may be
- * of another version; the width of its fields is EARLIER_FIELD. Prints a line for each of the four
- * and each size of store: its name, b, M, K, the nanoseconds of the earlier build and of this one,
- * with tabs between them.
+ * Times the soundness test of two builds of the library in one run, in turn, an erase and a teach, a
+ * grow and a shrink, and with a data unit out a read, a list and a repair: this build's, and an
+ * earlier one's, whose names begin with earlier_ in place of lhrs_. Each has a store of its own, laid
+ * out and filled by its own calls, so that it may be of another version; the width of its fields is
+ * EARLIER_FIELD. Prints a line for each of the six and each size of store: its name, b, M, K, the
+ * nanoseconds of the earlier build and of this one, with tabs between them. Where M is 16, a grow
+ * goes from 15 units to 16.
  * Build and run it with bench/beside.
  */
 #define _POSIX_C_SOURCE 199309L
@@ -36,6 +37,7 @@
 uint8_t earlier_lay_out(uint8_t *store, size_t len, uint32_t slots);
 uint8_t earlier_raise(uint8_t *store, size_t len);
 uint8_t earlier_grow(uint8_t *store, size_t len);
+uint8_t earlier_shrink(uint8_t *store, size_t len);
 uint8_t earlier_teach(uint8_t *store, size_t len, uint32_t key, const uint8_t *field, size_t size);
 uint8_t earlier_erase(uint8_t *store, size_t len, uint32_t key);
 uint8_t earlier_read(const uint8_t *store, size_t len, uint32_t key, uint8_t *out, size_t size);
@@ -48,6 +50,7 @@ struct build {
     uint8_t (*lay_out)(uint8_t *, size_t, uint32_t);
     uint8_t (*raise)(uint8_t *, size_t);
     uint8_t (*grow)(uint8_t *, size_t);
+    uint8_t (*shrink)(uint8_t *, size_t);
     uint8_t (*teach)(uint8_t *, size_t, uint32_t, const uint8_t *, size_t);
     uint8_t (*erase)(uint8_t *, size_t, uint32_t);
     uint8_t (*read)(const uint8_t *, size_t, uint32_t, uint8_t *, size_t);
@@ -60,15 +63,16 @@ struct build {
     uint32_t present; /* a key of unit 0 */
     uint8_t bytes[LENGTH(WIDEST_FIELD, MAX_SLOTS)];
     uint8_t lost[LENGTH(WIDEST_FIELD, MAX_SLOTS)]; /* the same store with unit 0 out */
+    uint8_t growing[LENGTH(WIDEST_FIELD, MAX_SLOTS)]; /* a store that has room for a unit more */
 };
 
-static struct build earlier = {earlier_lay_out, earlier_raise, earlier_grow, earlier_teach,
-                               earlier_erase,   earlier_read,  earlier_list, earlier_out,
-                               earlier_repair,  EARLIER_FIELD, 0,            0,
-                               0,               {0},           {0}};
-static struct build now = {lhrs_lay_out, lhrs_raise, lhrs_grow, lhrs_teach, lhrs_erase,
-                           lhrs_read,    lhrs_list,  lhrs_out,  lhrs_repair, LHRS_FIELD,
-                           0,            0,          0,         {0},         {0}};
+static struct build earlier = {
+    earlier_lay_out, earlier_raise, earlier_grow, earlier_shrink, earlier_teach, earlier_erase,
+    earlier_read,    earlier_list,  earlier_out,  earlier_repair, EARLIER_FIELD, 0,
+    0,               0,             {0},          {0},            {0}};
+static struct build now = {lhrs_lay_out, lhrs_raise, lhrs_grow, lhrs_shrink, lhrs_teach, lhrs_erase,
+                           lhrs_read,    lhrs_list,  lhrs_out,  lhrs_repair, LHRS_FIELD, 0,
+                           0,            0,          {0},       {0},         {0}};
 
 static void require(uint8_t number, uint8_t expected, const char *what)
 {
@@ -125,6 +129,20 @@ static void test(struct build *build)
     require(build->read(build->bytes, build->length, build->absent, out, build->field), 6, "read");
 }
 
+static void erase_and_teach(struct build *build)
+{
+    const uint8_t field[WIDEST_FIELD] = {0};
+    require(build->erase(build->bytes, build->length, build->present), 0, "erase");
+    require(build->teach(build->bytes, build->length, build->present, field, build->field), 0,
+            "teach");
+}
+
+static void grow_and_shrink(struct build *build)
+{
+    require(build->grow(build->growing, build->length), 0, "grow");
+    require(build->shrink(build->growing, build->length), 0, "shrink");
+}
+
 static void read_lost(struct build *build)
 {
     uint8_t out[WIDEST_FIELD];
@@ -151,6 +169,8 @@ struct operation {
 
 static const struct operation operations[] = {
     {"test", test},
+    {"erase + teach", erase_and_teach},
+    {"grow + shrink", grow_and_shrink},
     {"read, unit out", read_lost},
     {"list, unit out", list_lost},
     {"unit out + repair", out_and_repair},
@@ -189,10 +209,17 @@ static void print_row(const struct operation *operation, uint32_t slots, uint32_
            (unsigned)level, before, after);
 }
 
+static void prepare(struct build *build, uint32_t slots, uint32_t units, uint32_t level)
+{
+    fill(build, slots, units < MAX_UNITS ? units : MAX_UNITS - 1, level);
+    memcpy(build->growing, build->bytes, build->length);
+    fill(build, slots, units, level);
+}
+
 static void print_rows(uint32_t slots, uint32_t units, uint32_t level)
 {
-    fill(&earlier, slots, units, level);
-    fill(&now, slots, units, level);
+    prepare(&earlier, slots, units, level);
+    prepare(&now, slots, units, level);
     for (size_t i = 0; i < sizeof operations / sizeof operations[0]; i++)
         print_row(&operations[i], slots, units, level);
 }

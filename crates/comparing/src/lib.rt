@@ -1,12 +1,13 @@
 // For the comparisons of tests/ alone: names for C for what only Rattle can call. No crate of the store uses them.
 ghost use mathlib.Core.Path.{_≡_};
 ghost use mathlib.Core.List.{_++_};
-ghost use Prim.Native.Nat.{_%_};
+ghost use Prim.Native.Nat.{_+_, _%_};
 ghost use lib.Dec.{ltb};
 ghost use lib.ListN.{length, drop};
 ghost use Rattle.buffer.specs.Choice.{pick};
 ghost use Rattle.code.specs.Matrix.{entry, Rebuilds};
 ghost use Rattle.field256.specs.Gf256.{product};
+ghost use Rattle.model.specs.Units.{unitOf};
 ghost use Rattle.model.specs.Numbers.{Call};
 ghost use Rattle.model.specs.Perform.{givenIn};
 
@@ -55,4 +56,12 @@ pub extern "C" fn compared_product(a: u8, b: u8) -> u8
     let table = field256::table();
     let logs = field256::logs_from(&table);
     field256::mul_in(&table, &logs, a, b)
+}
+
+// The unit of a key among the units 0 to last, of which there are at most 16.
+#[no_mangle]
+pub extern "C" fn compared_unit_of(last: u8, key: u32) -> u8
+    ensures { λ u. ⌜ u ≡ unitOf (last % 16 + 1) key ⌝ }
+{
+    lookup::unit_of(last % 16 + 1, key)
 }

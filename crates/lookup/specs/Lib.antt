@@ -1,4 +1,5 @@
-pub mod UnitCases
+pub mod Below
+pub mod UnitLaws
 pub mod Spread
 pub mod SpreadLaws
 pub mod Sized

@@ -95,17 +95,19 @@ pub fn split_pointer(m: u8) -> u8
     m - power_below(m)
 }
 
-// The unit of a key among m units.
+// The unit of a key among m units. From the two remainders on there is one path, with no branch, comparison or call (`tests/one_path`): n + 255 - first
+// is 256 or more exactly where the first remainder is below n, so that `below` is 1 there and else 0. The second remainder is never the smaller one.
 pub fn unit_of(m: u8, key: u32) -> u8
     requires { ⌜ 1 ≤ m ⌝ }
     ensures { λ u. ⌜ (u ≡ unitOf m key) × (u < m) ⌝ }
 {
     let p = buffer::wide32(power_below(m));
+    let n = buffer::wide32(split_pointer(m));
     let sum = digits::digit_sum(key);
-    if sum % p + p < buffer::wide32(m) {
-        return buffer::narrow(sum % (2 * p));
-    }
-    buffer::narrow(sum % p)
+    let first = sum % p;
+    let second = sum % (2 * p);
+    let below = (n + 255 - first) / 256;
+    (first + below * (second - first)) as u8
 }
 
 // The state of a unit: 0 to 15 data, 16 + 3g + j check.

@@ -1,87 +1,81 @@
 -- Linear hashing's rule by a mask: whether a number belongs to unit u of m is told by its low bits alone, and so by these bits where a spread key has
 -- its digit sum. Assumes nothing.
 use mathlib.Core.Path.{_≡_, refl, sym, ap, _∙_}
-use mathlib.Core.Bool.{_&&_}
+use mathlib.Core.Bool.{Bool, false}
 use Prim.Native.Nat.{ℕ, suc, _+_, _*_, _-_, _/_, _%_, _^_, _≤_, _<_}
 use native.Mathlib.Omega.{arith}
-use native.Mathlib.Nat.{mod-lt, pow-succ', one-le-pow}
-use lib.Arith.{mod-mul}
+use native.Mathlib.Nat.{mod-lt, mod-mod, pow-succ', one-le-pow}
+use lib.Arith.{mod-mul, digits-mod}
 use lib.Bits.{bitAnd, and-mask}
-use lib.Dec.{eqb, ltb, leb}
-use borrow.Author.Tests.{lt-ltb, le-leb, eqb-true, eqb-false, leb-true, ltb-true, ltb-false, ne-eqb}
+use lib.Dec.{eqb, ltb}
+use borrow.Author.Tests.{eqb-true, eqb-false, ne-eqb}
 use Rattle.buffer.specs.Choice.{pick}
-use Rattle.buffer.specs.ChoiceLaws.{by-test, by-pick, pick-true, pick-false, pick-map}
-use Rattle.buffer.specs.TestLaws.{not-both, and-true, and-first, and-second}
+use Rattle.buffer.specs.ChoiceLaws.{by-test, by-pick, pick-map}
 use Rattle.model.specs.Units.{powerBelow, splitPointer, address, digitSum, unitOf}
-use Rattle.model.specs.UnitLaws.{power-most}
+use Rattle.model.specs.UnitLaws.{power-least, power-most}
+use Rattle.lookup.specs.Below.{TellsBelow, by-bit}
 use Rattle.lookup.specs.Spread.{sumIn, sumAt}
 use Rattle.lookup.specs.SpreadLaws.{sum-test}
 use Rattle.soundness.specs.Keys.{maskOf}
 
--- a proof for each power of two that may be the largest that is at most m
-by-power : (Q : ℕ → Type 0) (m : ℕ) → 1 ≤ m → m ≤ 16
-    → (m < 2 → Q 1) → (2 ≤ m → m < 4 → Q 2) → (4 ≤ m → m < 8 → Q 4) → (8 ≤ m → m < 16 → Q 8) → (m ≡ 16 → Q 16) → Q (powerBelow m)
+-- what holds of every power of two holds of the largest that is at most m
+by-power : (Q : ℕ → Type 0) (m : ℕ) → ((j : ℕ) → Q (2 ^ j)) → Q (powerBelow m)
 unfolding powerBelow
-by-power Q m lo hi q1 q2 q4 q8 q16 =
-    by-pick Q (ltb m 2) 1 (pick (ltb m 4) 2 (pick (ltb m 8) 4 (pick (ltb m 16) 8 16))) (λ e. q1 (ltb-true m 2 e)) (λ e.
-    by-pick Q (ltb m 4) 2 (pick (ltb m 8) 4 (pick (ltb m 16) 8 16)) (λ f. q2 (ltb-false m 2 e) (ltb-true m 4 f)) (λ f.
-    by-pick Q (ltb m 8) 4 (pick (ltb m 16) 8 16) (λ g. q4 (ltb-false m 4 f) (ltb-true m 8 g)) (λ g.
-    by-pick Q (ltb m 16) 8 16 (λ h. q8 (ltb-false m 8 g) (ltb-true m 16 h)) (λ h. q16 (let l : 16 ≤ m = ltb-false m 16 h in omega arith)))))
+by-power Q m q =
+    by-pick Q (ltb m 2) 1 _ (λ _. q 0) (λ _. by-pick Q (ltb m 4) 2 _ (λ _. q 1) (λ _. by-pick Q (ltb m 8) 4 _ (λ _. q 2) (λ _.
+    by-pick Q (ltb m 16) 8 16 (λ _. q 3) (λ _. q 4))))
 
--- the remainder by 2p is that by p, or p more
-remainder-twice : (k p : ℕ) → 0 < p → (k % (2 * p) ≡ k % p → ⊥) → k % (2 * p) ≡ k % p + p
-remainder-twice k p pos d =
-    let e : k % (2 * p) ≡ k / p % 2 * p + k % p = mod-mul k {m = 2} {c = p} (omega arith) pos in
-    by-test (λ _. k % (2 * p) ≡ k % p + p) (eqb (k / p % 2) 0)
-    (λ t. absurd (d (e ∙ rw (eqb-true (k / p % 2) 0 t) (omega arith))))
-    (λ t. let one : k / p % 2 ≡ 1 = let h = eqb-false (k / p % 2) 0 t in omega arith in e ∙ rw one (omega arith))
+-- the remainder of a number k that linear hashing takes for k is u exactly where the one that it takes for the number u is
+module _ (n u k p : ℕ) (pos : 0 < p) where
+  taken : Bool → ℕ
+  taken t = pick t (k % (2 * p)) (k % p)
 
--- x and y are a number's remainders by p = 2^j and by 2p, and neither is u
-neither : (x y p u : ℕ) → ((y ≡ x → ⊥) → y ≡ x + p) → (x ≡ u → ⊥) → (x + p ≡ u → ⊥) → eqb x u ≡ eqb y u
-neither x y p u hy a b = ne-eqb x u a ∙ sym (ne-eqb y u (λ h. b (sym (hy (λ e. a (sym e ∙ h))) ∙ h)))
+  -- both remainders of k leave the first one when divided by p again: where u leaves another, it is neither of them
+  neither : (t : Bool) → (k % p ≡ u % p → ⊥) → eqb (taken t) u ≡ false
+  unfolding taken
+  neither t d =
+      let second : k % (2 * p) % p ≡ k % p =
+      ap (λ (z : ℕ). z % p) (mod-mul k {m = 2} {c = p} (omega arith) pos) ∙ digits-mod (k / p % 2) (mod-lt k pos) in
+      ne-eqb (pick t (k % (2 * p)) (k % p)) u (λ e. d (sym (by-pick (λ z. z % p ≡ k % p) t _ _ (λ _. second) (λ _. mod-mod k p)) ∙ ap (λ (z : ℕ). z % p) e))
 
--- a unit that was not split in this round goes by x, one that was split, or made by a split, by y
-remainder-tells : (x y p m u : ℕ) → x < p → ((y ≡ x → ⊥) → y ≡ x + p) → p ≤ m → u < m
-    → eqb (pick (ltb u p && leb (m - p) u) x y) u ≡ eqb (pick (ltb x (m - p)) y x) u
-remainder-tells x y p m u hx hy hp hu =
-    by-test (λ t. eqb (pick t x y) u ≡ eqb (pick (ltb x (m - p)) y x) u) (ltb u p && leb (m - p) u)
-    (λ e.
-    let a : u < p = ltb-true u p (and-first _ _ e) in
-    let b : m - p ≤ u = leb-true (m - p) u (and-second (ltb u p) _ e) in
-    rw (pick-true refl x y)
-    (by-pick (λ z. eqb x u ≡ eqb z u) (ltb x (m - p)) y x (λ f. neither x y p u hy (λ h. omega (arith, ltb-true x (m - p) f)) (λ h. omega arith)) (λ _. refl)))
-    (λ e.
-    rw (pick-false refl x y)
-    (by-pick (λ z. eqb y u ≡ eqb z u) (ltb x (m - p)) y x (λ _. refl) (λ f.
-    let l : m - p ≤ x = ltb-false x (m - p) f in
-    sym (neither x y p u hy (λ h. not-both (and-true (lt-ltb u p (omega arith)) (le-leb (m - p) u (omega arith))) e) (λ h. omega arith)))))
+  by-own-test : eqb (taken (ltb (u % p) n)) u ≡ eqb (taken (ltb (k % p) n)) u
+  by-own-test =
+      by-test (λ _. eqb (taken (ltb (u % p) n)) u ≡ eqb (taken (ltb (k % p) n)) u) (eqb (k % p) (u % p))
+      (λ e. ap (λ (x : ℕ). eqb (taken (ltb x n)) u) (sym (eqb-true (k % p) (u % p) e)))
+      (λ e. let d = eqb-false (k % p) (u % p) e in neither (ltb (u % p) n) d ∙ sym (neither (ltb (k % p) n) d))
 
-module _ (m u k : ℕ) (some : 1 ≤ m) (most : m ≤ 16) (unit : u < m) where
-  Tells : ℕ → Type 0
-  Tells p = eqb (bitAnd k (pick (ltb u p && leb (m - p) u) (p - 1) (2 * p - 1))) u ≡ eqb (pick (ltb (k % p) (m - p)) (k % (2 * p)) (k % p)) u
+abbrev Tells : ℕ → ℕ → ℕ → ℕ → Type 0
+Tells n u k p = eqb (bitAnd k (pick (ltb (u % p) n) (2 * p - 1) (p - 1))) u ≡ eqb (pick (ltb (k % p) n) (k % (2 * p)) (k % p)) u
 
-  -- the masks of a power of two leave the remainders
-  tells : (j : ℕ) → 2 ^ j ≤ m → Tells (2 ^ j)
-  unfolding Tells
-  tells j l =
-      let p : ℕ = 2 ^ j in
-      let pos : 0 < p = one-le-pow j 2 (omega arith) in
-      let twice : bitAnd k (2 * p - 1) ≡ k % (2 * p) = rw (pow-succ' 2 j) at (and-mask k (suc j)) in
-      ap (λ z. eqb z u) (pick-map (bitAnd k) (ltb u p && leb (m - p) u) (p - 1) (2 * p - 1) ∙ rw (and-mask k j, twice) refl)
-      ∙ remainder-tells (k % p) (k % (2 * p)) p m u (mod-lt k pos) (remainder-twice k p pos) l unit
+-- the masks of a power of two leave the remainders
+tells : (n u k j : ℕ) → Tells n u k (2 ^ j)
+unfolding taken
+tells n u k j =
+    let p : ℕ = 2 ^ j in
+    let twice : bitAnd k (2 * p - 1) ≡ k % (2 * p) = rw (pow-succ' 2 j) at (and-mask k (suc j)) in
+    ap (λ z. eqb z u) (pick-map (bitAnd k) (ltb (u % p) n) (2 * p - 1) (p - 1) ∙ rw (and-mask k j, twice) refl)
+    ∙ by-own-test n u k p (one-le-pow j 2 (omega arith))
 
-  mask-tells : eqb (bitAnd k (maskOf m u)) u ≡ eqb (address m k) u
-  unfolding maskOf address splitPointer Tells
-  mask-tells = by-power Tells m some most (λ _. tells 0 some) (λ a _. tells 1 a) (λ a _. tells 2 a) (λ a _. tells 3 a) (λ a. tells 4 (omega arith))
+mask-tells : (m u k : ℕ) → eqb (bitAnd k (maskOf m u)) u ≡ eqb (address m k) u
+unfolding maskOf address
+mask-tells m u k = by-power (Tells (splitPointer m) u k) m (tells (splitPointer m) u k)
+
+-- the mask by a 0 or 1 that tells whether the unit's first remainder is below n
+pub mask-by-bit : (m u x p n bit : ℕ) → p ≡ powerBelow m → n ≡ splitPointer m → x ≡ u → TellsBelow bit (x % p) n → p - 1 + bit * p ≡ maskOf m u
+unfolding maskOf
+mask-by-bit m u x p n bit power split unit tells =
+    let pos : 1 ≤ p = rw power (power-least m) in
+    let twice : p - 1 + p ≡ 2 * p - 1 = omega arith in
+    by-bit bit (x % p) n (p - 1) p tells ∙ rw (twice, power, split, unit)
 
 -- a key's unit, by its spread
 mask-small : (m u : ℕ) → 1 ≤ m → m ≤ 16 → maskOf m u < 256
 unfolding maskOf
 mask-small m u some most =
     let few : powerBelow m ≤ m = power-most m some in
-    by-pick (λ w. w < 256) (ltb u (powerBelow m) && leb (splitPointer m) u) (powerBelow m - 1) (2 * powerBelow m - 1) (λ _. omega arith) (λ _. omega arith)
+    by-pick (λ w. w < 256) (ltb (u % powerBelow m) (splitPointer m)) (2 * powerBelow m - 1) (powerBelow m - 1) (λ _. omega arith) (λ _. omega arith)
 
-pub spread-tells : (m u k p : ℕ) → 1 ≤ m → m ≤ 16 → u < m → sumIn p ≡ digitSum k → eqb (bitAnd p (maskOf m u * sumAt)) (u * sumAt) ≡ eqb (unitOf m k) u
+pub spread-tells : (m u k p : ℕ) → 1 ≤ m → m ≤ 16 → sumIn p ≡ digitSum k → eqb (bitAnd p (maskOf m u * sumAt)) (u * sumAt) ≡ eqb (unitOf m k) u
 unfolding unitOf
-spread-tells m u k p some most unit e =
-    sum-test p (digitSum k) (maskOf m u) u e (mask-small m u some most) ∙ mask-tells m u (digitSum k) some most unit
+spread-tells m u k p some most e =
+    sum-test p (digitSum k) (maskOf m u) u e (mask-small m u some most) ∙ mask-tells m u (digitSum k)

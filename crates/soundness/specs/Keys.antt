@@ -3,7 +3,7 @@
 use Prim.Native.Nat.{ℕ, _+_, _*_, _-_, _/_, _%_}
 use mathlib.Core.List.{List}
 use mathlib.Core.Bool.{Bool, not, _&&_, _||_}
-use lib.Dec.{eqb, ltb, leb}
+use lib.Dec.{eqb, ltb}
 use Rattle.buffer.specs.Choice.{pick}
 use Rattle.buffer.specs.Range.{all, first}
 use Rattle.buffer.specs.Bytes.{be32}
@@ -19,9 +19,10 @@ turnedKeys s base step r = le32 s (base + step * r)
 unfoldable pub placeOf : ℕ → ℕ
 placeOf k = k * 2654435761 / 2097152 % 2048
 
--- a mask of the low bits of a digit sum that tell whether its key belongs to unit u of m (`spread-tells`): one bit more where u was split, or made by a split
+-- a mask of the low bits of a digit sum that tell whether its key belongs to unit u of m (`spread-tells`): they leave the remainder that linear hashing
+-- takes for the number u itself
 unfoldable pub maskOf : ℕ → ℕ → ℕ
-maskOf m u = pick (ltb u (powerBelow m) && leb (splitPointer m) u) (powerBelow m - 1) (2 * powerBelow m - 1)
+maskOf m u = pick (ltb (u % powerBelow m) (splitPointer m)) (2 * powerBelow m - 1) (powerBelow m - 1)
 
 -- the ranks before the first key 0
 unfoldable pub fillOf : ℕ → (ℕ → ℕ) → ℕ

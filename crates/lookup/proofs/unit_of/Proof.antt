@@ -1,52 +1,73 @@
--- `lookup::unit_of` meets its contract. Assumes nothing.
+-- `lookup::unit_of` meets its contract. That no sum or product is too large rests on the size of the remainders alone; that the unit is the key's, on what
+-- the 0 or 1 tells. Assumes nothing.
 use mathlib.Core.Path.{_≡_, _∙_}
-use Prim.Native.Nat.{ℕ, _*_, _<_}
+use Prim.Native.Nat.{ℕ, _*_, _-_, _%_, _≤_, _<_}
 use native.Mathlib.Omega.{arith}
-use native.Mathlib.Nat.{mod-lt}
+use native.Mathlib.Nat.{mod-lt, lt-of-le-of-lt}
 use borrow.Author.Needs.{needs}
-use Rattle.lookup.specs.UnitCases.{unit-split, unit-whole}
-use Rattle.model.specs.Units.{powerBelow, unitOf}
+use Rattle.model.specs.Units.{unitOf}
 use Rattle.model.specs.UnitLaws.{unit-below}
+use Rattle.lookup.specs.Below.{bit-mul-le, add-bit-mul-le}
+use Rattle.lookup.specs.UnitLaws.{first-le-second, bit-exactly, unit-by-bit}
 use Rattle.lookup.proofs.unit_of.Statement.{statement}
 use Rattle.lookup.proofs.unit_of.Tie as tie
 
-add-if1 : tie.Need-add-if1
-add-if1 c = omega (arith, mod-lt (c .digit-sum .result) {m = c .before .wide32 .result} (omega arith))
+abbrev power : tie.After-digit-sum → ℕ
+power c = c .before .before .before .wide32 .result
 
-narrow-requires : tie.Need-narrow-requires
-narrow-requires c κs =
-    let sum = c .before .before in
-    omega (arith, mod-lt (sum .digit-sum .result) {m = 2 * sum .before .wide32 .result} (omega arith))
+abbrev first : tie.After-digit-sum → ℕ
+first c = c .digit-sum .result % power c
 
--- ---- what both exits use, where the test has been made
-abbrev start : tie.After-wide322 → tie.Start
-start c = c .before .before .before .before
+abbrev second : tie.After-digit-sum → ℕ
+second c = c .digit-sum .result % (2 * power c)
 
-power : (c : tie.After-wide322) → c .before .before .wide32 .result ≡ powerBelow (start c .args .m)
-power c = c .before .before .wide32 .ensures .0 ∙ c .before .before .before .power-below .ensures .0
+-- how large the two remainders are
+record Remainders (c : tie.After-digit-sum) : Type 0 where
+  first-small : first c ≤ 15
+  second-small : second c ≤ 31
+  in-order : first c ≤ second c
 
-in-place : (c : tie.After-wide322) {u : ℕ} → u ≡ unitOf (start c .args .m) (start c .args .key)
-    → (u ≡ unitOf (start c .args .m) (start c .args .key)) × (u < start c .args .m)
-in-place c unit = (unit, rw unit (unit-below (start c .args .m) (start c .args .key) (start c .pre)))
+remainders : (c : tie.After-digit-sum) → Remainders c
+remainders c =
+    let pos : 1 ≤ power c = omega arith in
+    record {
+      first-small = omega (arith, mod-lt (c .digit-sum .result) pos);
+      second-small = omega (arith, mod-lt (c .digit-sum .result) {m = 2 * power c} (omega arith));
+      in-order = first-le-second (c .digit-sum .result) (power c) pos;
+    }
+
+add-below : tie.Need-add-below
+add-below c = let r = remainders c in record { fits = omega arith }
+
+sub-below : tie.Need-sub-below
+sub-below c = let r = remainders c in omega arith
+
+sub-result : tie.Need-sub-result
+sub-result c = remainders c .in-order
+
+mul-result : tie.Need-mul-result
+mul-result c = let r = remainders c in record { fits = lt-of-le-of-lt (bit-mul-le (omega arith)) (omega arith) }
+
+add-result : tie.Need-add-result
+add-result c = let r = remainders c in record { fits = lt-of-le-of-lt (add-bit-mul-le (first c) (second c - first c) (omega arith)) (omega arith) }
+
+cast-result : tie.Need-cast-result
+cast-result c = let r = remainders c in record { fits = lt-of-le-of-lt (add-bit-mul-le (first c) (second c - first c) (omega arith)) (omega arith) }
+
+-- ---- the unit is the key's, and so in place
+in-place : (m k : ℕ) {u : ℕ} → 1 ≤ m → u ≡ unitOf m k → (u ≡ unitOf m k) × (u < m)
+in-place m k some unit = (unit, rw unit (unit-below m k some))
 
 returns : tie.Need-returns
 returns c =
-    let test = c .before .before in
-    in-place test
-    (unit-split _ _ _ _ _ (power test) (test .before .digit-sum .ensures .0) (rw (test .wide322 .ensures .0) at (c .before .if1 .taken)) (c .narrow .ensures))
-
-narrow-requires-2 : tie.Need-narrow-requires-2
-narrow-requires-2 c κs =
-    let sum = c .before .before in
-    omega (arith, mod-lt (sum .digit-sum .result) {m = sum .before .wide32 .result} (omega arith))
-
-returns-2 : tie.Need-returns-2
-returns-2 c =
-    let test = c .before .before in
-    in-place test
-    (unit-whole _ _ _ _ _ (power test) (test .before .digit-sum .ensures .0) (rw (test .wide322 .ensures .0) at (c .before .if1 .left)) (c .narrow2 .ensures))
+    let start = c .before .before .before .before .before in
+    let power-is = c .before .before .before .wide32 .ensures .0 ∙ c .before .before .before .before .power-below .ensures .0 in
+    let split-is = c .before .wide322 .ensures .0 ∙ c .before .before .split-pointer .ensures .0 in
+    in-place (start .args .m) (start .args .key) (start .pre)
+    (unit-by-bit _ _ _ _ _ power-is split-is (bit-exactly _ _ _ _ _ power-is split-is (start .pre) (omega arith) (omega arith)) _ (c .digit-sum .ensures .0))
 
 pub unit-of-spec : {M : Type 1} → statement M
 unit-of-spec =
-    tie.close (tie.spec (λ c κs. search needs) (λ c κs. search needs) (λ c κs. search needs) (λ c. search needs) add-if1 (λ c κs. search needs)
-    (λ c. search needs) (λ c. search needs) narrow-requires returns (λ c. search needs) narrow-requires-2 returns-2)
+    tie.close
+    (tie.spec (λ c κs. search needs) (λ c κs. search needs) (λ c κs. search needs) (λ c κs. search needs) (λ c κs. search needs) (λ c. search needs)
+    (λ c. search needs) (λ c. search needs) add-below sub-below sub-result mul-result add-result cast-result returns)

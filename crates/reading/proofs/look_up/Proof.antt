@@ -10,7 +10,7 @@ use Rattle.buffer.specs.Bytes.{byte}
 use Rattle.model.specs.Layout.{view}
 use Rattle.model.specs.Reads.{listedFill, keysLostIn}
 use Rattle.lookup.specs.Sized.{Sized}
-use Rattle.lookup.specs.UnitCases.{home-found}
+use Rattle.lookup.specs.UnitLaws.{home-found}
 use Rattle.soundness.specs.SurveyLaws.{found-sized, first-check-read}
 use Rattle.reading.proofs.Verdicts.{refusal, no-key, no-room, unsound, Sought, sought-sized, lost, listed-read, group-counted, gone, absent}
 use Rattle.reading.proofs.Verdicts.{present}

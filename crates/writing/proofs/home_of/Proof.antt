@@ -14,7 +14,7 @@ use Rattle.model.specs.Numbers.{firstOf}
 use Rattle.model.specs.Reads.{outsIn}
 use Rattle.soundness.specs.SurveyLaws.{found-sized, outs-read, fill-most}
 use Rattle.lookup.specs.Sized.{Sized}
-use Rattle.lookup.specs.UnitCases.{home-found}
+use Rattle.lookup.specs.UnitLaws.{home-found}
 use Rattle.writing.specs.Homes.{openingRows}
 use Rattle.writing.proofs.Homes.{homeless, Belongs, opening, homed}
 use Rattle.writing.proofs.home_of.Statement.{statement}

@@ -1,13 +1,18 @@
 //! Compares the store and the byte coder under their C names with the reference:
 //! `compare [--first] [HISTORIES [DAMAGED [SEGMENTS [REBUILDINGS]]]]`. Rebuildings at every choice of
-//! columns come beside those.
+//! columns come beside those, and the units of keys at every number of units.
 //! The last line counts the differences; the exit status is 1 if there are any. With --first no more
 //! cases are taken up once there is one.
 
-use reference::compare::{compare_code, compare_segments, minimal, run, SegmentsOutcome, Tally};
+use reference::compare::{
+    compare_code, compare_segments, compare_units, minimal, run, SegmentsOutcome, Tally,
+};
 use reference::generate::cases::{damaged_case, history_case};
 use std::sync::atomic::{AtomicBool, AtomicUsize, Ordering};
 use std::{env, process, thread};
+
+/// Any keys whose units are compared.
+const KEYS: usize = 20_000;
 
 /// What the cases gave.
 #[derive(Default)]
@@ -25,22 +30,32 @@ fn main() {
     let damaged = counts.next().unwrap_or(24_000);
     let segments = counts.next().unwrap_or(24_000);
     let rebuildings = counts.next().unwrap_or(200_000);
-    let code_differs = report_code(rebuildings);
-    let segments_differ = report_segments(segments);
-    let stop = AtomicBool::new(first_alone && (code_differs || segments_differ));
+    let beside = [report_units(), report_code(rebuildings), report_segments(segments)];
+    let beside = beside.into_iter().filter(|&differs| differs).count();
+    let stop = AtomicBool::new(first_alone && beside > 0);
     let total = compare(histories, damaged, first_alone, &stop);
     print!("{}", total.tally);
     if let Some(&first) = total.differing.iter().min() {
         print_difference(first, histories);
     }
     let calls = total.tally.calls();
-    let differences = total.differing.len() + code_differs as usize + segments_differ as usize;
+    let differences = total.differing.len() + beside;
     let cases = match stop.into_inner() {
         true => "up to a difference".into(),
         false => format!("{histories} histories, {damaged} damaged stores"),
     };
     println!("compared: {cases}, {calls} calls, {differences} differences");
     process::exit((differences > 0) as i32);
+}
+
+/// Compares where keys lie; true where it differs.
+fn report_units() -> bool {
+    let units = compare_units(KEYS);
+    println!("the units of {} keys, of 1 to 16 units", units.keys);
+    if let Some(words) = &units.difference {
+        println!("the unit of a key differs: {words}");
+    }
+    units.difference.is_some()
 }
 
 /// Compares the code layer; true where it differs.

@@ -2,7 +2,7 @@
 //! comparison and the C programs can be tried on them.
 
 use super::faults::{seeded, spoil};
-use super::misplaced::read_misses;
+use super::misplaced::{read_misses, unit_or_fail};
 use super::plan_faults::{ask_or_fail, commit_or_fail};
 use super::rank_faults::{self, lacks_check_units, lies_beside_a_lost_rank, lies_in_a_unit_out};
 use super::segment_faults::rebuild_or_fail;
@@ -11,7 +11,7 @@ use crate::call::Kind;
 use crate::moves::{Move, MOST_MOVES, MOVE};
 use crate::record::{BODY, FIELD, RECORD};
 use crate::segment::field::product;
-use crate::store::layout::field_at;
+use crate::store::layout::{field_at, MOST_UNITS};
 use crate::store::{self, matrix};
 use std::slice;
 
@@ -235,6 +235,11 @@ unsafe extern "C" fn lhrs_rebuild_segment(
     m: u32,
 ) -> u8 {
     rebuild_or_fail(lent_mut(members, members_len), lent_mut(marks, marks_len), m)
+}
+
+#[no_mangle]
+extern "C" fn compared_unit_of(last: u8, key: u32) -> u8 {
+    unit_or_fail(last as usize % MOST_UNITS + 1, key) as u8
 }
 
 #[no_mangle]

@@ -2,7 +2,7 @@
 
 use super::misplaced::{
     decimal_digits, digits_as_symbols, grow_by_the_key, key_itself, placed_by_the_key_accepted,
-    seven_digits, teach_by, teach_compares_sums,
+    seven_digits, teach_by, teach_compares_sums, UNIT_FAULTS,
 };
 use super::plan_faults::{plan_fault_names, COMMIT_FAULTS};
 use super::rank_faults::{RANK_FAULTS, RULE_FAULTS};
@@ -145,8 +145,10 @@ const SEEDED: [&str; 19] = [
 pub fn fault_names() -> impl Iterator<Item = &'static str> {
     let of_calls = of_calls().map(|(name, _, _)| *name);
     let of_rules = RULE_FAULTS.iter().map(|(name, _, _)| *name);
+    let of_units = UNIT_FAULTS.iter().map(|(name, _)| *name);
     let of_segments = SEGMENT_FAULTS.iter().map(|(name, _)| *name);
-    of_calls.chain(of_rules).chain(plan_fault_names()).chain(SEEDED).chain(of_segments)
+    let of_store = of_calls.chain(of_rules).chain(plan_fault_names()).chain(SEEDED);
+    of_store.chain(of_units).chain(of_segments)
 }
 
 fn of_calls() -> impl Iterator<Item = &'static Fault> {

@@ -1,9 +1,12 @@
 //! Faults of where a key lies: it is placed or looked for by another number than its digit sum, or
-//! taken for another key of the same sum.
+//! taken for another key of the same sum; or the wrong one of the sum's two remainders is taken.
 
+use super::faults::name_chosen;
 use crate::record::FIELD;
 use crate::store;
-use crate::store::layout::{digit_sum, parent, unit_of_number, View, IN_SERVICE, OUT};
+use crate::store::layout::{
+    digit_sum, largest_power, parent, unit_of, unit_of_number, View, IN_SERVICE, OUT,
+};
 use crate::store::recover::own_records;
 use crate::store::write::{change_slot, make_check, set_unit, Record};
 
@@ -125,4 +128,29 @@ fn lie_by_themselves(view: View) -> bool {
             let mut keys = (0..view.count(unit)).map(|rank| view.key(unit, rank));
             keys.all(|key| unit_of_number(view.units(), key_itself(key)) == unit)
         })
+}
+
+/// Whether a fault takes the second remainder, by the first, the second and n.
+type TakesSecond = fn(usize, usize, usize) -> bool;
+
+pub const UNIT_FAULTS: [(&str, TakesSecond); 4] = [
+    ("unit-by-the-other-remainder", |first, _, n| first >= n),
+    ("unit-with-the-second-remainder-compared", |_, second, n| second < n),
+    ("unit-never-by-the-second-remainder", |_, _, _| false),
+    ("unit-that-is-split-next-taken-as-split", |first, _, n| first <= n),
+];
+
+/// The unit of a key, with the chosen fault where it is one of these.
+pub fn unit_or_fail(units: usize, key: u32) -> usize {
+    let Some((_, takes_second)) = UNIT_FAULTS.iter().find(|fault| Some(fault.0) == name_chosen())
+    else {
+        return unit_of(units, key);
+    };
+    let power = largest_power(units);
+    let (first, second) = (digit_sum(key) % power, digit_sum(key) % (2 * power));
+    if takes_second(first, second, units - power) {
+        second
+    } else {
+        first
+    }
 }

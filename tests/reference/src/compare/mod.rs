@@ -30,6 +30,8 @@ mod segments;
 mod stamp_faults;
 #[cfg(feature = "subject")]
 mod subject;
+#[cfg(feature = "subject")]
+mod units;
 
 #[cfg(feature = "subject")]
 pub use code::{compare_code, CodeOutcome};
@@ -43,6 +45,8 @@ pub use returned::Tally;
 pub use run::{run, Outcome};
 #[cfg(feature = "subject")]
 pub use segments::{compare_segments, SegmentsOutcome};
+#[cfg(feature = "subject")]
+pub use units::{compare_units, UnitsOutcome};
 
 #[cfg(all(feature = "self", feature = "library"))]
 compile_error!("the features self and library both provide the C names: choose one");

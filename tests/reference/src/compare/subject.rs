@@ -60,6 +60,7 @@ extern "C" {
     fn compared_rebuild(columns: *const u8, symbols: *const u8, data: *mut u8) -> u8;
     fn compared_coefficient(place: usize, column: usize) -> u8;
     fn compared_product(a: u8, b: u8) -> u8;
+    fn compared_unit_of(last: u8, key: u32) -> u8;
 }
 
 /// Makes a call on the first `len` bytes of a store's arena. `lent` is the arena of the field, of the
@@ -109,6 +110,11 @@ pub fn rebuild(columns: &mut Arena, symbols: &mut Arena, data: &mut Arena) -> u8
 /// The entry of the matrix of a place, 0 to 3, and a column, 0 to 16.
 pub fn coefficient(place: usize, column: usize) -> u8 {
     unsafe { compared_coefficient(place, column) }
+}
+
+/// The unit of a key among so many units, 1 to 16.
+pub fn unit_of(units: usize, key: u32) -> usize {
+    usize::from(unsafe { compared_unit_of((units - 1) as u8, key) })
 }
 
 /// Rebuilds a segment; the arenas hold its members and its marks.

@@ -4,6 +4,7 @@ use crate::record::{FIELD, KEY, RECORD};
 
 pub const VERSION: u8 = 4;
 pub const HEADER: usize = 36;
+pub const MOST_UNITS: usize = 16;
 /// A slot: key and field.
 pub const SLOT: usize = RECORD;
 /// The keys of a check record: one for each place of its group.

@@ -53,7 +53,7 @@ own-test c =
     let mask = masked read in
     ap₂ eqb (ap (bitAnd (c .spread .result)) (mask .at-sum .ensures ∙ ap (λ (w : ℕ). w * sumAt) (mask .before .mask-of .ensures)))
     (read .before .before .before .at-sum2 .ensures ∙ ap (λ (w : ℕ). w * sumAt) (read .before .before .before .before .wide32 .ensures .0))
-    ∙ spread-tells _ _ _ _ (asked .1) (asked .2) (asked .3) (c .spread .ensures ∙ ap digitSum (read .turned-key .ensures))
+    ∙ spread-tells _ _ _ _ (asked .1) (asked .2) (c .spread .ensures ∙ ap digitSum (read .turned-key .ensures))
 
 new-test : (c : tie.After-turned-key Inv-loop μ-loop) → isNew (rank c) (keys c) (c .turned-key .result) ≡ isNew (rank c) (keys c) (keys c (rank c))
 new-test c = ap (isNew (rank c) (keys c)) (c .turned-key .ensures)
