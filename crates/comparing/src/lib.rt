@@ -58,7 +58,7 @@ pub extern "C" fn compared_product(a: u8, b: u8) -> u8
     field256::mul_in(&table, &logs, a, b)
 }
 
-// The unit of a key among the units 0 to last, of which there are at most 16.
+// The unit of a key among the units 0 to last; of last the remainder by 16 is taken.
 #[no_mangle]
 pub extern "C" fn compared_unit_of(last: u8, key: u32) -> u8
     ensures { λ u. ⌜ u ≡ unitOf (last % 16 + 1) key ⌝ }

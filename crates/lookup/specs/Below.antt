@@ -14,7 +14,7 @@ pub record TellsBelow (bit x n : ℕ) : Type 0 where
   pub one : x < n → bit ≡ 1
   pub zero : n ≤ x → bit ≡ 0
 
--- n + 255 - x is 256 or more exactly where x is below n, and never 512
+-- n + 255 - x is at least 256 exactly where x is below n, and always below 512
 pub carry-tells : (bit x n : ℕ) → x ≤ 255 → n ≤ 256 → bit ≡ (n + 255 - x) / 256 → TellsBelow bit x n
 carry-tells bit x n hx hn e = record { below = λ h. omega arith; one = λ h. omega arith; zero = λ h. omega arith }
 

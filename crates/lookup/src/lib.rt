@@ -96,7 +96,7 @@ pub fn split_pointer(m: u8) -> u8
 }
 
 // The unit of a key among m units. From the two remainders on there is one path, with no branch, comparison or call (`tests/one_path`): n + 255 - first
-// is 256 or more exactly where the first remainder is below n, so that `below` is 1 there and else 0. The second remainder is never the smaller one.
+// is below 512, and at least 256 exactly where the first remainder is below n; `below` is 1 there and else 0. The second remainder is never the smaller.
 pub fn unit_of(m: u8, key: u32) -> u8
     requires { ⌜ 1 ≤ m ⌝ }
     ensures { λ u. ⌜ (u ≡ unitOf m key) × (u < m) ⌝ }

@@ -18,14 +18,14 @@ use Rattle.lookup.specs.Spread.{sumIn, sumAt}
 use Rattle.lookup.specs.SpreadLaws.{sum-test}
 use Rattle.soundness.specs.Keys.{maskOf}
 
--- what holds of every power of two holds of the largest that is at most m
+-- what holds of every power of two holds of 2^j
 by-power : (Q : ℕ → Type 0) (m : ℕ) → ((j : ℕ) → Q (2 ^ j)) → Q (powerBelow m)
 unfolding powerBelow
 by-power Q m q =
     by-pick Q (ltb m 2) 1 _ (λ _. q 0) (λ _. by-pick Q (ltb m 4) 2 _ (λ _. q 1) (λ _. by-pick Q (ltb m 8) 4 _ (λ _. q 2) (λ _.
     by-pick Q (ltb m 16) 8 16 (λ _. q 3) (λ _. q 4))))
 
--- the remainder of a number k that linear hashing takes for k is u exactly where the one that it takes for the number u is
+-- of the two remainders of a number k it is enough to test the one that linear hashing takes for the number u: it is u exactly where k's own is
 module _ (n u k p : ℕ) (pos : 0 < p) where
   taken : Bool → ℕ
   taken t = pick t (k % (2 * p)) (k % p)

@@ -1,9 +1,10 @@
 -- `lookup::unit_of` meets its contract. That no sum or product is too large rests on the size of the remainders alone; that the unit is the key's, on what
 -- the 0 or 1 tells. Assumes nothing.
 use mathlib.Core.Path.{_≡_, _∙_}
-use Prim.Native.Nat.{ℕ, _*_, _-_, _%_, _≤_, _<_}
+use Prim.Native.Nat.{ℕ, _+_, _*_, _-_, _%_, _≤_, _<_}
 use native.Mathlib.Omega.{arith}
-use native.Mathlib.Nat.{mod-lt, lt-of-le-of-lt}
+use native.Mathlib.Nat.{mod-lt, le-trans, lt-of-le-of-lt}
+use lib.Dec.{lit<}
 use borrow.Author.Needs.{needs}
 use Rattle.model.specs.Units.{unitOf}
 use Rattle.model.specs.UnitLaws.{unit-below}
@@ -48,11 +49,14 @@ sub-result c = remainders c .in-order
 mul-result : tie.Need-mul-result
 mul-result c = let r = remainders c in record { fits = lt-of-le-of-lt (bit-mul-le (omega arith)) (omega arith) }
 
+result-small : (c : tie.After-digit-sum) {bit : ℕ} → bit ≤ 1 → first c + bit * (second c - first c) ≤ 31
+result-small c h = let r = remainders c in le-trans (add-bit-mul-le (first c) (second c - first c) h) (omega arith)
+
 add-result : tie.Need-add-result
-add-result c = let r = remainders c in record { fits = lt-of-le-of-lt (add-bit-mul-le (first c) (second c - first c) (omega arith)) (omega arith) }
+add-result c = let r = remainders c in record { fits = lt-of-le-of-lt (result-small c (omega arith)) (lit< tt) }
 
 cast-result : tie.Need-cast-result
-cast-result c = let r = remainders c in record { fits = lt-of-le-of-lt (add-bit-mul-le (first c) (second c - first c) (omega arith)) (omega arith) }
+cast-result c = let r = remainders c in record { fits = lt-of-le-of-lt (result-small c (omega arith)) (lit< tt) }
 
 -- ---- the unit is the key's, and so in place
 in-place : (m k : ℕ) {u : ℕ} → 1 ≤ m → u ≡ unitOf m k → (u ≡ unitOf m k) × (u < m)

@@ -11,8 +11,8 @@ use reference::generate::cases::{damaged_case, history_case};
 use std::sync::atomic::{AtomicBool, AtomicUsize, Ordering};
 use std::{env, process, thread};
 
-/// Any keys whose units are compared.
-const KEYS: usize = 20_000;
+/// How many random keys have their units compared.
+const RANDOM_KEYS: usize = 20_000;
 
 /// What the cases gave.
 #[derive(Default)]
@@ -30,16 +30,16 @@ fn main() {
     let damaged = counts.next().unwrap_or(24_000);
     let segments = counts.next().unwrap_or(24_000);
     let rebuildings = counts.next().unwrap_or(200_000);
-    let beside = [report_units(), report_code(rebuildings), report_segments(segments)];
-    let beside = beside.into_iter().filter(|&differs| differs).count();
-    let stop = AtomicBool::new(first_alone && beside > 0);
+    let differ = [report_units(), report_code(rebuildings), report_segments(segments)];
+    let beside_calls = differ.into_iter().filter(|&differs| differs).count();
+    let stop = AtomicBool::new(first_alone && beside_calls > 0);
     let total = compare(histories, damaged, first_alone, &stop);
     print!("{}", total.tally);
     if let Some(&first) = total.differing.iter().min() {
         print_difference(first, histories);
     }
     let calls = total.tally.calls();
-    let differences = total.differing.len() + beside;
+    let differences = total.differing.len() + beside_calls;
     let cases = match stop.into_inner() {
         true => "up to a difference".into(),
         false => format!("{histories} histories, {damaged} damaged stores"),
@@ -50,7 +50,7 @@ fn main() {
 
 /// Compares where keys lie; true where it differs.
 fn report_units() -> bool {
-    let units = compare_units(KEYS);
+    let units = compare_units(RANDOM_KEYS);
     println!("the units of {} keys, of 1 to 16 units", units.keys);
     if let Some(words) = &units.difference {
         println!("the unit of a key differs: {words}");

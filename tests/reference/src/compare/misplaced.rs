@@ -133,10 +133,9 @@ fn lie_by_themselves(view: View) -> bool {
 /// Whether a fault takes the second remainder, by the first, the second and n.
 type TakesSecond = fn(usize, usize, usize) -> bool;
 
-pub const UNIT_FAULTS: [(&str, TakesSecond); 4] = [
+pub const UNIT_FAULTS: [(&str, TakesSecond); 3] = [
     ("unit-by-the-other-remainder", |first, _, n| first >= n),
     ("unit-with-the-second-remainder-compared", |_, second, n| second < n),
-    ("unit-never-by-the-second-remainder", |_, _, _| false),
     ("unit-that-is-split-next-taken-as-split", |first, _, n| first <= n),
 ];
 

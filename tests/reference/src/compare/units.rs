@@ -12,7 +12,7 @@ pub struct UnitsOutcome {
     pub difference: Option<String>,
 }
 
-/// Compares the units of a key of every digit sum and of `more` any keys.
+/// Compares the units of a key of every digit sum and of `more` random keys.
 pub fn compare_units(more: usize) -> UnitsOutcome {
     let mut random = Random::new(0x554E_4954_0000);
     let mut keys: Vec<u32> = (0..=8 * 15).map(key_of_sum).collect();
@@ -23,13 +23,13 @@ pub fn compare_units(more: usize) -> UnitsOutcome {
 
 /// A key with this sum of its digits: as many digits F as fit, and one that makes up for the rest.
 fn key_of_sum(sum: u32) -> u32 {
-    let digits = (0..8).map(|place| (sum.saturating_sub(15 * place).min(15)) << (4 * place));
-    digits.sum()
+    (0..8).map(|place| sum.saturating_sub(15 * place).min(15) << (4 * place)).sum()
 }
 
 fn wrong_unit(key: u32) -> Option<String> {
-    let mut counts = 1..=MOST_UNITS;
-    let units = counts.find(|&units| subject::unit_of(units, key) != unit_of(units, key))?;
-    let (got, due) = (subject::unit_of(units, key), unit_of(units, key));
-    Some(format!("of {units} units key {key:08X} is in unit {got}, expected {due}"))
+    (1..=MOST_UNITS).find_map(|units| {
+        let (got, due) = (subject::unit_of(units, key), unit_of(units, key));
+        let words = || format!("of {units} units key {key:08X} is in unit {got}, expected {due}");
+        (got != due).then(words)
+    })
 }

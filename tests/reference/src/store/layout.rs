@@ -4,6 +4,7 @@ use crate::record::{FIELD, KEY, RECORD};
 
 pub const VERSION: u8 = 4;
 pub const HEADER: usize = 36;
+/// The most data units that a store has.
 pub const MOST_UNITS: usize = 16;
 /// A slot: key and field.
 pub const SLOT: usize = RECORD;
@@ -12,7 +13,7 @@ const LISTED_KEYS: usize = 4 * KEY;
 /// A check record: the keys, then the parity of the fields.
 pub const CHECK_RECORD: usize = LISTED_KEYS + FIELD;
 /// One rank of all 16 data units and all 12 check units.
-const RANK: usize = 16 * SLOT + 12 * CHECK_RECORD;
+const RANK: usize = MOST_UNITS * SLOT + 12 * CHECK_RECORD;
 
 pub const IN_SERVICE: u8 = 1;
 pub const OUT: u8 = 2;
@@ -33,7 +34,7 @@ pub fn field_at(b: usize, unit: usize, rank: usize) -> usize {
 
 /// Where a record of check unit 0 to 11 starts.
 pub fn check_at(b: usize, check: usize, rank: usize) -> usize {
-    HEADER + 16 * b * SLOT + (check * b + rank) * CHECK_RECORD
+    HEADER + MOST_UNITS * b * SLOT + (check * b + rank) * CHECK_RECORD
 }
 
 /// Where a check record lists the key of a place of its group.
@@ -87,7 +88,7 @@ impl<'a> View<'a> {
             && (1..=64).contains(&b)
             && word(bytes, 1) as usize == length(b)
             && bytes.len() >= length(b)
-            && (1..=16).contains(&bytes[6])
+            && (1..=MOST_UNITS).contains(&(bytes[6] as usize))
             && (1..=3).contains(&bytes[7]);
         in_order.then_some(View { bytes, b })
     }
