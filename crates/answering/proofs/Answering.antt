@@ -1,4 +1,4 @@
--- A line that is answered, from what its command prints and leaves. Assumes nothing.
+-- A line that is answered, from what its command prints and leaves.
 use Prim.Native.Nat.{ℕ}
 use mathlib.Core.Path.{_≡_, refl, sym, ap, _∙_}
 use mathlib.Core.List.{List}

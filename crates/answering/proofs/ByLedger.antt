@@ -1,4 +1,4 @@
--- Every line of every text is answered as the ledger answers it: the calls since the last granted layout are a history of the store. Assumes nothing.
+-- Every line of every text is answered as the ledger answers it: the calls since the last granted layout are a history of the store.
 use Prim.Native.Nat.{ℕ, suc}
 use native.Mathlib.Omega.{arith}
 use mathlib.Core.Path.{_≡_, refl, sym, ap, ap₂, _∙_}

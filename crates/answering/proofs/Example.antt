@@ -1,4 +1,4 @@
--- Document 01's example: from the bytes of its lines to the bytes printed, computed by the ledger. Assumes nothing.
+-- Document 01's example: from the bytes of its lines to the bytes printed, computed by the ledger.
 use mathlib.Core.Path.{_≡_, refl, _∙_}
 use mathlib.Core.Option.{none}
 use lib.ListN.{take}

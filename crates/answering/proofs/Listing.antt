@@ -1,4 +1,4 @@
--- A list into the list buffer: what is printed of it, and what the buffer holds then. Assumes nothing.
+-- A list into the list buffer: what is printed of it, and what the buffer holds then.
 use Prim.Native.Nat.{ℕ, _*_, _≤_}
 use mathlib.Core.Path.{_≡_, sym, ap, _∙_}
 use mathlib.Core.List.{List, [], _++_, append-nil}

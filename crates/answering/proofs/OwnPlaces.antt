@@ -1,4 +1,4 @@
--- The places that the keys of a list give are the records' own: unit and rank of each, and so the lines. Assumes nothing.
+-- The places that the keys of a list give are the records' own: unit and rank of each, and so the lines.
 use Prim.Native.Nat.{ℕ, zero, suc, _+_, _*_, _-_, _≤_, _<_}
 use mathlib.Core.Path.{_≡_, sym, ap, ap₂, _∙_}
 use mathlib.Core.Logic.{_≢_}

@@ -1,4 +1,4 @@
--- The loop over the lines of a text: at each turn the lines that are left lead to where all lines lead. Assumes nothing.
+-- The loop over the lines of a text: at each turn the lines that are left lead to where all lines lead.
 use Prim.Native.Nat.{ℕ, _+_, _-_, _≤_, _<_}
 use mathlib.Core.Path.{_≡_, refl, ap, _∙_}
 use mathlib.Core.List.{List}

@@ -1,4 +1,4 @@
--- The call of a line has the types of its arguments: a key has 32 bits, a field holds bytes. Assumes nothing.
+-- The call of a line has the types of its arguments: a key has 32 bits, a field holds bytes.
 use Prim.Native.Nat.{ℕ, _^_, _≤_, _<_}
 use native.Mathlib.Nat.{pow-le-pow-right}
 use native.Mathlib.Omega.{arith}

@@ -1,4 +1,4 @@
--- Calls before any layout: a buffer of zeros is no sound store, and every call on it is refused. Assumes nothing.
+-- Calls before any layout: a buffer of zeros is no sound store, and every call on it is refused.
 use Prim.Native.Nat.{ℕ}
 use native.Mathlib.Omega.{arith}
 use mathlib.Core.Path.{_≡_, refl, sym, ap, _∙_}

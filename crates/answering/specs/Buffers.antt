@@ -1,4 +1,4 @@
--- What a line leaves in lent memory: the store, the list buffer and the output buffer. Assumes nothing.
+-- What a line leaves in lent memory: the store, the list buffer and the output buffer.
 use Prim.Native.Nat.{ℕ, _+_, _*_}
 use mathlib.Core.List.{List, [], _∷_}
 use lib.ListN.{length}

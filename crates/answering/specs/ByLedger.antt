@@ -1,5 +1,5 @@
 -- The lines of a text answered by the ledger (document 01, "The ledger"): for every text, from the program's store buffer, each line prints what the
--- ledger says, and the store at the end is one that the history of the lines leaves. Assumes nothing.
+-- ledger says, and the store at the end is one that the history of the lines leaves.
 use Prim.Native.Nat.{ℕ, suc}
 use mathlib.Core.Path.{_≡_}
 use mathlib.Core.List.{List, [], _∷_}

@@ -1,4 +1,4 @@
--- What a line asks for (document 01, "The program hallrun"): L a layout, every other letter a call. Assumes nothing.
+-- What a line asks for (document 01, "The program hallrun"): L a layout, every other letter a call.
 use Prim.Native.Nat.{ℕ, _*_}
 use lib.Dec.{eqb}
 use Rattle.buffer.specs.Choice.{pick}

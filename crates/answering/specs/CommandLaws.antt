@@ -1,4 +1,4 @@
--- A case for each letter of a line. Assumes nothing.
+-- A case for each letter of a line.
 use mathlib.Core.Path.{_≡_}
 use lib.Dec.{eqb}
 use borrow.Author.Tests.{eqb-true}

@@ -1,4 +1,4 @@
--- Document 01, "The program hallrun": its example, byte by byte, with a stamp of zeros behind each body (document 02, ask 4). Assumes nothing.
+-- Document 01, "The program hallrun": its example, byte by byte, with a stamp of zeros behind each body (document 02, ask 4).
 use Prim.Native.Nat.{ℕ}
 use Prim.Native.Char.{code}
 use Prim.Native.String.{String, [] as empty, _∷_ as _then_}

@@ -1,5 +1,5 @@
 -- The places of the records in a list, by their keys alone: a list goes by unit and then rank, so that a record has the rank behind that of the
--- record before it where they share the unit, else rank 1. Assumes nothing.
+-- record before it where they share the unit, else rank 1.
 use Prim.Native.Nat.{ℕ, zero, suc, _*_, _≤_, _<_}
 use mathlib.Core.List.{List}
 use lib.Dec.{eqb}

@@ -1,4 +1,4 @@
--- What a line prints and the store that it leaves, and so for the lines of a text (document 01, "The program hallrun"). Assumes nothing.
+-- What a line prints and the store that it leaves, and so for the lines of a text (document 01, "The program hallrun").
 use Prim.Native.Nat.{ℕ, suc}
 use mathlib.Core.List.{List, [], _∷_, _++_}
 use lib.Dec.{eqb}

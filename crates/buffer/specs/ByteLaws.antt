@@ -1,4 +1,4 @@
--- Laws of single bytes, of numbers of 32 bits and of zeros: in a part, in a list in which a part was replaced, in two lists. Assumes nothing.
+-- Laws of single bytes, of numbers of 32 bits and of zeros: in a part, in a list in which a part was replaced, in two lists.
 use mathlib.Core.Path.{_≡_, refl, sym, ap, _∙_}
 use mathlib.Core.List.{List, _++_}
 use Prim.Native.Nat.{ℕ, zero, suc, _+_, _*_, _-_, _/_, _%_, _≤_, _<_}

@@ -1,4 +1,4 @@
--- Numbers of 32 bits with their bytes in the other order, and the bytes of such a number. Assumes nothing.
+-- Numbers of 32 bits with their bytes in the other order, and the bytes of such a number.
 use Prim.Native.Nat.{ℕ, _+_, _*_, _/_, _%_, _^_}
 use mathlib.Core.List.{List}
 use Rattle.buffer.specs.Bytes.{byte}

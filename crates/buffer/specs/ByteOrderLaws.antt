@@ -1,5 +1,5 @@
 -- Turned round, a little-endian number is the big-endian one of the same bytes, and the other way: so which numbers are 0 and which are the same does
--- not depend on the order. Its bytes are those that it was read from (`byte-le`). Assumes nothing.
+-- not depend on the order. Its bytes are those that it was read from (`byte-le`).
 use Prim.Native.Nat.{ℕ, _+_, _*_, _/_, _%_, _<_}
 use mathlib.Core.Path.{_≡_, refl, sym, ap, _∙_}
 use mathlib.Core.List.{List}

@@ -1,4 +1,4 @@
--- Bytes of a buffer: one byte, a number of 32 bits, a part, and a part replaced. Reads are total: past the end counts as 0. Assumes nothing.
+-- Bytes of a buffer: one byte, a number of 32 bits, a part, and a part replaced. Reads are total: past the end counts as 0.
 use Prim.Native.Nat.{ℕ, _+_, _*_, _/_, _%_}
 use mathlib.Core.List.{List, [], _∷_, _++_}
 use lib.ListN.{getD, take, drop, replicate}

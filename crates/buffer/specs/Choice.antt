@@ -1,4 +1,4 @@
--- If-then-else. Assumes nothing.
+-- If-then-else.
 use mathlib.Core.Bool.{Bool, true, false}
 
 -- x where the test holds, else y. It stays shut where no line opens it, so that the parts of a cascade are found by their places.

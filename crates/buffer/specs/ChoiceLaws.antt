@@ -1,4 +1,4 @@
--- Laws of `pick`, and proofs by cases on a test. Assumes nothing.
+-- Laws of `pick`, and proofs by cases on a test.
 use mathlib.Core.Path.{_≡_, refl}
 use mathlib.Core.Bool.{Bool, true, false, _||_}
 use Rattle.buffer.specs.Choice.{pick}

@@ -1,5 +1,5 @@
 -- What holds at each turn of a loop that tests, gathers, looks for, counts or adds up something over 0 to n - 1: a record for each kind, which holds
--- at the start, is handed on by a turn, and gives the loop's result at the end. Assumes nothing.
+-- at the start, is handed on by a turn, and gives the loop's result at the end.
 use mathlib.Core.Path.{_≡_, sym, ap, _∙_}
 use mathlib.Core.Bool.{Bool, true, false}
 use Prim.Native.Nat.{ℕ, _+_, _≤_, _<_}

@@ -1,5 +1,5 @@
 -- What holds at each turn of a loop that writes a list: entry by entry from the front or from a place on, or piece behind piece. A record for each
--- kind, which holds at the start, is handed on by a turn, and gives the list at the end. Assumes nothing.
+-- kind, which holds at the start, is handed on by a turn, and gives the list at the end.
 use mathlib.Core.Path.{_≡_, refl, sym, ap, _∙_}
 use mathlib.Core.List.{List, [], _∷_, _++_, append-assoc, append-nil}
 use Prim.Native.Nat.{ℕ, zero, suc, _+_, _*_, _≤_, _<_}

@@ -1,4 +1,4 @@
--- What a loop over 0 to n - 1 does: a list filled entry by entry, a test of every byte. Assumes nothing.
+-- What a loop over 0 to n - 1 does: a list filled entry by entry, a test of every byte.
 use Prim.Native.Nat.{ℕ, zero, suc}
 use mathlib.Core.Bool.{Bool}
 use mathlib.Core.List.{List, [], _∷_}

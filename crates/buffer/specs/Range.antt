@@ -1,4 +1,4 @@
--- Tests, counts, first places and sums over the numbers 0 to n - 1. Assumes nothing.
+-- Tests, counts, first places and sums over the numbers 0 to n - 1.
 use Prim.Native.Nat.{ℕ, zero, suc, _+_}
 use mathlib.Core.Bool.{Bool, true, _&&_}
 use Rattle.buffer.specs.Choice.{pick}

@@ -1,4 +1,4 @@
--- Laws of the definitions of `Range`: tests, counts, first places, sums and lists over 0 to n - 1. Assumes nothing.
+-- Laws of the definitions of `Range`: tests, counts, first places, sums and lists over 0 to n - 1.
 use mathlib.Core.Path.{_≡_, refl, sym, ap, ap₂, _∙_}
 use mathlib.Core.Bool.{Bool, true, false, not, _&&_}
 use mathlib.Core.List.{List, _∷_}

@@ -1,4 +1,4 @@
--- Numbers of 32 bits at equal distances. Assumes nothing.
+-- Numbers of 32 bits at equal distances.
 use Prim.Native.Nat.{ℕ, _+_, _*_, _≤_, _<_}
 use mathlib.Core.List.{List}
 use native.Mathlib.Omega.{arith}

@@ -1,4 +1,4 @@
--- A list that is made of chunks, one behind the other; a function changed at one place. Assumes nothing.
+-- A list that is made of chunks, one behind the other; a function changed at one place.
 use Prim.Native.Nat.{ℕ, zero, suc}
 use mathlib.Core.List.{List, [], _++_}
 use lib.Dec.{eqb}

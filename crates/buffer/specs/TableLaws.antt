@@ -1,5 +1,4 @@
 -- Laws of lists that are made of chunks, and of functions changed at one place. Chunk i of a table of chunks of w bytes starts at w * i.
--- Assumes nothing.
 use mathlib.Core.Path.{_≡_, refl, sym, ap, ap₂, _∙_}
 use mathlib.Core.Logic.{_⊎_, inl, inr}
 use mathlib.Core.List.{List, [], _∷_, _++_, append-assoc, append-nil}

@@ -1,4 +1,4 @@
--- Tests of numbers, and tests joined by "and" or by "or". Assumes nothing.
+-- Tests of numbers, and tests joined by "and" or by "or".
 use mathlib.Core.Path.{_≡_, refl, sym, _∙_}
 use mathlib.Core.Bool.{Bool, true, false, not, _&&_, _||_, true≢false}
 use Prim.Native.Nat.{ℕ, suc, _≤_, _<_}

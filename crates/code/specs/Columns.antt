@@ -1,4 +1,4 @@
--- A column of the matrix, and four different ones of all seventeen: the side condition of what is said of any four columns. Assumes nothing.
+-- A column of the matrix, and four different ones of all seventeen: the side condition of what is said of any four columns.
 use mathlib.Core.Path.{_≡_}
 use mathlib.Core.Bool.{true}
 use mathlib.Core.List.{List, [], _∷_}

@@ -1,5 +1,5 @@
 -- The members of a digit, added four in a turn. A reader wants `Adding`, what holds at each turn, with `adding-start`, `adding-turn` and `adding-end`;
--- `four-fit`: four places from a place on may be read; and `inside-at`, for one byte of each. Assumes nothing.
+-- `four-fit`: four places from a place on may be read; and `inside-at`, for one byte of each.
 use mathlib.Core.Path.{_≡_, refl, sym, ap, ap₂, _∙_, subst}
 use mathlib.Core.List.{List}
 use Prim.Native.Nat.{ℕ, _+_, _-_, _≤_, _<_}

@@ -1,5 +1,5 @@
 -- The search for the first m present members: what holds at its start, after a member that is missing, present with m seen before, or present and
--- noted, and at its end. Assumes nothing.
+-- noted, and at its end.
 use mathlib.Core.Path.{_≡_, sym, ap, ap₂, _∙_}
 use mathlib.Core.Bool.{true, false}
 use mathlib.Core.List.{List, [], _∷_}

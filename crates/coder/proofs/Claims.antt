@@ -1,6 +1,5 @@
 -- The claims of specs/Claims on rebuilding hold. A reader wants `rebuilds`. A granted call ends in a table of members (`ends`): a present one stays, a
 -- missing one is the value of the polynomial that the chosen ones fix. Data have such a polynomial (proofs/Columns), so their segment is given back.
--- Assumes nothing.
 use mathlib.Core.Path.{_≡_, refl, sym, ap, ap₂, _∙_, subst}
 use mathlib.Core.Bool.{true, false, _&&_}
 use mathlib.Core.List.{List, [], _∷_, _++_, map}

@@ -1,5 +1,5 @@
 -- The claims of specs/Claims on columns hold. A reader wants `columns`; a user also `interpolated-only`: a polynomial of as many bytes as there are
--- different points is given at every point by its values there. Assumes nothing.
+-- different points is given at every point by its values there.
 use mathlib.Core.Path.{_≡_, refl, sym, ap, ap₂, _∙_}
 use mathlib.Core.List.{List, [], _∷_, map}
 use Prim.Native.Nat.{ℕ, zero, suc, _%_, _≤_, _<_}

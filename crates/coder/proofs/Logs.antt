@@ -1,5 +1,5 @@
 -- The loops that add up logarithms and look up weights. A reader wants `LogSumming`, what holds while the logarithms of differences are added up, with
--- `log-sum-self` and `log-sum-other`; and `weight-read`: what is read from the table of powers is the weight. Assumes nothing.
+-- `log-sum-self` and `log-sum-other`; and `weight-read`: what is read from the table of powers is the weight.
 use mathlib.Core.Path.{_≡_, sym, _∙_, subst}
 use mathlib.Core.List.{List}
 use Prim.Native.Nat.{ℕ, _+_, _*_, _%_, _-_, _≤_, _<_}

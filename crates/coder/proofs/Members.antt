@@ -1,5 +1,5 @@
 -- One member that is rebuilt. A reader wants `weighed-is`: what is weighed is the value of the polynomial; and `rewritten`: the member's own bytes may be
--- cleared before, since only other members are weighed. Assumes nothing.
+-- cleared before, since only other members are weighed.
 use mathlib.Core.Path.{_≡_, sym, ap, ap₂, _∙_, subst}
 use mathlib.Core.List.{List, map}
 use Prim.Native.Nat.{ℕ, _+_, _*_, _/_, _^_, _≤_, _<_}

@@ -1,5 +1,5 @@
 -- The places of a digit. The members whose weight has the digit are picked, one point at a time, and four places of zeros are written behind them. A reader
--- wants `Picking`, what holds at each turn, with `picking-start`, `picking-turn` and `picking-end`. Assumes nothing.
+-- wants `Picking`, what holds at each turn, with `picking-start`, `picking-turn` and `picking-end`.
 use mathlib.Core.Path.{_≡_, refl, sym, ap, ap₂, _∙_, subst}
 use mathlib.Core.List.{List}
 use Prim.Native.Nat.{ℕ, zero, suc, _+_, _*_, _/_, _%_, _^_, _≤_, _<_}

@@ -1,6 +1,6 @@
 -- The loop over the members of a segment. A reader wants `Rebuilding`, what holds at each turn: the members passed are as they will be, the others as they
 -- were; with `rebuilding-start`, `turn-missing`, `turn-present` and `rebuilding-end`; and what the first m present members are as points (`points-small`,
--- `points-distinct`, `points-away`, `points-placed`). Assumes nothing.
+-- `points-distinct`, `points-away`, `points-placed`).
 use mathlib.Core.Path.{_≡_, refl, sym, ap, _∙_, subst}
 use mathlib.Core.Bool.{Bool, true, false}
 use mathlib.Core.List.{List}

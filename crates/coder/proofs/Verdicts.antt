@@ -1,5 +1,5 @@
 -- How a call ends, from the tests of the code. A reader wants `refused-sizes` and `refused-marks` (it returns 2), `refused-few` (8), `granted` (what the
--- tests say of a call that goes on) and `rebuilt` (0). Assumes nothing.
+-- tests say of a call that goes on) and `rebuilt` (0).
 use mathlib.Core.Path.{_≡_, sym, ap₂, _∙_}
 use mathlib.Core.Bool.{true, false}
 use mathlib.Core.List.{List}

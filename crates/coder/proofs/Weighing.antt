@@ -1,5 +1,5 @@
 -- The digits of the weights, highest first. A reader wants `Weighing`, what holds at each turn: the sum is that of the weights without their lowest b
--- digits; with `weighing-start`, `weighing-turn` and `weighing-end`. Assumes nothing.
+-- digits; with `weighing-start`, `weighing-turn` and `weighing-end`.
 use mathlib.Core.Path.{_≡_, sym, ap, ap₂, _∙_}
 use mathlib.Core.List.{List}
 use Prim.Native.Nat.{ℕ, _+_, _*_, _/_, _%_, _^_, _≤_, _<_}

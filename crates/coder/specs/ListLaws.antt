@@ -1,5 +1,5 @@
 -- Facts about lists of numbers, whatever the numbers are. A user finds what holds of all of a list (`All`), lists of different numbers (`Distinct`), and
--- lists of the numbers f 0 to f (n - 1) (`entries`). Assumes nothing.
+-- lists of the numbers f 0 to f (n - 1) (`entries`).
 use mathlib.Core.Path.{_≡_, refl, ap, ap₂}
 use mathlib.Core.List.{List, [], _∷_, _++_, map}
 use Prim.Native.Nat.{ℕ, zero, suc, _≤_, _<_}

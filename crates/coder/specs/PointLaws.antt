@@ -1,6 +1,5 @@
 -- Bytes as elements and as points of the field. A user wants `evaluate-is`: the value at a point of the polynomial whose coefficients are bytes is the
--- number that `evaluate` gives; `distinct-points`: different bytes are different points; and `firsts-low`: the numbers 0 to m - 1 are bytes. Assumes
--- nothing.
+-- number that `evaluate` gives; `distinct-points`: different bytes are different points; and `firsts-low`: the numbers 0 to m - 1 are bytes.
 use mathlib.Core.Path.{_≡_, refl, sym, ap, ap₂, _∙_}
 use mathlib.Core.List.{List, [], _∷_, map}
 use Prim.Native.Nat.{ℕ, zero, suc, _%_, _≤_, _<_}

@@ -1,5 +1,4 @@
 -- The present members of a segment: each is in it and present, and no two are the same. A user wants `chosen-members`, `chosen-distinct` and `chosen-map`.
--- Assumes nothing.
 use mathlib.Core.Path.{_≡_, refl, sym, ap, _∙_, subst}
 use mathlib.Core.Bool.{true, false}
 use mathlib.Core.List.{List, [], _∷_, _++_, append-nil, map}

@@ -1,5 +1,5 @@
 -- Commissioning value 10, worked anew for losses judged rank by rank (document 02, ask 5): the numbers that the ledger gives to some lists of calls,
--- with two ranks to a unit. With two data units keys 1 and 3 lie in unit 1, keys 2 and 4 in unit 0. Assumes nothing.
+-- with two ranks to a unit. With two data units keys 1 and 3 lie in unit 1, keys 2 and 4 in unit 0.
 use Prim.Native.Nat.{ℕ}
 use mathlib.Core.Path.{_≡_, refl}
 use mathlib.Core.List.{List, [], _∷_}

@@ -1,4 +1,4 @@
--- A history with plans, by the ledger (document 02, ask 6). Assumes nothing.
+-- A history with plans, by the ledger (document 02, ask 6).
 use Prim.Native.Nat.{ℕ}
 use mathlib.Core.Path.{_≡_, refl}
 use mathlib.Core.List.{List, [], _∷_}

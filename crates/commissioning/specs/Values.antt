@@ -1,5 +1,5 @@
 -- Document 01, "Commissioning values": the starred ones, of the definitions, as one table (`starred`) with one theorem, `commissioned`: in every row
--- what is computed is what the document expects. Value 4 is there by Lagrange's weights and by the matrix, value 6 by the change and anew. Assumes nothing.
+-- what is computed is what the document expects. Value 4 is there by Lagrange's weights and by the matrix, value 6 by the change and anew.
 use Prim.Native.Nat.{ℕ}
 use mathlib.Core.Path.{_≡_, refl}
 use mathlib.Core.List.{List, [], _∷_, map, zipWith}

@@ -1,5 +1,5 @@
 -- The numbers that document 02 names (ask 4), computed from the one width of a field (`widths`), and commissioning values 9 and 11 with them: of every
--- slice, and of every store, key and field (`value-9`, `value-11`). Assumes nothing.
+-- slice, and of every store, key and field (`value-9`, `value-11`).
 use Prim.Native.Nat.{ℕ, _+_, _*_}
 use mathlib.Core.Path.{_≡_, refl}
 use mathlib.Core.Logic.{_≢_}

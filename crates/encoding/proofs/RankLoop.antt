@@ -1,5 +1,4 @@
 -- The loops over the ranks, of `make_group` and of `make_unit`: in the check units that a test picks the records of the first t ranks are made.
--- Assumes nothing.
 use Prim.Native.Nat.{ℕ, suc, _+_, _*_, _/_, _%_, _≤_, _<_}
 use mathlib.Core.Path.{_≡_, refl, sym, ap, _∙_}
 use mathlib.Core.List.{List}

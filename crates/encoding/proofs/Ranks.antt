@@ -1,4 +1,4 @@
--- The slots of a rank of a group, as code lends their parts, and the parity of their fields. Assumes nothing.
+-- The slots of a rank of a group, as code lends their parts, and the parity of their fields.
 use Prim.Native.Nat.{ℕ, suc, _+_, _*_, _-_, _≤_, _<_}
 use mathlib.Core.Path.{_≡_, refl, sym, ap, _∙_}
 use mathlib.Core.List.{List}

@@ -1,4 +1,4 @@
--- Check records made from the data and put in their places: one, and those of a rank of a group. Assumes nothing.
+-- Check records made from the data and put in their places: one, and those of a rank of a group.
 use Prim.Native.Nat.{ℕ, _+_, _*_, _/_, _%_, _≤_, _<_}
 use mathlib.Core.Path.{_≡_, refl, sym, ap, ap₂, _∙_}
 use mathlib.Core.List.{List, _++_}

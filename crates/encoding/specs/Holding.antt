@@ -1,4 +1,4 @@
--- A store that is changed step by step: the bytes after each step are those of the parts changed so far. Assumes nothing.
+-- A store that is changed step by step: the bytes after each step are those of the parts changed so far.
 use Prim.Native.Nat.{ℕ, _<_}
 use mathlib.Core.Path.{_≡_, refl, sym, ap, _∙_}
 use mathlib.Core.List.{List}

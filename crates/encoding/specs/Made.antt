@@ -1,4 +1,4 @@
--- Check records made anew from the data. Assumes nothing.
+-- Check records made anew from the data.
 use Prim.Native.Nat.{ℕ, _+_, _*_, _/_, _%_}
 use mathlib.Core.List.{List}
 use mathlib.Core.Bool.{Bool, _&&_}

@@ -1,5 +1,5 @@
 -- Laws of check records made anew, over the test that picks them: a store's shape is kept, and what is made is the data's alone, so those that are
--- made in two steps are those of one. Assumes nothing.
+-- made in two steps are those of one.
 use Prim.Native.Nat.{ℕ, _+_, _*_, _/_, _%_, _<_}
 use mathlib.Core.Path.{_≡_, refl, sym, ap, _∙_}
 use mathlib.Core.List.{List}

@@ -1,4 +1,4 @@
--- The states of check units in the bytes, and the three check places of a group. Assumes nothing.
+-- The states of check units in the bytes, and the three check places of a group.
 use Prim.Native.Nat.{ℕ, _+_, _*_, _/_, _%_, _<_}
 use mathlib.Core.Path.{_≡_, refl, sym, ap, _∙_}
 use mathlib.Core.Bool.{Bool, true, false, _||_}

@@ -1,4 +1,4 @@
--- A rank of a group: its four slots, and its check records. Assumes nothing.
+-- A rank of a group: its four slots, and its check records.
 use Prim.Native.Nat.{ℕ, _<_}
 use mathlib.Core.List.{List}
 use Rattle.buffer.specs.Bytes.{byte}

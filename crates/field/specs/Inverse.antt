@@ -1,4 +1,4 @@
--- Inverses of GF(16). Assumes nothing.
+-- Inverses of GF(16).
 use Prim.Native.Nat.{ℕ}
 use Rattle.algebra.specs.BinaryTested.{inverseIn}
 

@@ -1,5 +1,5 @@
 -- The loop that writes the logarithm of each power at its place. A reader wants `Logging`, what holds at each turn: the first i powers have theirs; with
--- `logging-start`, `logging-turn` and `logging-end`. Assumes nothing.
+-- `logging-start`, `logging-turn` and `logging-end`.
 use mathlib.Core.Path.{_≡_, sym, ap, _∙_}
 use mathlib.Core.List.{List}
 use Prim.Native.Nat.{ℕ, suc, _+_, _-_, _≤_, _<_}

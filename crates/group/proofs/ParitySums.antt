@@ -1,5 +1,4 @@
 -- The bytes of the parities at the three check places, by rows of products: one sum gives them all, the bodies exchanged (`parity-place`).
--- Assumes nothing.
 use Prim.Native.Nat.{ℕ, zero, suc, _*_, _/_, _%_, _^_, _≤_, _<_}
 use mathlib.Core.Path.{_≡_, refl, sym, ap, ap₂, _∙_}
 use mathlib.Core.List.{List}

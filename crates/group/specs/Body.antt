@@ -1,5 +1,5 @@
 -- Bodies: lists of bytes of any one length n, each byte two symbols of GF(16), high half first. What is coded of a record is its whole field, body and
--- stamp, as one such list. Assumes nothing.
+-- stamp, as one such list.
 use Prim.Native.Nat.{ℕ, _<_}
 use mathlib.Core.Path.{_≡_}
 use mathlib.Core.List.{List, map, zipWith}

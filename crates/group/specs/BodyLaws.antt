@@ -1,5 +1,5 @@
 -- Laws of bodies: the sum is commutative and associative, has zeros and is its own difference; a product with a symbol is linear; both byte by
--- byte. Where a law asks no length, it holds for lists of any lengths. Assumes nothing.
+-- byte. Where a law asks no length, it holds for lists of any lengths.
 use mathlib.Core.Path.{_≡_, refl, sym, ap, ap₂, _∙_}
 use mathlib.Core.List.{List, [], _∷_, zipWith}
 use Prim.Native.Nat.{ℕ, zero, suc, _<_}

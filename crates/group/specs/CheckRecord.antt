@@ -1,5 +1,5 @@
 -- Check records. Document 01: at each rank a check unit holds the four data keys of that rank in the clear and the parity bytes.
--- A slot is a key followed by a field. Assumes nothing.
+-- A slot is a key followed by a field.
 use Prim.Native.Nat.{ℕ, _*_}
 use mathlib.Core.List.{List, _++_}
 use lib.ListN.{take, drop}

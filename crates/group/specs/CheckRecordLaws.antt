@@ -1,5 +1,5 @@
 -- Laws of check records, over bodies of any one length n: following the change of one slot gives the record made anew (`patched-upd`); on a record
--- whose parity is wrong it keeps the error (`patched-error`). Assumes nothing.
+-- whose parity is wrong it keeps the error (`patched-error`).
 use mathlib.Core.Path.{_≡_, sym, ap, ap₂, _∙_}
 use mathlib.Core.List.{List, _++_}
 use Prim.Native.Nat.{ℕ, _+_, _*_, _≤_, _<_}

@@ -1,5 +1,5 @@
 -- Bodies cut at a place: the front of four bodies at a column is that of their fronts, and so with what stands behind (`take-at-column`,
--- `drop-at-column`). So a parity of fields is that of the bodies, and behind it that of the stamps. Assumes nothing.
+-- `drop-at-column`). So a parity of fields is that of the bodies, and behind it that of the stamps.
 use Prim.Native.Nat.{ℕ, zero, suc}
 use mathlib.Core.Path.{_≡_, refl, ap}
 use mathlib.Core.List.{List, [], _∷_, map, zipWith}

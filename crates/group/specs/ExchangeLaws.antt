@@ -1,5 +1,5 @@
 -- Check place j has the coefficients of check place 0 with the places exchanged by pairs (`exchange`), so the parity there is that of the bodies so
--- exchanged, at check place 0 (`parity-exchanged`). Assumes nothing.
+-- exchanged, at check place 0 (`parity-exchanged`).
 use Prim.Native.Nat.{ℕ, zero, suc, _<_}
 use mathlib.Core.Path.{_≡_, refl, sym, ap, ap₂, _∙_}
 use mathlib.Core.List.{List}

@@ -1,4 +1,4 @@
--- The sum of four bytes, each times its coefficient in check place 0, and these sums of the bytes of four words. Assumes nothing.
+-- The sum of four bytes, each times its coefficient in check place 0, and these sums of the bytes of four words.
 use Prim.Native.Nat.{ℕ}
 use mathlib.Core.List.{List}
 use lib.Bits.{bitXor}

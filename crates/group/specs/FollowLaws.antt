@@ -1,4 +1,4 @@
--- Following in two steps, as code does it: the key into its place, then the change into the parity behind the keys. Assumes nothing.
+-- Following in two steps, as code does it: the key into its place, then the change into the parity behind the keys.
 use mathlib.Core.Path.{_≡_, sym, ap, _∙_}
 use mathlib.Core.List.{List, _++_}
 use Prim.Native.Nat.{ℕ, _+_, _*_, _<_}

@@ -1,4 +1,4 @@
--- Four bodies that stand apart, as one function of their numbers. Assumes nothing.
+-- Four bodies that stand apart, as one function of their numbers.
 use Prim.Native.Nat.{ℕ, zero, suc}
 use mathlib.Core.List.{List}
 

@@ -1,6 +1,6 @@
 -- Laws of a group's members at a rank: one that can be rebuilt has four members in service (`enough`), and the first four are different, in rising
 -- order and in service (`first-four`); each data unit in service is among them (`data-chosen`). Nothing looks at other places (`serves-ext`,
--- `four-ext`). Assumes nothing.
+-- `four-ext`).
 use mathlib.Core.Path.{_≡_, refl, ap, ap₂, _∙_}
 use mathlib.Core.Bool.{Bool, true, not}
 use mathlib.Core.List.{List, [], _∷_}

@@ -1,5 +1,4 @@
 -- A group's four bodies at a column of the matrix, and the parity at a check place. Document 01: check unit j of a group (0 to 2) uses column 4 + j.
--- Assumes nothing.
 use Prim.Native.Nat.{ℕ, _+_}
 use mathlib.Core.List.{List}
 use Rattle.code.specs.Matrix.{entry}

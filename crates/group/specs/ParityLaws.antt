@@ -1,5 +1,5 @@
 -- Laws of four bodies at a column, and of parity. Adding the change of one body, times its coefficient, gives the body at the column made anew
--- (`at-upd`, for parity `parity-upd`); done to a wrong parity, it leaves the same error in it (`parity-error`). Assumes nothing.
+-- (`at-upd`, for parity `parity-upd`); done to a wrong parity, it leaves the same error in it (`parity-error`).
 use mathlib.Core.Path.{_≡_, refl, sym, ap, ap₂, _∙_}
 use mathlib.Core.List.{List}
 use Prim.Native.Nat.{ℕ, _+_, _<_}

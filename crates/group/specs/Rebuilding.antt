@@ -1,4 +1,4 @@
--- Rebuilding a body from four members of its group. Member m stands under column m of the matrix. Assumes nothing.
+-- Rebuilding a body from four members of its group. Member m stands under column m of the matrix.
 use Prim.Native.Nat.{ℕ}
 use mathlib.Core.Bool.{Bool}
 use mathlib.Core.List.{List}

@@ -1,7 +1,7 @@
 -- THE LAW OF REBUILDING, for any four different columns of all seventeen: bodies that are the same there are the same (`bodies-fixed`); whatever is
 -- held there, right or wrong, the rebuilt bodies have it by the matrix (`rebuilt-from-has`); so rebuilding gives back the bodies that were encoded
 -- (`rebuilt-from-back`). Then for the first four members in service of a group: `rebuilt-has`, `rebuilt-own`, `rebuilds`; no other member counts
--- (`rebuilt-ext`). It is shown byte by byte from the code's laws. Assumes nothing.
+-- (`rebuilt-ext`). It is shown byte by byte from the code's laws.
 use mathlib.Core.Path.{_≡_, refl, sym, ap, _∙_}
 use mathlib.Core.Bool.{Bool, true}
 use mathlib.Core.List.{List, [], _∷_}

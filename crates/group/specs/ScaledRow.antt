@@ -1,4 +1,4 @@
--- The products of every byte with one symbol, looked up by the byte. Assumes nothing.
+-- The products of every byte with one symbol, looked up by the byte.
 use Prim.Native.Nat.{ℕ}
 use mathlib.Core.List.{List}
 use Rattle.buffer.specs.Loops.{entries}

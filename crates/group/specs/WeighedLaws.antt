@@ -1,5 +1,5 @@
 -- Four bodies weighed and added up, byte by byte: each byte is the code's sum of four weighed bytes (`byte-weighed`), and each byte of the bodies at a
--- column is the code's byte there (`byte-at`). Both are bodies again (`weighed-is`, `is-at`). Assumes nothing.
+-- column is the code's byte there (`byte-at`). Both are bodies again (`weighed-is`, `is-at`).
 use mathlib.Core.Path.{_≡_, refl, sym, ap, _∙_}
 use mathlib.Core.Bool.{true}
 use mathlib.Core.List.{List, [], _∷_}

@@ -1,6 +1,5 @@
 -- The widths of a record's parts, in bytes (document 01, "Bytes of a store"; document 02, ask 4). Every length that depends on one is given by
 -- these names.
--- Assumes nothing.
 use Prim.Native.Nat.{ℕ, _+_, _*_}
 
 -- a key

@@ -1,4 +1,4 @@
--- Where `line::parse` stops, and what the line says there. Assumes nothing.
+-- Where `line::parse` stops, and what the line says there.
 use Prim.Native.Nat.{ℕ, _+_, _≤_, _<_}
 use mathlib.Core.Path.{_≡_, refl, sym, ap, _∙_}
 use mathlib.Core.Bool.{Bool, true, false, not, _&&_}

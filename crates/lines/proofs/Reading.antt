@@ -1,4 +1,4 @@
--- What holds at each turn of the loops that read digits: of a number, digit by digit, and of a field, byte by byte. Assumes nothing.
+-- What holds at each turn of the loops that read digits: of a number, digit by digit, and of a field, byte by byte.
 use Prim.Native.Nat.{ℕ, _+_, _*_, _^_, _≤_, _<_}
 use mathlib.Core.Path.{_≡_, refl, sym, ap, _∙_}
 use mathlib.Core.Bool.{Bool, true, false, not}

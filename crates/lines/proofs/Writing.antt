@@ -1,4 +1,4 @@
--- Lines that are written argument by argument, from the front. Assumes nothing.
+-- Lines that are written argument by argument, from the front.
 use Prim.Native.Nat.{ℕ, _+_, _*_, _≤_, _<_}
 use mathlib.Core.Path.{_≡_, refl, sym, ap, _∙_}
 use mathlib.Core.List.{List, [], _∷_, _++_, append-assoc, append-nil}

@@ -1,4 +1,4 @@
--- Laws of digits: a digit and its value, digits read and digits written. Assumes nothing.
+-- Laws of digits: a digit and its value, digits read and digits written.
 use Prim.Native.Nat.{ℕ, zero, suc, _+_, _*_, _-_, _/_, _%_, _^_, _≤_, _<_}
 use mathlib.Core.Path.{_≡_, refl, sym, ap, _∙_}
 use mathlib.Core.Bool.{Bool, true, false, _&&_}

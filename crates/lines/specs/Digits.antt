@@ -1,4 +1,4 @@
--- Capital hexadecimal digits, as bytes of text. Assumes nothing.
+-- Capital hexadecimal digits, as bytes of text.
 use Prim.Native.Nat.{ℕ, zero, suc, _+_, _*_, _-_, _/_, _%_}
 use mathlib.Core.Bool.{Bool, _&&_}
 use mathlib.Core.List.{List, [], _∷_, _++_}

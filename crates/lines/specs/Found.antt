@@ -1,4 +1,4 @@
--- What is found in a line or a text: numbers and fields by their digits, and where a line ends. Assumes nothing.
+-- What is found in a line or a text: numbers and fields by their digits, and where a line ends.
 use Prim.Native.Nat.{ℕ, _≤_}
 use mathlib.Core.Path.{_≡_}
 use mathlib.Core.Bool.{Bool, _&&_}

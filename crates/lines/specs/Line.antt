@@ -1,5 +1,5 @@
 -- The lines that hallrun reads (document 01, "The program hallrun"): a letter, then, with nothing behind them, its arguments in capital
--- hexadecimal after single spaces, two digits, for keys eight, for fields 40: body, then stamp. Assumes nothing.
+-- hexadecimal after single spaces, two digits, for keys eight, for fields 40: body, then stamp.
 use Prim.Native.Nat.{ℕ, _+_, _^_, _<_}
 use mathlib.Core.Path.{_≡_}
 use mathlib.Core.Bool.{Bool, true, false, _&&_, _||_}

@@ -1,5 +1,5 @@
 -- What a line says and how it is written are each other's inverse: so the test for a readable line, which looks at places of the line, is document
--- 01's form. Assumes nothing.
+-- 01's form.
 use Prim.Native.Nat.{ℕ, _+_, _^_, _≤_, _<_}
 use mathlib.Core.Path.{_≡_, refl, sym, ap, _∙_}
 use mathlib.Core.Bool.{Bool, true, false, _&&_, _||_}

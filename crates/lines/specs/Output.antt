@@ -1,5 +1,5 @@
 -- The lines that hallrun prints: each line's number in decimal; behind a granted R a space and the field; behind a granted P a line for each
--- record: unit, rank, key, field, in the form of arguments. Every line ends in byte 0A. Assumes nothing.
+-- record: unit, rank, key, field, in the form of arguments. Every line ends in byte 0A.
 use Prim.Native.Nat.{ℕ, _+_, _/_, _%_}
 use mathlib.Core.List.{List, [], _∷_, _++_}
 use lib.Dec.{ltb}

@@ -1,4 +1,4 @@
--- How long the printed lines are, and a text put behind another. Assumes nothing.
+-- How long the printed lines are, and a text put behind another.
 use Prim.Native.Nat.{ℕ, _+_, _-_, _≤_, _<_}
 use mathlib.Core.Path.{_≡_, sym, ap, _∙_}
 use mathlib.Core.List.{List, _++_, append-assoc, append-nil}

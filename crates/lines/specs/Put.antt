@@ -1,4 +1,4 @@
--- Lines written into a buffer: how long they are, and what they leave. Assumes nothing.
+-- Lines written into a buffer: how long they are, and what they leave.
 use Prim.Native.Nat.{ℕ, _+_, _*_}
 use mathlib.Core.Path.{_≡_}
 use mathlib.Core.List.{List, [], _∷_, _++_}

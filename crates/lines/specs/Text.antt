@@ -1,4 +1,4 @@
--- Lines of a text: each is ended by byte 0A, which the last may lack. Assumes nothing.
+-- Lines of a text: each is ended by byte 0A, which the last may lack.
 use Prim.Native.Nat.{ℕ}
 use mathlib.Core.List.{List, [], _∷_}
 use lib.Dec.{eqb}

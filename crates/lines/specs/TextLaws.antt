@@ -1,4 +1,4 @@
--- The lines of a text, one after the other: the first line of what is left at a place ends where `lineEnd` says. Assumes nothing.
+-- The lines of a text, one after the other: the first line of what is left at a place ends where `lineEnd` says.
 use Prim.Native.Nat.{ℕ, zero, suc, _+_, _-_, _≤_, _<_}
 use mathlib.Core.Path.{_≡_, sym, ap, _∙_}
 use mathlib.Core.Logic.{_≢_}

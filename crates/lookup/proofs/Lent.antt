@@ -1,4 +1,4 @@
--- A slot as code lends it in two parts, for its key and for its field. Assumes nothing.
+-- A slot as code lends it in two parts, for its key and for its field.
 use Prim.Native.Nat.{ℕ}
 use mathlib.Core.Path.{_≡_, _∙_}
 use mathlib.Core.List.{List, _++_}

@@ -1,4 +1,4 @@
--- The digit sum by masks, a shift and a product. Assumes nothing.
+-- The digit sum by masks, a shift and a product.
 use mathlib.Core.Path.{_≡_, sym, ap, ap₂, _∙_}
 use Prim.Native.Nat.{ℕ, _+_, _*_, _/_, _%_, _≤_, _<_}
 use native.Mathlib.Nat.{mod-lt}

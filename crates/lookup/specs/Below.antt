@@ -1,4 +1,4 @@
--- Document 02, request 7: a choice without a branch, by a 0 or 1 from a subtraction that tells whether one number is below another. Assumes nothing.
+-- Document 02, request 7: a choice without a branch, by a 0 or 1 from a subtraction that tells whether one number is below another.
 use Prim.Native.Nat.{ℕ, _+_, _*_, _-_, _/_, _≤_, _<_}
 use mathlib.Core.Path.{_≡_}
 use native.Mathlib.Omega.{arith}

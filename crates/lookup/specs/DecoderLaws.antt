@@ -1,4 +1,4 @@
--- Laws of decoders: up to the rank at which it changes, the decoder of a rank is that of the next one too (`next-rank`). Assumes nothing.
+-- Laws of decoders: up to the rank at which it changes, the decoder of a rank is that of the next one too (`next-rank`).
 use Prim.Native.Nat.{ℕ, _+_, _*_, _/_, _≤_, _<_}
 use mathlib.Core.Path.{_≡_, refl, sym, ap, _∙_}
 use mathlib.Core.Logic.{_≢_}

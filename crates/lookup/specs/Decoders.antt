@@ -1,4 +1,4 @@
--- What the slots of a data unit are rebuilt by, and the stretches of ranks along which it stays the same. Assumes nothing.
+-- What the slots of a data unit are rebuilt by, and the stretches of ranks along which it stays the same.
 use Prim.Native.Nat.{ℕ, _+_, _*_, _/_, _%_}
 use mathlib.Core.Path.{_≡_}
 use mathlib.Core.Bool.{_&&_}

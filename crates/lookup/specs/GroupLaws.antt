@@ -1,5 +1,4 @@
 -- Laws of the groups of a store, as its bytes show them: units out, records that are missing, ranks that can be rebuilt, and the members in service.
--- Assumes nothing.
 use Prim.Native.Nat.{ℕ, _+_, _*_, _/_, _%_, _≤_, _<_}
 use mathlib.Core.Path.{_≡_, refl, sym, ap, _∙_}
 use mathlib.Core.Logic.{_≢_}

@@ -1,4 +1,4 @@
--- What code knows of the units and records that it reads or rebuilds. Assumes nothing.
+-- What code knows of the units and records that it reads or rebuilds.
 use Prim.Native.Nat.{ℕ, _+_, _*_, _/_, _<_}
 use mathlib.Core.Path.{_≡_}
 use mathlib.Core.Bool.{true, false}

@@ -1,5 +1,4 @@
 -- Laws of the keys of a unit as they are listed: they are those that the definitions read, and a search through them finds what these say.
--- Assumes nothing.
 use Prim.Native.Nat.{ℕ, _+_, _*_, _/_, _%_, _≤_, _<_}
 use mathlib.Core.Path.{_≡_, refl, sym, ap, _∙_}
 use mathlib.Core.List.{List}

@@ -1,5 +1,5 @@
 -- Where the keys of a unit are listed: every step bytes from a place on. A data unit's keys stand in its slots; a unit that is out has its keys
--- listed by a check unit. Assumes nothing.
+-- listed by a check unit.
 use Prim.Native.Nat.{ℕ, _+_, _*_, _/_, _%_, _<_}
 use mathlib.Core.Path.{_≡_}
 use mathlib.Core.Bool.{false}

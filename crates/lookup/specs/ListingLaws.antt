@@ -1,4 +1,4 @@
--- Laws of what list writes, in a sound store of which no unit is lost: a record's bytes, where it stands, and the unit of its key. Assumes nothing.
+-- Laws of what list writes, in a sound store of which no unit is lost: a record's bytes, where it stands, and the unit of its key.
 use Prim.Native.Nat.{ℕ, _+_, _*_, _<_}
 use mathlib.Core.Path.{_≡_, ap, _∙_}
 use mathlib.Core.Bool.{true, false}

@@ -1,4 +1,4 @@
--- A part of a lent slice that is handed back: its bytes, and where it starts. A pointer is a block and a place in it. Assumes nothing.
+-- A part of a lent slice that is handed back: its bytes, and where it starts. A pointer is a block and a place in it.
 use Prim.Native.Nat.{ℕ, _+_, _-_}
 use mathlib.Core.Path.{_≡_, ap}
 use mathlib.Core.List.{List}

@@ -1,4 +1,4 @@
--- What a look into a store may rely on: the ranges of its header, and that the slice is long enough. Assumes nothing.
+-- What a look into a store may rely on: the ranges of its header, and that the slice is long enough.
 use Prim.Native.Nat.{ℕ, _≤_}
 use mathlib.Core.List.{List}
 use lib.ListN.{length}

@@ -1,4 +1,4 @@
--- Laws of what a look into a store may rely on: slots and check records lie within the slice, and every sound store has it. Assumes nothing.
+-- Laws of what a look into a store may rely on: slots and check records lie within the slice, and every sound store has it.
 use Prim.Native.Nat.{ℕ, _+_, _*_, _≤_, _<_}
 use mathlib.Core.Path.{_≡_}
 use mathlib.Core.Bool.{true}

@@ -1,4 +1,4 @@
--- Laws of a slot as it stands, or rebuilt where its record is missing. Assumes nothing.
+-- Laws of a slot as it stands, or rebuilt where its record is missing.
 use Prim.Native.Nat.{ℕ, suc, _+_, _*_, _-_, _/_, _%_, _≤_, _<_}
 use mathlib.Core.Path.{_≡_, refl, sym, ap, _∙_}
 use mathlib.Core.Bool.{true, false}

@@ -1,4 +1,4 @@
--- Where the members of a group hold fields and parity. Assumes nothing.
+-- Where the members of a group hold fields and parity.
 use Prim.Native.Nat.{ℕ, _+_, _*_, _-_}
 use lib.Dec.{ltb}
 use Rattle.buffer.specs.Choice.{pick}

@@ -1,4 +1,4 @@
--- Where a spread key has its digit sum: in bits 24 to 31. Assumes nothing.
+-- Where a spread key has its digit sum: in bits 24 to 31.
 use Prim.Native.Nat.{ℕ, _/_, _%_}
 
 abbrev pub sumAt : ℕ

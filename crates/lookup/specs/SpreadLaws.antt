@@ -1,4 +1,4 @@
--- A digit sum tested where a spread key has it, with anything above and below it. Assumes nothing.
+-- A digit sum tested where a spread key has it, with anything above and below it.
 use mathlib.Core.Path.{_≡_, sym, ap, ap₂, _∙_}
 use Prim.Native.Nat.{ℕ, _+_, _*_, _/_, _%_, _<_}
 use native.Mathlib.Nat.{mod-lt, mod-eq-of-lt, add-zero, lt-of-le-of-lt}

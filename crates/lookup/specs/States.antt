@@ -1,4 +1,4 @@
--- The states of units, as the bytes of a store show them. Assumes nothing.
+-- The states of units, as the bytes of a store show them.
 use Prim.Native.Nat.{ℕ, _+_, _*_, _-_, _<_}
 use mathlib.Core.Path.{_≡_, refl, ap}
 use mathlib.Core.Bool.{Bool}

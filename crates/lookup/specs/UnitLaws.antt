@@ -1,4 +1,4 @@
--- The unit of a key as the code finds it: by its digit sum x and a 0 or 1, and in a store. Assumes nothing.
+-- The unit of a key as the code finds it: by its digit sum x and a 0 or 1, and in a store.
 use Prim.Native.Nat.{ℕ, _+_, _*_, _-_, _/_, _%_, _≤_, _<_}
 use mathlib.Core.Path.{_≡_, ap, _∙_}
 use mathlib.Core.List.{List}

@@ -1,4 +1,4 @@
--- Demand 1, for all bytes and numbers. Assumes nothing.
+-- Demand 1, for all bytes and numbers.
 use Rattle.model.specs.Demand1.{Demand1}
 use Rattle.model.proofs.Refusals.{refuses, misuses, lays-out}
 use Rattle.model.proofs.InPlace.{in-place}

@@ -1,4 +1,4 @@
--- A further call on any bytes: its number, what it leaves where it is refused, and what it counts as where it is granted. Assumes nothing.
+-- A further call on any bytes: its number, what it leaves where it is refused, and what it counts as where it is granted.
 use Prim.Native.Nat.{ℕ, _≤_}
 use mathlib.Core.Path.{_≡_, refl, ap, ap₂, _∙_}
 use mathlib.Core.Logic.{_≢_}

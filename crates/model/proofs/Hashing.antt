@@ -1,4 +1,4 @@
--- A key's unit is the one that linear hashing gives of its digit sum, for every number of units, and each unit has keys. Assumes nothing.
+-- A key's unit is the one that linear hashing gives of its digit sum, for every number of units, and each unit has keys.
 use Prim.Native.Nat.{ℕ, zero, suc, _+_, _*_, _^_, _≤_, _<_}
 use mathlib.Core.Path.{_≡_, refl, ap, _∙_}
 use mathlib.Core.Bool.{true}

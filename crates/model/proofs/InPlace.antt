@@ -1,5 +1,5 @@
 -- Demand 1 for reading in place: the part is a whole field, body and stamp, inside the store, the one that read, given a buffer that fits, hands back, or it
--- is empty, exactly where that read would refuse or the key's unit is out. Assumes nothing.
+-- is empty, exactly where that read would refuse or the key's unit is out.
 use Prim.Native.Nat.{ℕ, suc, _+_, _*_, _≤_, _<_}
 use mathlib.Core.Path.{_≡_, refl, sym, ap, _∙_}
 use mathlib.Core.List.{List, []}

@@ -1,5 +1,5 @@
 -- Losses are judged by the records that are missing, in any bytes: a group that has lost no more units than the level says, or no data unit, is
--- repaired, and a key that is not listed is not taught. Assumes nothing.
+-- repaired, and a key that is not listed is not taught.
 use Prim.Native.Nat.{ℕ, zero, suc, _+_, _*_, _/_, _%_, _≤_, _<_}
 use mathlib.Core.Path.{_≡_, refl, ap}
 use mathlib.Core.Logic.{_≢_}

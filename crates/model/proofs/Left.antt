@@ -1,5 +1,5 @@
 -- The store that a granted call leaves, part by part, of any sound store: read back from the bytes (`left-same`), for a repair (`repair-left`), a raise
--- (`raise-left`) and a grow (`grow-left`); and the units that keep their bytes (`unit-kept`). Assumes nothing.
+-- (`raise-left`) and a grow (`grow-left`); and the units that keep their bytes (`unit-kept`).
 use Prim.Native.Nat.{ℕ, _-_, _<_}
 use mathlib.Core.Path.{_≡_, refl}
 use mathlib.Core.List.{List}

@@ -1,4 +1,4 @@
--- The level takes hold everywhere: in every sound store, and in histories by the raises granted since the layout. Assumes nothing.
+-- The level takes hold everywhere: in every sound store, and in histories by the raises granted since the layout.
 use Prim.Native.Nat.{ℕ, suc, _+_, _*_, _-_, _/_, _%_, _<_}
 use mathlib.Core.Path.{_≡_, refl, sym, ap, _∙_}
 use mathlib.Core.List.{List, [], _∷_}

@@ -1,4 +1,4 @@
--- The check units that grow, shrink, repair and raise make anew hold the check records of the slots that the call leaves, whatever the store. Assumes nothing.
+-- The check units that grow, shrink, repair and raise make anew hold the check records of the slots that the call leaves, whatever the store.
 use Prim.Native.Nat.{ℕ, pred, _+_, _*_, _/_, _%_, _<_}
 use mathlib.Core.Path.{_≡_, refl, sym, _∙_}
 use mathlib.Core.List.{List}

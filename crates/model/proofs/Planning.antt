@@ -1,4 +1,4 @@
--- Growing in two strokes, on any bytes. Assumes nothing.
+-- Growing in two strokes, on any bytes.
 use Prim.Native.Nat.{ℕ, _≤_, _<_}
 use mathlib.Core.Path.{_≡_, refl, sym, ap, _∙_, subst}
 use mathlib.Core.List.{List, _++_}

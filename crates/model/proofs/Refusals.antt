@@ -1,4 +1,4 @@
--- Demand 1 for the calls and the layout: the number of each row, and that a refused call leaves all as it was. Assumes nothing.
+-- Demand 1 for the calls and the layout: the number of each row, and that a refused call leaves all as it was.
 use Prim.Native.Nat.{ℕ, _≤_}
 use mathlib.Core.Path.{_≡_, refl, sym, ap, ap₂, _∙_}
 use mathlib.Core.Logic.{_≢_}

@@ -1,5 +1,5 @@
 -- A repair keeps the units in service, puts those out in service, is granted where no data unit of the group is out, and changes nothing where no unit
--- of it is. Assumes nothing.
+-- of it is.
 use Prim.Native.Nat.{ℕ, _+_, _*_, _-_, _/_, _%_, _<_}
 use mathlib.Core.Path.{_≡_, refl, sym, ap, _∙_}
 use mathlib.Core.List.{List}

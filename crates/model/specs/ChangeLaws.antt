@@ -1,4 +1,4 @@
--- Changes of a store keep its shape, and don't tell stores apart whose parts are the same. Assumes nothing.
+-- Changes of a store keep its shape, and don't tell stores apart whose parts are the same.
 use Prim.Native.Nat.{ℕ, _/_, _%_, _<_}
 use mathlib.Core.Path.{_≡_, refl, ap, _∙_}
 use mathlib.Core.List.{List}

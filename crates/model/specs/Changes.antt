@@ -1,4 +1,4 @@
--- What the granted calls leave in a store, part by part (document 01, "Units, keys and ranks"). Assumes nothing.
+-- What the granted calls leave in a store, part by part (document 01, "Units, keys and ranks").
 use Prim.Native.Nat.{ℕ, zero, suc, _+_, _*_, _/_, _%_}
 use mathlib.Core.List.{List, [], _∷_, _++_}
 use mathlib.Core.Bool.{Bool, not, _&&_}

@@ -1,6 +1,6 @@
 -- Demand 1: the statements, for all bytes and numbers. A call that gets key 0, a buffer of the wrong length, a damaged store or a unit that isn't
 -- there ends with its number of the table (reading in place: with an empty part), and a refused call changes no byte of the store or of an output
--- buffer. Assumes nothing.
+-- buffer.
 use Prim.Native.Nat.{ℕ, _*_, _≤_, _<_}
 use mathlib.Core.Path.{_≡_}
 use mathlib.Core.Logic.{_≢_}

@@ -1,5 +1,5 @@
 -- Demand 2: the statements. A key's unit is the one that linear hashing gives. Check records are the group's records times the paper's matrix over
--- GF(16). Four members under any four different columns, of all seventeen, fix the data, and rebuilding returns just that data. Assumes nothing.
+-- GF(16). Four members under any four different columns, of all seventeen, fix the data, and rebuilding returns just that data.
 use Prim.Native.Nat.{ℕ, _+_, _*_, _-_, _%_, _^_, _≤_, _<_}
 use mathlib.Core.Path.{_≡_}
 use mathlib.Core.List.{List, _++_, map}

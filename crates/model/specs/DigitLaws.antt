@@ -1,4 +1,4 @@
--- Laws of the digit sum: a byte at a time, its bound, and that it does not depend on the order of a key's bytes. Assumes nothing.
+-- Laws of the digit sum: a byte at a time, its bound, and that it does not depend on the order of a key's bytes.
 use mathlib.Core.Path.{_≡_, sym, ap, _∙_}
 use Prim.Native.Nat.{ℕ, _+_, _*_, _/_, _%_, _≤_, _<_}
 use native.Mathlib.Omega.{arith}

@@ -1,5 +1,5 @@
 -- A record's field by its parts (document 02, ask 4): its body, and behind it its stamp, the moment of teaching as a number of 32 bits, big-endian. All
--- calls treat the field as one; these names are for what is said of both parts. Assumes nothing.
+-- calls treat the field as one; these names are for what is said of both parts.
 use Prim.Native.Nat.{ℕ}
 use mathlib.Core.List.{List, _++_}
 use lib.ListN.{take}

@@ -1,5 +1,5 @@
 -- Laws of a field's parts: a body and a stamp, of any value, come out of the field as they went in (`body-back`, `stamp-back`), the stamp's bytes are
--- those behind the body (`stamp-bytes`), and every field is its body and its stamp (`field-parts`). Assumes nothing.
+-- those behind the body (`stamp-bytes`), and every field is its body and its stamp (`field-parts`).
 use Prim.Native.Nat.{ℕ, _<_}
 use mathlib.Core.Path.{_≡_, ap, _∙_}
 use mathlib.Core.List.{List, _++_}

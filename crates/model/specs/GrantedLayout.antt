@@ -1,4 +1,4 @@
--- What a granted layout says of its arguments. Assumes nothing.
+-- What a granted layout says of its arguments.
 use Prim.Native.Nat.{ℕ, _≤_}
 use mathlib.Core.Path.{_≡_, refl}
 use mathlib.Core.List.{List, [], _∷_}

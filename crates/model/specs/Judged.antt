@@ -1,4 +1,4 @@
--- Document 02, ask 5, in any bytes: losses are judged by the records that are missing, "and never for the number of units out alone". Assumes nothing.
+-- Document 02, ask 5, in any bytes: losses are judged by the records that are missing, "and never for the number of units out alone".
 use Prim.Native.Nat.{ℕ, _+_, _*_, _/_, _≤_, _<_}
 use mathlib.Core.Path.{_≡_}
 use mathlib.Core.Logic.{_≢_}

@@ -1,5 +1,5 @@
 -- Document 01, "Bytes of a store": its parts by name (`Store`), the bytes that the parts fill (`bytes`), and the parts of given bytes (`view`).
--- Ranks are counted from 0 here. Assumes nothing.
+-- Ranks are counted from 0 here.
 use Prim.Native.Nat.{ℕ, _+_, _*_}
 use mathlib.Core.List.{List, [], _∷_, _++_}
 use lib.ListN.{take, drop}

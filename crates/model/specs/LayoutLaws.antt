@@ -1,5 +1,5 @@
 -- Laws of a store's layout: places lie within bytes that are long enough; parts of the right sizes fill bytes from which they are read back, and
--- the parts of bytes that are long enough fill these bytes again. Assumes nothing.
+-- the parts of bytes that are long enough fill these bytes again.
 use Prim.Native.Nat.{ℕ, suc, _+_, _*_, _≤_, _<_}
 use mathlib.Core.Path.{_≡_, refl, sym, ap, _∙_}
 use mathlib.Core.List.{List, [], _∷_, _++_, append-assoc}

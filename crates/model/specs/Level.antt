@@ -1,5 +1,5 @@
 -- Document 02, request 1: the level is the number of check units that every group in place has, in every sound store; and two users with equally many
--- raises granted since their layouts find equally many check units in every group in place. Assumes nothing.
+-- raises granted since their layouts find equally many check units in every group in place.
 use Prim.Native.Nat.{ℕ, suc, _*_, _<_}
 use mathlib.Core.Path.{_≡_}
 use mathlib.Core.List.{List}

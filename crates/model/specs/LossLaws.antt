@@ -1,6 +1,6 @@
 -- Laws of losses, for those who read or rebuild: which records are missing; what a group that is not beyond recovery has, a check unit that lists the
 -- keys of each unit that is out and four members in service at each rank; the first rank decides for all (`first-rank`); with no data unit out nothing
--- is beyond recovery (`none-beyond`). Assumes nothing.
+-- is beyond recovery (`none-beyond`).
 use Prim.Native.Nat.{ℕ, _+_, _*_, _-_, _/_, _%_, _≤_, _<_}
 use mathlib.Core.Path.{_≡_, ap, _∙_}
 use mathlib.Core.Logic.{_≢_}

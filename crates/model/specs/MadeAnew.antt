@@ -1,6 +1,6 @@
 -- Document 01: "what demand 2 says of check records is owed .. of any check unit that a call makes anew". These are the check units in service of both
 -- groups after a grow or a shrink, those that a repair puts back in service, and those that a raise adds. The bytes are any on which the call is
--- granted: the store is sound, it need not come from a history, and its parity may have been wrong before. Assumes nothing.
+-- granted: the store is sound, it need not come from a history, and its parity may have been wrong before.
 use Prim.Native.Nat.{ℕ, pred, _+_, _*_, _/_, _%_, _<_}
 use mathlib.Core.Path.{_≡_}
 use mathlib.Core.List.{List}

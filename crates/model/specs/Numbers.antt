@@ -1,5 +1,5 @@
 -- Document 01, "Numbers returned": the calls of demand 3 and, for each, the rows of the table that concern it, in the order 2, 1, 3, 9, 4, 8,
--- 5, 6, 7. The first condition that holds gives the number; where none holds the call is granted. Assumes nothing.
+-- 5, 6, 7. The first condition that holds gives the number; where none holds the call is granted.
 use Prim.Native.Nat.{ℕ, pred, _+_, _*_, _/_}
 use mathlib.Core.List.{List, [], _∷_}
 use mathlib.Core.Bool.{Bool, not}

@@ -1,4 +1,4 @@
--- A store with one of its parts replaced: its front, the states of its units, its slots or its check records. Assumes nothing.
+-- A store with one of its parts replaced: its front, the states of its units, its slots or its check records.
 use Prim.Native.Nat.{ℕ}
 use mathlib.Core.List.{List}
 use Rattle.model.specs.Layout.{Store, changed}

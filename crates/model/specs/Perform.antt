@@ -1,4 +1,4 @@
--- The calls on the bytes of a store: for all bytes and arguments the answer and the bytes that the call leaves. Assumes nothing.
+-- The calls on the bytes of a store: for all bytes and arguments the answer and the bytes that the call leaves.
 use Prim.Native.Nat.{ℕ, pred, _+_, _*_}
 use mathlib.Core.List.{List, [], _∷_, _++_}
 use mathlib.Core.Bool.{not, _&&_}

@@ -1,5 +1,4 @@
 -- The ways out of a call that answers with a number alone: refused, it leaves the store as it was; granted, it leaves what it is to leave.
--- Assumes nothing.
 use Prim.Native.Nat.{ℕ}
 use mathlib.Core.Path.{_≡_, refl, sym, ap, _∙_}
 use mathlib.Core.Bool.{Bool}

@@ -1,5 +1,5 @@
 -- The places of a store's parts in its bytes: the two regions behind the header, data units of slots and check units of check records, where rank
--- r of a unit stands, and that bytes are long enough for it. What slots and check records have in common is said of a region. Assumes nothing.
+-- r of a unit stands, and that bytes are long enough for it. What slots and check records have in common is said of a region.
 use Prim.Native.Nat.{ℕ, _+_, _*_, _≤_, _<_}
 use mathlib.Core.List.{List}
 use lib.ListN.{length}

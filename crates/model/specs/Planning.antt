@@ -1,4 +1,4 @@
--- Document 02, ask 6: growing in two strokes, on any bytes. Assumes nothing.
+-- Document 02, ask 6: growing in two strokes, on any bytes.
 use Prim.Native.Nat.{ℕ, suc, pred, _≤_, _<_}
 use mathlib.Core.Path.{_≡_}
 use mathlib.Core.List.{List}

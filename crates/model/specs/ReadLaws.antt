@@ -1,6 +1,6 @@
 -- Laws of what the calls read in a store: a unit has no more records than ranks, each rank before their number has a key, and a unit that is not
 -- out lists its own keys; a listing is as long as its records, and each record stands behind those of the units and ranks before; the units out are
--- those of the four groups. Assumes nothing.
+-- those of the four groups.
 use Prim.Native.Nat.{ℕ, _≤_, _<_, _+_, _*_, _-_}
 use mathlib.Core.Path.{_≡_, sym, ap, ap₂, _∙_}
 use mathlib.Core.Logic.{_≢_}

@@ -1,4 +1,4 @@
--- What the calls read from a store: records and their places, units out, slots rebuilt, and what is beyond recovery. Assumes nothing.
+-- What the calls read from a store: records and their places, units out, slots rebuilt, and what is beyond recovery.
 use Prim.Native.Nat.{ℕ, _+_, _*_, _-_, _/_, _%_}
 use mathlib.Core.List.{List, _++_}
 use mathlib.Core.Bool.{Bool, not, _&&_, _||_}

@@ -1,5 +1,5 @@
 -- Slots may be rebuilt one by one in place: while only slots whose records are missing have changed, the same records count as missing, the same members
--- serve, and a slot is rebuilt as from the store at the start (`whole-same`). Assumes nothing.
+-- serve, and a slot is rebuilt as from the store at the start (`whole-same`).
 use Prim.Native.Nat.{ℕ, _+_, _*_, _-_, _/_, _%_, _<_}
 use mathlib.Core.Path.{_≡_, sym, ap, ap₂, _∙_}
 use mathlib.Core.List.{List, _++_}

@@ -2,7 +2,7 @@
 -- four members in service .., takes keys from a check unit (a rank it lists no key for stays zero)"; "Read uses the same rebuilding"; "List writes ..
 -- out units rebuilt". The four are chosen rank by rank (document 02, ask 5). The store is any on which the call is granted: it need not come from a
 -- history, and its parity may be wrong. The rebuilt fields are those that have, by the matrix, what each of the four members used holds; by demand 2
--- there are no others. Assumes nothing.
+-- there are no others.
 use Prim.Native.Nat.{ℕ, _+_, _*_, _/_, _%_, _<_}
 use mathlib.Core.Path.{_≡_}
 use mathlib.Core.Logic.{_≢_}

@@ -1,4 +1,4 @@
--- What a repair leaves alone, and what it puts in service, in any bytes. Assumes nothing.
+-- What a repair leaves alone, and what it puts in service, in any bytes.
 use Prim.Native.Nat.{ℕ, _*_, _<_}
 use mathlib.Core.Path.{_≡_}
 use mathlib.Core.List.{List}

@@ -1,4 +1,4 @@
--- Rows of the table of numbers: two lists of rows that give one number, rows of which none holds, a front part and the first row. Assumes nothing.
+-- Rows of the table of numbers: two lists of rows that give one number, rows of which none holds, a front part and the first row.
 use Prim.Native.Nat.{ℕ, _≤_}
 use mathlib.Core.Path.{_≡_, refl, sym, _∙_, subst}
 use mathlib.Core.Logic.{_≢_}

@@ -1,5 +1,4 @@
 -- Chunks by unit and rank with some of one unit replaced: one of them, or a run of ranks; and a run replaced in the bytes of a unit's chunks.
--- Assumes nothing.
 use Prim.Native.Nat.{ℕ, _+_, _*_, _-_, _≤_, _<_}
 use mathlib.Core.Path.{_≡_, sym, ap, _∙_}
 use mathlib.Core.List.{List, _++_}

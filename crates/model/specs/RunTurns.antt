@@ -1,4 +1,4 @@
--- A run that grows by one chunk: where it begins, and one chunk more. Assumes nothing.
+-- A run that grows by one chunk: where it begins, and one chunk more.
 use Prim.Native.Nat.{ℕ, suc, _+_, _≤_}
 use mathlib.Core.Path.{_≡_, refl, sym, ap, _∙_}
 use mathlib.Core.List.{List}

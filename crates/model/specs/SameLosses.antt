@@ -1,5 +1,5 @@
 -- Two stores with the same states, whose check records list the same keys, have lost the same: the same records are missing, the same ranks can be
--- rebuilt, and the same groups are beyond recovery, whatever the fields are. Assumes nothing.
+-- rebuilt, and the same groups are beyond recovery, whatever the fields are.
 use Prim.Native.Nat.{ℕ, _+_, _*_, _/_, _%_, _<_}
 use mathlib.Core.Path.{_≡_, sym, ap, ap₂, _∙_}
 use mathlib.Core.List.{List}

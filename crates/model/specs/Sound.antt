@@ -1,4 +1,4 @@
--- Document 01, "Sound means": clause by clause, in its order, as a test of any bytes. Parity bytes are not part of it. Assumes nothing.
+-- Document 01, "Sound means": clause by clause, in its order, as a test of any bytes. Parity bytes are not part of it.
 use Prim.Native.Nat.{ℕ, _+_, _*_, _/_, _%_}
 use mathlib.Core.List.{List, [], _∷_}
 use mathlib.Core.Bool.{Bool, true, false, not, _&&_, _||_}

@@ -1,4 +1,4 @@
--- Laws of the test that two lists of bytes are the same. Assumes nothing.
+-- Laws of the test that two lists of bytes are the same.
 use Prim.Native.Nat.{ℕ}
 use mathlib.Core.Path.{_≡_, refl}
 use mathlib.Core.List.{List, [], _∷_}

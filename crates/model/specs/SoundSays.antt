@@ -1,4 +1,4 @@
--- What the test of soundness says of a store, clause by clause, as facts. Assumes nothing.
+-- What the test of soundness says of a store, clause by clause, as facts.
 use Prim.Native.Nat.{ℕ, _+_, _*_, _/_, _≤_, _<_}
 use mathlib.Core.Path.{_≡_, refl, sym, _∙_, subst}
 use mathlib.Core.List.{List}

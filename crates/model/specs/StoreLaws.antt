@@ -1,5 +1,5 @@
 -- Writing into the bytes of a store: a run of slots or check records, one of them, a state byte or a byte of the front replaced there gives the
--- bytes of the store with that part replaced. Assumes nothing.
+-- bytes of the store with that part replaced.
 use Prim.Native.Nat.{ℕ, _+_, _*_, _≤_, _<_}
 use mathlib.Core.Path.{_≡_, refl, sym, ap, _∙_}
 use mathlib.Core.List.{List, [], _∷_, _++_}

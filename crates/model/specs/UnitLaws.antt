@@ -1,4 +1,4 @@
--- Laws of linear hashing: a number's unit is one of the units in place, so a key's is, and so is the unit that is split. Assumes nothing.
+-- Laws of linear hashing: a number's unit is one of the units in place, so a key's is, and so is the unit that is split.
 use Prim.Native.Nat.{ℕ, _*_, _-_, _/_, _%_, _≤_, _<_}
 use native.Mathlib.Omega.{arith}
 use native.Mathlib.Nat.{mod-lt, mul-le-mul-right}

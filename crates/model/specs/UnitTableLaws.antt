@@ -1,5 +1,5 @@
 -- Laws of a table of units: n units of b chunks of w bytes, one behind the other; chunk r of unit u starts at (u * b + r) * w. Its length; and a
--- chunk read and a run of chunks replaced where the table stands behind some bytes and before others. Assumes nothing.
+-- chunk read and a run of chunks replaced where the table stands behind some bytes and before others.
 use Prim.Native.Nat.{ℕ, suc, _+_, _*_, _≤_, _<_}
 use mathlib.Core.Path.{_≡_, refl, sym, ap, _∙_}
 use mathlib.Core.List.{List, _++_}

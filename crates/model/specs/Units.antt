@@ -1,5 +1,5 @@
 -- Document 01, "Units, keys and ranks", with digit sums (document 02, request 2): where a key lies, and which unit is split. A data unit is linear
--- hashing's bucket, a check unit a parity bucket, a group a bucket group of four. Assumes nothing.
+-- hashing's bucket, a check unit a parity bucket, a group a bucket group of four.
 use Prim.Native.Nat.{ℕ, suc, _*_, _-_, _/_, _%_, _^_}
 use mathlib.Core.Bool.{Bool, _||_}
 use lib.Dec.{eqb, ltb}

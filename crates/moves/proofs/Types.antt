@@ -1,4 +1,4 @@
--- The structs of the crate as plain types, for the walks by hand. Assumes nothing.
+-- The structs of the crate as plain types, for the walks by hand.
 use Rattle.moves.specs.walks.ByValue.{PlainType, struct}
 use Rattle.moves.proofs.Move as T
 use Rattle.moves.proofs.Move.Laws as T′

@@ -1,4 +1,4 @@
--- Laws of a plan by value: its moves, the answer to asking for it, and a list that is filled with it or compared with it, entry by entry. Assumes nothing.
+-- Laws of a plan by value: its moves, the answer to asking for it, and a list that is filled with it or compared with it, entry by entry.
 use mathlib.Core.Path.{_≡_, refl, sym, ap, ap₂, _∙_}
 use mathlib.Core.Bool.{Bool, false, not, _&&_, and-true, and-assoc}
 use mathlib.Core.List.{List, _++_}

@@ -1,4 +1,4 @@
--- A plan by value, and what the functions over lent lists make of it. Assumes nothing.
+-- A plan by value, and what the functions over lent lists make of it.
 use Prim.Native.Nat.{ℕ}
 use mathlib.Core.List.{List}
 use mathlib.Core.Bool.{Bool, not, _&&_}

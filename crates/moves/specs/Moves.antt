@@ -1,5 +1,4 @@
 -- Entries of a plan of moves (document 02, ask 6): old unit and rank, new unit and rank, ranks counted from 1; and when two lists of them are the same.
--- Assumes nothing.
 use Prim.Native.Nat.{ℕ}
 use mathlib.Core.List.{List}
 use mathlib.Core.Bool.{Bool, _&&_}

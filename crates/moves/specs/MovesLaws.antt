@@ -1,4 +1,4 @@
--- Laws of lists of moves: the test of sameness is sameness. Assumes nothing.
+-- Laws of lists of moves: the test of sameness is sameness.
 use mathlib.Core.Path.{_≡_, refl}
 use Prim.Native.Nat.{ℕ}
 use mathlib.Core.Bool.{Bool, true, _&&_}

@@ -1,4 +1,4 @@
--- The loop that makes the plan of a store: what holds at each of its turns, and what it leaves. Assumes nothing.
+-- The loop that makes the plan of a store: what holds at each of its turns, and what it leaves.
 use Prim.Native.Nat.{ℕ, _+_, _-_, _≤_, _<_}
 use mathlib.Core.Path.{_≡_, sym, ap, _∙_}
 use mathlib.Core.List.{List}

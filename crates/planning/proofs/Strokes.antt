@@ -1,4 +1,4 @@
--- What asking and committing come to, from the plan by value. Assumes nothing.
+-- What asking and committing come to, from the plan by value.
 use Prim.Native.Nat.{ℕ, _≤_}
 use mathlib.Core.Path.{_≡_, refl, sym, ap, ap₂, _∙_}
 use mathlib.Core.Logic.{_≢_}

@@ -1,4 +1,4 @@
--- What the plan of a store is by value, and the last stroke of a commit. Assumes nothing.
+-- What the plan of a store is by value, and the last stroke of a commit.
 use Prim.Native.Nat.{ℕ, _+_, _-_, _≤_}
 use mathlib.Core.Path.{_≡_}
 use mathlib.Core.List.{List, [], _∷_, _++_}

@@ -1,4 +1,4 @@
--- The ways out of read, read in place and list are what `perform` says. Assumes nothing.
+-- The ways out of read, read in place and list are what `perform` says.
 use Prim.Native.Nat.{ℕ, _+_, _-_}
 use mathlib.Core.Path.{_≡_, refl, sym, ap, _∙_}
 use mathlib.Core.Bool.{not}

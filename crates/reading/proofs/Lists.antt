@@ -1,4 +1,4 @@
--- The bytes that list writes: the records of a unit one behind the other, and unit behind unit. Assumes nothing.
+-- The bytes that list writes: the records of a unit one behind the other, and unit behind unit.
 use Prim.Native.Nat.{ℕ, _+_, _*_, _/_, _≤_, _<_}
 use mathlib.Core.Path.{_≡_, ap, _∙_}
 use mathlib.Core.List.{List, _++_, append-nil}

@@ -1,4 +1,4 @@
--- The verdicts of read and list: each way out of the cascade gives the number of the first row that holds. Assumes nothing.
+-- The verdicts of read and list: each way out of the cascade gives the number of the first row that holds.
 use Prim.Native.Nat.{ℕ, suc, _*_, _/_, _≤_, _<_}
 use mathlib.Core.Path.{_≡_, refl, sym, ap, _∙_}
 use mathlib.Core.Bool.{Bool, true, false, not, _&&_}

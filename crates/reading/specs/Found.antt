@@ -1,4 +1,4 @@
--- What a verdict on read hands on: its number, and where it is 0 the key's place, else 0 and 0. Assumes nothing.
+-- What a verdict on read hands on: its number, and where it is 0 the key's place, else 0 and 0.
 use Prim.Native.Nat.{ℕ}
 use mathlib.Core.Path.{_≡_}
 use mathlib.Core.Bool.{Bool, true}

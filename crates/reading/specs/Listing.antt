@@ -1,4 +1,4 @@
--- What a verdict on list hands on: its number and its count; and what of the survey list goes by. Assumes nothing.
+-- What a verdict on list hands on: its number and its count; and what of the survey list goes by.
 use Prim.Native.Nat.{ℕ, _*_, _≤_, _<_}
 use mathlib.Core.Path.{_≡_}
 use mathlib.Core.Bool.{Bool, true}

@@ -1,4 +1,4 @@
--- The table's rows for read and list, of what their verdicts look at: the number of a call is the first that holds. Assumes nothing.
+-- The table's rows for read and list, of what their verdicts look at: the number of a call is the first that holds.
 use Prim.Native.Nat.{ℕ, _*_}
 use mathlib.Core.Path.{_≡_}
 use mathlib.Core.Bool.{Bool, not}

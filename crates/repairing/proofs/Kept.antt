@@ -1,5 +1,5 @@
 -- What rebuilding reads stays as it was while slots whose records are missing are written: the header, the check records and the other slots. So records
--- are rebuilt from the store as it stands. Assumes nothing.
+-- are rebuilt from the store as it stands.
 use Prim.Native.Nat.{ℕ, _+_, _*_, _-_, _/_, _%_, _<_}
 use mathlib.Core.Path.{_≡_, refl, sym, ap, ap₂, _∙_}
 use mathlib.Core.Bool.{false}

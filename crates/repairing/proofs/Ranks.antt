@@ -1,4 +1,4 @@
--- A loop over n ranks that writes a chunk of w bytes for each, one behind the other from a place on: what holds at each turn. Assumes nothing.
+-- A loop over n ranks that writes a chunk of w bytes for each, one behind the other from a place on: what holds at each turn.
 use Prim.Native.Nat.{ℕ, _+_, _*_, _≤_, _<_}
 use mathlib.Core.Path.{_≡_, sym, ap, ap₂, _∙_}
 use mathlib.Core.List.{List}

@@ -1,4 +1,4 @@
--- A data unit that is out is rebuilt rank by rank, where a key is listed for it: what holds at each turn of that loop. Assumes nothing.
+-- A data unit that is out is rebuilt rank by rank, where a key is listed for it: what holds at each turn of that loop.
 use Prim.Native.Nat.{ℕ, _+_, _*_, _/_, _<_, _≤_}
 use mathlib.Core.Path.{_≡_, refl, sym, ap, _∙_}
 use mathlib.Core.Bool.{false, _&&_}

@@ -1,4 +1,4 @@
--- The check units of a group that are out are made, one after the other: what holds at each turn of that loop. Assumes nothing.
+-- The check units of a group that are out are made, one after the other: what holds at each turn of that loop.
 use Prim.Native.Nat.{ℕ, suc, _+_, _*_, _/_, _%_, _≤_, _<_}
 use mathlib.Core.Path.{_≡_, sym, ap, _∙_}
 use mathlib.Core.Bool.{Bool, false, _&&_, _||_, or-true, or-false}

@@ -1,4 +1,4 @@
--- The chunks of the units of a store, its slots or its check records, where the first t units from unit q on have new ones. Assumes nothing.
+-- The chunks of the units of a store, its slots or its check records, where the first t units from unit q on have new ones.
 use Prim.Native.Nat.{ℕ, suc, _+_, _≤_, _<_}
 use mathlib.Core.Path.{_≡_, refl, sym, ap, _∙_}
 use mathlib.Core.Bool.{Bool, true, _&&_}

@@ -1,4 +1,4 @@
--- The three steps of a repair, one after the other, leave the repaired store. Assumes nothing.
+-- The three steps of a repair, one after the other, leave the repaired store.
 use Prim.Native.Nat.{ℕ, _+_, _*_, _/_, _%_, _<_}
 use mathlib.Core.Path.{_≡_, ap, _∙_}
 use mathlib.Core.Bool.{Bool, _&&_}

@@ -1,4 +1,4 @@
--- The data units of a group that are out are rebuilt, one after the other: what holds at each turn of that loop. Assumes nothing.
+-- The data units of a group that are out are rebuilt, one after the other: what holds at each turn of that loop.
 use Prim.Native.Nat.{ℕ, suc, _+_, _*_, _/_, _≤_, _<_}
 use mathlib.Core.Path.{_≡_, sym, ap, ap₂, _∙_}
 use mathlib.Core.List.{List}

@@ -1,4 +1,4 @@
--- The units of a group that are out are put in service: what a write into the state bytes leaves in a store. Assumes nothing.
+-- The units of a group that are out are put in service: what a write into the state bytes leaves in a store.
 use Prim.Native.Nat.{ℕ, zero, suc, _+_, _*_, _-_, _/_, _≤_, _<_}
 use mathlib.Core.Path.{_≡_, refl, sym, ap, _∙_}
 use mathlib.Core.Bool.{Bool, true, false, _&&_}

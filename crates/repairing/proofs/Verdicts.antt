@@ -1,4 +1,4 @@
--- What a granted repair may rely on. Assumes nothing.
+-- What a granted repair may rely on.
 use Prim.Native.Nat.{ℕ}
 use mathlib.Core.Path.{_≡_}
 use mathlib.Core.Bool.{Bool, true}

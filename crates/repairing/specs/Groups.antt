@@ -1,4 +1,4 @@
--- What a repair asks of a store and its group. Assumes nothing.
+-- What a repair asks of a store and its group.
 use Prim.Native.Nat.{ℕ, _+_, _/_, _<_}
 use mathlib.Core.Path.{_≡_}
 use mathlib.Core.Bool.{false}

@@ -1,5 +1,4 @@
 -- The steps of a repair of group g: the store after each. The states in the store at the start of a step say which units are out.
--- Assumes nothing.
 use Prim.Native.Nat.{ℕ, _/_}
 use mathlib.Core.Bool.{_&&_}
 use lib.Dec.{eqb}

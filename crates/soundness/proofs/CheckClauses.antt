@@ -1,4 +1,4 @@
--- The test of one check unit says that it is zero, or lists the same keys as the first check unit in service of its group. Assumes nothing.
+-- The test of one check unit says that it is zero, or lists the same keys as the first check unit in service of its group.
 use mathlib.Core.Path.{_≡_, sym, ap, _∙_}
 use mathlib.Core.Bool.{true, _&&_, _||_}
 use mathlib.Core.List.{List}

@@ -1,4 +1,4 @@
--- The ends of the tests of one unit: what each `return` says, from what the tests before it found. Assumes nothing.
+-- The ends of the tests of one unit: what each `return` says, from what the tests before it found.
 use mathlib.Core.Path.{_≡_, sym, ap, ap₂, _∙_}
 use mathlib.Core.Bool.{Bool, true, false}
 use mathlib.Core.List.{List}

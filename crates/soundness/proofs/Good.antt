@@ -1,4 +1,4 @@
--- What is asked of the keys of one list, as one test of each rank, is what the loop over the keys and the test behind them find. Assumes nothing.
+-- What is asked of the keys of one list, as one test of each rank, is what the loop over the keys and the test behind them find.
 use mathlib.Core.Path.{_≡_, refl, sym, ap, _∙_}
 use mathlib.Core.Bool.{Bool, true, _||_}
 use Prim.Native.Nat.{ℕ, _≤_, _<_}

@@ -1,4 +1,4 @@
--- Tests joined by "and" and "or", from what is known of one of them. Assumes nothing.
+-- Tests joined by "and" and "or", from what is known of one of them.
 use mathlib.Core.Path.{_≡_, refl}
 use mathlib.Core.Bool.{Bool, true, false, _&&_, _||_}
 

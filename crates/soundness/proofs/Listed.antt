@@ -1,4 +1,4 @@
--- The keys that the test reads from the bytes are those of the definitions: a slot's own, and the one that a check unit lists. Assumes nothing.
+-- The keys that the test reads from the bytes are those of the definitions: a slot's own, and the one that a check unit lists.
 use mathlib.Core.Path.{_≡_, sym, ap, _∙_, fun-ext}
 use mathlib.Core.List.{List}
 use Prim.Native.Nat.{ℕ, _+_, _*_, _/_, _%_, _<_}

@@ -1,5 +1,5 @@
 -- Linear hashing's rule by a mask: whether a number belongs to unit u of m is told by its low bits alone, and so by these bits where a spread key has
--- its digit sum. Assumes nothing.
+-- its digit sum.
 use mathlib.Core.Path.{_≡_, refl, sym, ap, _∙_}
 use mathlib.Core.Bool.{Bool, false}
 use Prim.Native.Nat.{ℕ, suc, _+_, _*_, _-_, _/_, _%_, _^_, _≤_, _<_}

@@ -1,4 +1,4 @@
--- Where the units of a store lie, and that their keys lie within its bytes. Assumes nothing.
+-- Where the units of a store lie, and that their keys lie within its bytes.
 use mathlib.Core.Path.{_≡_, ap, ap₂, _∙_}
 use mathlib.Core.List.{List}
 use Prim.Native.Nat.{ℕ, _+_, _*_, _/_, _%_, _≤_, _<_}

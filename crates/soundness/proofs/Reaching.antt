@@ -1,5 +1,5 @@
 -- What holds at each turn of the loop over the keys of a list: the keys before are not 0, belong to the unit and differ, and each has left the
--- mark at its place in the table. Assumes nothing.
+-- mark at its place in the table.
 use mathlib.Core.Path.{_≡_, sym, ap, _∙_}
 use mathlib.Core.Bool.{Bool, true, false, not}
 use mathlib.Core.List.{List}

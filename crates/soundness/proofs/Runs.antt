@@ -1,4 +1,4 @@
--- What holds at each turn of a loop that tests n to b - 1 and stops where the test fails. Assumes nothing.
+-- What holds at each turn of a loop that tests n to b - 1 and stops where the test fails.
 use mathlib.Core.Path.{_≡_, ap}
 use mathlib.Core.Bool.{Bool, true, false, _||_}
 use Prim.Native.Nat.{ℕ, _+_, _≤_, _<_}

@@ -1,4 +1,4 @@
--- What the test hands on, from the ends of its two steps: counting the keys of the units, and the whole. Assumes nothing.
+-- What the test hands on, from the ends of its two steps: counting the keys of the units, and the whole.
 use mathlib.Core.Path.{_≡_, refl, sym, ap₂, _∙_}
 use mathlib.Core.Bool.{Bool, true, false}
 use mathlib.Core.List.{List}

@@ -1,4 +1,4 @@
--- The pieces of the test together say what document 01 calls sound. Assumes nothing.
+-- The pieces of the test together say what document 01 calls sound.
 use mathlib.Core.Path.{_≡_, refl, sym, ap, ap₂, _∙_}
 use mathlib.Core.Bool.{Bool, true, false, not, _&&_, _||_}
 use mathlib.Core.List.{List}

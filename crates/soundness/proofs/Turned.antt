@@ -1,4 +1,4 @@
--- Keys read low byte first: each has the unit that it has, so a list of keys is tested by the turned ones. Assumes nothing.
+-- Keys read low byte first: each has the unit that it has, so a list of keys is tested by the turned ones.
 use mathlib.Core.Path.{_≡_, refl, ap, ap₂, _∙_}
 use mathlib.Core.Bool.{_&&_, not}
 use mathlib.Core.List.{List}

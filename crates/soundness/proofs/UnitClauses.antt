@@ -1,4 +1,4 @@
--- The test of one data unit says what soundness asks of that unit. Assumes nothing.
+-- The test of one data unit says what soundness asks of that unit.
 use mathlib.Core.Path.{_≡_, refl, sym, ap, _∙_}
 use mathlib.Core.Bool.{Bool, true, false, _&&_, _||_}
 use mathlib.Core.List.{List}

@@ -1,4 +1,4 @@
--- Keys compared two at a time, as numbers read low byte first: they are the same where the numbers are. Assumes nothing.
+-- Keys compared two at a time, as numbers read low byte first: they are the same where the numbers are.
 use mathlib.Core.Path.{_≡_, ap₂, _∙_}
 use mathlib.Core.Bool.{_&&_}
 use mathlib.Core.List.{List}

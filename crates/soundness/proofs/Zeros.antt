@@ -1,4 +1,4 @@
--- A range of zero bytes, and the slots or check records in it that are zero. Assumes nothing.
+-- A range of zero bytes, and the slots or check records in it that are zero.
 use mathlib.Core.Path.{_≡_, sym, ap, _∙_}
 use mathlib.Core.Bool.{true}
 use mathlib.Core.List.{List}

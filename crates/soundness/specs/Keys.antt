@@ -1,5 +1,4 @@
 -- Lists of keys within bytes, and what is asked of the keys of one unit. A list is a function, rank → key; ranks are counted from 0.
--- Assumes nothing.
 use Prim.Native.Nat.{ℕ, _+_, _*_, _-_, _/_, _%_}
 use mathlib.Core.List.{List}
 use mathlib.Core.Bool.{Bool, not, _&&_, _||_}

@@ -1,5 +1,5 @@
 -- The pieces that the soundness test is made of: one test for each data unit and one for each check unit, over the bytes. That they say what
--- document 01 asks is the theorem `pieces-sound`. Assumes nothing.
+-- document 01 asks is the theorem `pieces-sound`.
 use Prim.Native.Nat.{ℕ, _+_, _*_, _-_, _/_, _≤_}
 use mathlib.Core.Path.{_≡_}
 use mathlib.Core.List.{List}

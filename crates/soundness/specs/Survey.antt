@@ -1,4 +1,4 @@
--- What the soundness test hands on of a store. Assumes nothing.
+-- What the soundness test hands on of a store.
 use Prim.Native.Nat.{ℕ}
 use mathlib.Core.Path.{_≡_}
 use mathlib.Core.List.{List}

@@ -1,4 +1,4 @@
--- Laws of what the soundness test hands on: where the store is sound, it is what the definitions say. Assumes nothing.
+-- Laws of what the soundness test hands on: where the store is sound, it is what the definitions say.
 use Prim.Native.Nat.{ℕ, _+_, _*_, _/_, _≤_, _<_}
 use mathlib.Core.Path.{_≡_, refl, sym, ap₂, _∙_}
 use mathlib.Core.List.{List}

@@ -1,4 +1,4 @@
--- The steps that add a unit leave what grow is to leave. Assumes nothing.
+-- The steps that add a unit leave what grow is to leave.
 use Prim.Native.Nat.{ℕ, _+_, _≤_, _<_}
 use mathlib.Core.Path.{_≡_, refl, ap, _∙_}
 use mathlib.Core.List.{List}

@@ -1,5 +1,4 @@
 -- The loop of `deal_out`: the first t records of unit n are dealt out to units n and m, and what both units hold behind is as it was.
--- Assumes nothing.
 use Prim.Native.Nat.{ℕ, suc, _+_, _≤_, _<_}
 use mathlib.Core.Path.{_≡_, refl, sym, ap, _∙_}
 use mathlib.Core.List.{List}

@@ -1,4 +1,4 @@
--- Lists that a loop makes longer at the end: what stands at a rank, what is kept of them, and another default behind the end. Assumes nothing.
+-- Lists that a loop makes longer at the end: what stands at a rank, what is kept of them, and another default behind the end.
 use Prim.Native.Nat.{ℕ, zero, suc, _<_}
 use mathlib.Core.Path.{_≡_, refl, sym, ap, _∙_}
 use mathlib.Core.Bool.{Bool, true, false}

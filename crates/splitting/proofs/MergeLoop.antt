@@ -1,4 +1,4 @@
--- The loop of `merge_into`: the first t records of unit m stand behind those of unit n. Assumes nothing.
+-- The loop of `merge_into`: the first t records of unit m stand behind those of unit n.
 use Prim.Native.Nat.{ℕ, suc, _+_, _≤_, _<_}
 use mathlib.Core.Path.{_≡_, refl, sym, ap, _∙_}
 use mathlib.Core.List.{List, _++_}

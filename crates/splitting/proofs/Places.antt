@@ -1,5 +1,5 @@
 -- What single writes leave: a unit cleared from a rank on, check units cleared, the states of a group's three check units. And the check units that
--- the tests of grow and shrink pick. Assumes nothing.
+-- the tests of grow and shrink pick.
 use Prim.Native.Nat.{ℕ, _+_, _*_, _-_, _/_, _%_, _≤_, _<_}
 use mathlib.Core.Path.{_≡_, refl, sym, ap, _∙_}
 use mathlib.Core.List.{List}

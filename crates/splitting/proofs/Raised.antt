@@ -1,4 +1,4 @@
--- Check units added group by group, and the level raised. Assumes nothing.
+-- Check units added group by group, and the level raised.
 use Prim.Native.Nat.{ℕ, _+_, _*_, _/_, _%_, _≤_, _<_}
 use mathlib.Core.Path.{_≡_, refl, sym, ap, _∙_}
 use mathlib.Core.List.{List}

@@ -1,4 +1,4 @@
--- The steps that remove a unit leave what shrink is to leave, in a store whose check units out of service are zero. Assumes nothing.
+-- The steps that remove a unit leave what shrink is to leave, in a store whose check units out of service are zero.
 use Prim.Native.Nat.{ℕ, _*_, _/_, _%_, _<_}
 use mathlib.Core.Path.{_≡_, refl, sym, ap, _∙_}
 use mathlib.Core.List.{List, []}

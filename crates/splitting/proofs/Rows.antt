@@ -1,4 +1,4 @@
--- What grow, shrink and raise may rely on where their rows give 0, and what a sound store gives them. Assumes nothing.
+-- What grow, shrink and raise may rely on where their rows give 0, and what a sound store gives them.
 use Prim.Native.Nat.{ℕ, suc, pred, _+_, _-_, _/_, _≤_, _<_}
 use mathlib.Core.Path.{_≡_, refl, sym, ap, _∙_}
 use mathlib.Core.Bool.{Bool, true, false, not, _||_}

@@ -1,4 +1,4 @@
--- The steps of grow and shrink are changes of a store's parts. Assumes nothing.
+-- The steps of grow and shrink are changes of a store's parts.
 use Prim.Native.Nat.{ℕ, _<_}
 use mathlib.Core.Path.{_≡_, refl, ap, _∙_}
 use mathlib.Core.List.{List}

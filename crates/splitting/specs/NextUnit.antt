@@ -1,4 +1,4 @@
--- A store in which a grow is granted: it is sized, and has room for the unit behind its last. Assumes nothing.
+-- A store in which a grow is granted: it is sized, and has room for the unit behind its last.
 use Prim.Native.Nat.{ℕ, _≤_, _<_}
 use mathlib.Core.Path.{_≡_, refl, _∙_}
 use mathlib.Core.List.{List}

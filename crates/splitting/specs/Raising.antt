@@ -1,4 +1,4 @@
--- The steps of a raise on the parts of a store: the check units that are added. Assumes nothing.
+-- The steps of a raise on the parts of a store: the check units that are added.
 use Prim.Native.Nat.{ℕ, _*_, _/_, _%_}
 use mathlib.Core.Bool.{Bool, _&&_}
 use lib.Dec.{eqb, ltb}

@@ -1,4 +1,4 @@
--- The steps of grow and shrink on the parts of a store, and what the functions that take them ask for. Assumes nothing.
+-- The steps of grow and shrink on the parts of a store, and what the functions that take them ask for.
 use Prim.Native.Nat.{ℕ, _+_, _/_, _%_, _<_}
 use mathlib.Core.Path.{_≡_}
 use mathlib.Core.List.{List}

@@ -1,4 +1,4 @@
--- Lay out on a slice: its two ways out, and the bytes that clearing and a header leave. Assumes nothing.
+-- Lay out on a slice: its two ways out, and the bytes that clearing and a header leave.
 use Prim.Native.Nat.{ℕ, _+_, _*_, _-_, _≤_}
 use mathlib.Core.Path.{_≡_, ap, _∙_}
 use mathlib.Core.Bool.{true, false, not}

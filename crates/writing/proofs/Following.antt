@@ -1,5 +1,4 @@
 -- The check units of a group follow a write, one after the other: what holds at each turn of that loop, and the slot that is written behind it.
--- Assumes nothing.
 use Prim.Native.Nat.{ℕ, suc, _+_, _*_, _/_, _%_, _≤_, _<_}
 use mathlib.Core.Path.{_≡_, refl, sym, ap, ap₂, _∙_}
 use mathlib.Core.List.{List}

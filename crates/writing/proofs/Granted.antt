@@ -1,4 +1,4 @@
--- What a granted call may rely on, and that what its code leaves is what the call is to leave. Assumes nothing.
+-- What a granted call may rely on, and that what its code leaves is what the call is to leave.
 use Prim.Native.Nat.{ℕ, suc, pred, _-_, _≤_, _<_}
 use mathlib.Core.Path.{_≡_, refl, sym, _∙_}
 use mathlib.Core.Bool.{Bool, true, false}

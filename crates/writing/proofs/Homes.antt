@@ -1,4 +1,4 @@
--- Where a key belongs, from what the code looks up. Assumes nothing.
+-- Where a key belongs, from what the code looks up.
 use Prim.Native.Nat.{ℕ, suc, _/_, _<_}
 use mathlib.Core.Path.{_≡_, refl, sym, ap, _∙_}
 use mathlib.Core.Bool.{Bool, true, false, not}

@@ -1,4 +1,4 @@
--- A unit's bytes cleared and its state set are the unit lost. Assumes nothing.
+-- A unit's bytes cleared and its state set are the unit lost.
 use Prim.Native.Nat.{ℕ, _+_, _*_, _-_, _≤_, _<_}
 use mathlib.Core.Path.{_≡_, refl, sym, ap, _∙_}
 use mathlib.Core.List.{List}

@@ -1,4 +1,4 @@
--- A slot written after another: the second write finds the store that the first has left. Assumes nothing.
+-- A slot written after another: the second write finds the store that the first has left.
 use Prim.Native.Nat.{ℕ, _+_, _-_, _≤_, _<_}
 use mathlib.Core.Path.{_≡_, sym, ap, ap₂, _∙_}
 use mathlib.Core.List.{List}

@@ -1,4 +1,4 @@
--- The check records of a group after some of its check units have followed a write. Assumes nothing.
+-- The check records of a group after some of its check units have followed a write.
 use Prim.Native.Nat.{ℕ, _/_, _%_}
 use mathlib.Core.List.{List}
 use mathlib.Core.Bool.{_&&_}

@@ -1,4 +1,4 @@
--- Where a key belongs in a store, and the rows of the table of numbers that teach, correct and erase share. Assumes nothing.
+-- Where a key belongs in a store, and the rows of the table of numbers that teach, correct and erase share.
 use Prim.Native.Nat.{ℕ, _/_, _≤_, _<_}
 use mathlib.Core.Path.{_≡_}
 use mathlib.Core.Bool.{Bool, true, not}

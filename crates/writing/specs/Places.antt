@@ -1,4 +1,4 @@
--- Where the units of a store stand, data and check units in one row. Assumes nothing.
+-- Where the units of a store stand, data and check units in one row.
 use Prim.Native.Nat.{ℕ, _-_}
 use lib.Dec.{ltb}
 use Rattle.buffer.specs.Choice.{pick}

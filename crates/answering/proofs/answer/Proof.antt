@@ -1,4 +1,4 @@
--- `answer` meets its contract. Assumes nothing.
+-- `answer` meets its contract.
 use mathlib.Core.Path.{refl, ap, _∙_}
 use borrow.Author.Needs.{needs}
 use Rattle.buffer.specs.Choice.{pick}

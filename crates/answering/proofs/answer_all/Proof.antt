@@ -1,4 +1,4 @@
--- `answer_all` meets its contract. Assumes nothing.
+-- `answer_all` meets its contract.
 use Prim.Native.Nat.{_-_, _≤_}
 use mathlib.Core.Path.{_≡_, sym, _∙_}
 use native.Mathlib.Omega.{arith}

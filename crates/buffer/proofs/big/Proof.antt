@@ -1,4 +1,4 @@
--- `buffer::big` meets its contract: a sum with the low byte first, turned round, is the sum with the high byte first. Assumes nothing.
+-- `buffer::big` meets its contract: a sum with the low byte first, turned round, is the sum with the high byte first.
 use mathlib.Core.Path.{_∙_}
 use borrow.Author.Needs.{needs}
 use Rattle.buffer.specs.ByteOrderLaws.{turn-low}

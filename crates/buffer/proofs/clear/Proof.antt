@@ -1,4 +1,4 @@
--- `buffer::clear` meets its contract. Assumes nothing.
+-- `buffer::clear` meets its contract.
 use mathlib.Core.Path.{refl, sym, _∙_}
 use Prim.Native.Nat.{ℕ, _-_}
 use native.Mathlib.Omega.{arith}

@@ -1,4 +1,4 @@
--- `buffer::copy` meets its contract. Assumes nothing.
+-- `buffer::copy` meets its contract.
 use mathlib.Core.Path.{refl, sym, _∙_}
 use Prim.Native.Nat.{_-_}
 use native.Mathlib.Omega.{arith}

@@ -1,4 +1,4 @@
--- `buffer::get32` meets its contract. Assumes nothing.
+-- `buffer::get32` meets its contract.
 use mathlib.Core.Path.{sym}
 use borrow.Author.Needs.{needs}
 use Rattle.buffer.specs.Bytes.{be32}

@@ -1,4 +1,4 @@
--- `buffer::is_zero` meets its contract. Assumes nothing.
+-- `buffer::is_zero` meets its contract.
 use mathlib.Core.Path.{refl}
 use Prim.Native.Nat.{_-_}
 use lib.Dec.{eqb}

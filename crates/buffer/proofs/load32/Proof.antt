@@ -1,4 +1,4 @@
--- `buffer::load32` meets its contract. Assumes nothing.
+-- `buffer::load32` meets its contract.
 use mathlib.Core.Path.{ap, _∙_}
 use native.Mathlib.Omega.{arith}
 use borrow.Author.Needs.{needs}

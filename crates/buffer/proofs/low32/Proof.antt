@@ -1,4 +1,4 @@
--- `buffer::low32` meets its contract. Assumes nothing.
+-- `buffer::low32` meets its contract.
 use borrow.Author.Needs.{needs}
 use Rattle.buffer.specs.ByteOrder.{le32}
 use Rattle.buffer.proofs.low32.Statement.{statement}

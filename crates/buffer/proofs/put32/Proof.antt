@@ -1,4 +1,4 @@
--- `buffer::put32` meets its contract. Assumes nothing.
+-- `buffer::put32` meets its contract.
 use borrow.Author.Needs.{needs}
 use native.Mathlib.Omega.{arith}
 use mathlib.Core.Path.{_∙_}

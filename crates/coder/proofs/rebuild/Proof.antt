@@ -1,4 +1,4 @@
--- `coder::rebuild` meets its contract: the tests of the definition, in its order. Assumes nothing.
+-- `coder::rebuild` meets its contract: the tests of the definition, in its order.
 use mathlib.Core.Path.{_≡_, refl, ap, _∙_}
 use mathlib.Core.Bool.{true}
 use mathlib.Core.List.{List}

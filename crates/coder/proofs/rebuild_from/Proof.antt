@@ -1,4 +1,4 @@
--- `coder::rebuild_from` meets its contract. Assumes nothing.
+-- `coder::rebuild_from` meets its contract.
 use mathlib.Core.Path.{_≡_, sym, ap, _∙_, subst}
 use mathlib.Core.List.{List}
 use Prim.Native.Nat.{ℕ, _*_, _/_, _-_, _≤_}

@@ -1,4 +1,4 @@
--- `coder::rebuild_member` meets its contract. Assumes nothing.
+-- `coder::rebuild_member` meets its contract.
 use mathlib.Core.Path.{_≡_, ap, ap₂, _∙_}
 use mathlib.Core.List.{List, _++_}
 use Prim.Native.Nat.{ℕ, _+_, _*_, _-_, _≤_}

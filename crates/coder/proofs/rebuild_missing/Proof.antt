@@ -1,4 +1,4 @@
--- `coder::rebuild_missing` meets its contract. Assumes nothing.
+-- `coder::rebuild_missing` meets its contract.
 use mathlib.Core.Logic.{⊎-elim}
 use mathlib.Core.Path.{refl, sym, ap, _∙_, subst}
 use Prim.Native.Nat.{ℕ, _-_, _≤_}

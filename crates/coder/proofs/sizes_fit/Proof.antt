@@ -1,4 +1,4 @@
--- `coder::sizes_fit` meets its contract: one test that fails is enough, whatever the others say. Assumes nothing.
+-- `coder::sizes_fit` meets its contract: one test that fails is enough, whatever the others say.
 use mathlib.Core.Bool.{and-false}
 use borrow.Author.Needs.{needs}
 use borrow.Author.Tests.{le-leb, lt-leb}

@@ -1,4 +1,4 @@
--- `compared_read_in_place` meets its contract. Assumes nothing.
+-- `compared_read_in_place` meets its contract.
 use borrow.Author.Needs.{needs}
 use mathlib.Core.Path.{_≡_, sym, ap, _∙_}
 use mathlib.Core.List.{List, _++_}

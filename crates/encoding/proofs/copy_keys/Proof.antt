@@ -1,4 +1,4 @@
--- `encoding::copy_keys` meets its contract. Assumes nothing.
+-- `encoding::copy_keys` meets its contract.
 use borrow.Author.Needs.{needs}
 use Prim.Native.Nat.{ℕ, _+_, _*_, _-_}
 use mathlib.Core.Path.{sym, _∙_}

@@ -1,4 +1,4 @@
--- `encoding::fill_parities` meets its contract. Assumes nothing.
+-- `encoding::fill_parities` meets its contract.
 use borrow.Author.Needs.{needs}
 use mathlib.Core.Path.{_≡_, ap, _∙_}
 use mathlib.Core.List.{List}

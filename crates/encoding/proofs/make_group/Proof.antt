@@ -1,4 +1,4 @@
--- `encoding::make_group` meets its contract. Assumes nothing.
+-- `encoding::make_group` meets its contract.
 use borrow.Author.Needs.{needs}
 use Prim.Native.Nat.{_-_}
 use mathlib.Core.Path.{sym, _∙_}

@@ -1,4 +1,4 @@
--- `encoding::make_rank` meets its contract. Assumes nothing.
+-- `encoding::make_rank` meets its contract.
 use borrow.Author.Needs.{needs}
 use native.Mathlib.Omega.{arith}
 use Prim.Native.Nat.{_+_, _*_}

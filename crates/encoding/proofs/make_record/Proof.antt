@@ -1,4 +1,4 @@
--- `encoding::make_record` meets its contract. Assumes nothing.
+-- `encoding::make_record` meets its contract.
 use borrow.Author.Needs.{needs}
 use native.Mathlib.Omega.{arith}
 use mathlib.Core.Path.{_≡_, refl}

@@ -1,4 +1,4 @@
--- `encoding::make_unit` meets its contract. Assumes nothing.
+-- `encoding::make_unit` meets its contract.
 use borrow.Author.Needs.{needs}
 use Prim.Native.Nat.{_-_}
 use mathlib.Core.Path.{refl}

@@ -1,4 +1,4 @@
--- `encoding::put_serving` meets its contract. Assumes nothing.
+-- `encoding::put_serving` meets its contract.
 use borrow.Author.Needs.{needs}
 use Prim.Native.Nat.{_+_, _-_}
 use mathlib.Core.Path.{_≡_, refl, sym, ap, _∙_}

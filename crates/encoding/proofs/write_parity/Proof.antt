@@ -1,4 +1,4 @@
--- `encoding::write_parity` meets its contract. Assumes nothing.
+-- `encoding::write_parity` meets its contract.
 use borrow.Author.Needs.{needs}
 use Prim.Native.Nat.{ℕ, _+_, _*_}
 use mathlib.Core.Path.{sym, ap, _∙_}

@@ -1,4 +1,4 @@
--- `field256::fill_logs` meets its contract. Assumes nothing.
+-- `field256::fill_logs` meets its contract.
 use mathlib.Core.Path.{refl, sym, _∙_}
 use Prim.Native.Nat.{_-_, _<_}
 use native.Mathlib.Omega.{arith}

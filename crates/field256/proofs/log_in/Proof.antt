@@ -1,4 +1,4 @@
--- `field256::log_in` meets its contract. Assumes nothing.
+-- `field256::log_in` meets its contract.
 use mathlib.Core.Path.{_≡_, sym, _∙_, subst}
 use Prim.Native.Nat.{ℕ, _<_}
 use native.Mathlib.Omega.{arith}

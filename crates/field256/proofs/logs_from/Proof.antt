@@ -1,4 +1,4 @@
--- `field256::logs_from` meets its contract. Assumes nothing.
+-- `field256::logs_from` meets its contract.
 use mathlib.Core.Path.{refl}
 use borrow.Author.Needs.{needs}
 use Rattle.field256.proofs.logs_from.Statement.{statement}

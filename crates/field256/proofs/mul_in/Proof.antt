@@ -1,5 +1,4 @@
 -- `field256::mul_in` meets its contract: 0 by itself, which has no logarithm; any other product is the power of the sum of the logarithms.
--- Assumes nothing.
 use mathlib.Core.Path.{sym, ap, ap₂, _∙_}
 use Prim.Native.Nat.{ℕ, _+_, _%_}
 use native.Mathlib.Nat.{mod-lt}

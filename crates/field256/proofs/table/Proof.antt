@@ -1,4 +1,4 @@
--- `field256::table` meets its contract: the constant is the list of powers, which the prover computes. Assumes nothing.
+-- `field256::table` meets its contract: the constant is the list of powers, which the prover computes.
 use mathlib.Core.Path.{refl}
 use Rattle.algebra.specs.Binary.{times, remainder, productIn}
 use Rattle.algebra.specs.BinaryPowers.{doublings}

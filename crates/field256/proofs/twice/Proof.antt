@@ -1,4 +1,4 @@
--- `field256::twice` meets its contract. Assumes nothing.
+-- `field256::twice` meets its contract.
 use borrow.Author.Needs.{needs}
 use Rattle.field256.specs.PowersLaws.{double-is}
 use Rattle.field256.proofs.twice.Statement.{statement}

@@ -1,4 +1,4 @@
--- `group::add` meets its contract. Assumes nothing.
+-- `group::add` meets its contract.
 use mathlib.Core.Path.{refl, sym, ap₂, _∙_}
 use Prim.Native.Nat.{_-_}
 use native.Mathlib.Omega.{arith}

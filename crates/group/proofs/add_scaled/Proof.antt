@@ -1,4 +1,4 @@
--- `group::add_scaled` meets its contract. Assumes nothing.
+-- `group::add_scaled` meets its contract.
 use mathlib.Core.Path.{sym, ap₂, _∙_}
 use Prim.Native.Nat.{_-_}
 use native.Mathlib.Omega.{arith}

@@ -1,4 +1,4 @@
--- `group::coefficient` meets its contract. Assumes nothing.
+-- `group::coefficient` meets its contract.
 use mathlib.Core.Path.{_∙_}
 use borrow.Author.Needs.{needs}
 use Rattle.group.specs.Parity.{coefficient}

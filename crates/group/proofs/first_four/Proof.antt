@@ -1,4 +1,4 @@
--- `group::first_four` meets its contract. Assumes nothing.
+-- `group::first_four` meets its contract.
 use mathlib.Core.Path.{_≡_, ap, _∙_}
 use mathlib.Core.Bool.{Bool}
 use mathlib.Core.List.{[], _∷_}

@@ -1,4 +1,4 @@
--- `group::follow` meets its contract. Assumes nothing.
+-- `group::follow` meets its contract.
 use mathlib.Core.Path.{ap, _∙_}
 use Prim.Native.Nat.{_+_, _*_, _-_}
 use native.Mathlib.Omega.{arith}

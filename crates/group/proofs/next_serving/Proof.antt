@@ -1,4 +1,4 @@
--- `group::next_serving` meets its contract. Assumes nothing.
+-- `group::next_serving` meets its contract.
 use mathlib.Core.Path.{_≡_, sym, ap, _∙_}
 use Prim.Native.Nat.{_+_, _-_}
 use native.Mathlib.Omega.{arith}

@@ -1,4 +1,4 @@
--- `group::ones` meets its contract. Assumes nothing.
+-- `group::ones` meets its contract.
 use mathlib.Core.Path.{refl}
 use mathlib.Core.Logic.{⊎-elim}
 use Prim.Native.Nat.{_-_}

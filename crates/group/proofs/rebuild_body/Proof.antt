@@ -1,4 +1,4 @@
--- `group::rebuild_body` meets its contract. Assumes nothing.
+-- `group::rebuild_body` meets its contract.
 use mathlib.Core.Path.{sym, _∙_}
 use mathlib.Core.List.{[], _∷_}
 use Prim.Native.Nat.{_-_}

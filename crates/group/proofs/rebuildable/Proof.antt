@@ -1,4 +1,4 @@
--- `group::rebuildable` meets its contract. Assumes nothing.
+-- `group::rebuildable` meets its contract.
 use mathlib.Core.Path.{ap₂}
 use lib.Dec.{leb}
 use borrow.Author.Needs.{needs}

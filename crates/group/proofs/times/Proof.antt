@@ -1,4 +1,4 @@
--- `group::times` meets its contract. Assumes nothing.
+-- `group::times` meets its contract.
 use mathlib.Core.Path.{sym}
 use borrow.Author.Needs.{needs}
 use Rattle.code.specs.ScalingLaws.{scale-one}

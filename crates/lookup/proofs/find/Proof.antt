@@ -1,4 +1,4 @@
--- `lookup::find` meets its contract. Assumes nothing.
+-- `lookup::find` meets its contract.
 use mathlib.Core.Path.{refl, ap, _∙_}
 use Prim.Native.Nat.{ℕ, _+_, _*_, _≤_}
 use native.Mathlib.Omega.{arith}

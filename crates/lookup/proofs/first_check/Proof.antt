@@ -1,4 +1,4 @@
--- `lookup::first_check` meets its contract. Assumes nothing.
+-- `lookup::first_check` meets its contract.
 use Prim.Native.Nat.{_+_, _*_, _-_}
 use mathlib.Core.Path.{ap, refl}
 use lib.Dec.{eqb}

@@ -1,4 +1,4 @@
--- `lookup::held` meets its contract. Assumes nothing.
+-- `lookup::held` meets its contract.
 use mathlib.Core.Path.{sym, _∙_}
 use native.Mathlib.Omega.{arith}
 use borrow.Author.Needs.{needs}

@@ -1,4 +1,4 @@
--- `lookup::held_at` meets its contract. Assumes nothing.
+-- `lookup::held_at` meets its contract.
 use native.Mathlib.Omega.{arith}
 use borrow.Author.Needs.{needs}
 use borrow.Author.Tests.{lt-ltb, le-ltb}

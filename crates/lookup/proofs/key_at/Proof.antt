@@ -1,4 +1,4 @@
--- `lookup::key_at` meets its contract. Assumes nothing.
+-- `lookup::key_at` meets its contract.
 use mathlib.Core.Path.{ap, _∙_}
 use native.Mathlib.Omega.{arith}
 use borrow.Author.Needs.{needs}

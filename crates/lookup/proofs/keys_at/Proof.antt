@@ -1,4 +1,4 @@
--- `lookup::keys_at` meets its contract. Assumes nothing.
+-- `lookup::keys_at` meets its contract.
 use native.Mathlib.Omega.{arith}
 use borrow.Author.Needs.{needs}
 use Rattle.lookup.proofs.keys_at.Statement.{statement}

@@ -1,4 +1,4 @@
--- `lookup::keys_of` meets its contract. Assumes nothing.
+-- `lookup::keys_of` meets its contract.
 use mathlib.Core.Path.{sym, _∙_}
 use borrow.Author.Needs.{needs}
 use borrow.Author.Tests.{eq-eqb, ne-eqb}

@@ -1,4 +1,4 @@
--- `lookup::listed_rank` meets its contract. Assumes nothing.
+-- `lookup::listed_rank` meets its contract.
 use borrow.Author.Needs.{needs}
 use Rattle.buffer.specs.Strided.{within-fewer}
 use Rattle.lookup.specs.KeyLaws.{lists-known, listed-rank-found}

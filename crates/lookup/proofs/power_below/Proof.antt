@@ -1,4 +1,4 @@
--- `lookup::power_below` meets its contract. Assumes nothing.
+-- `lookup::power_below` meets its contract.
 use native.Mathlib.Omega.{arith}
 use borrow.Author.Tests.{lt-ltb, le-ltb}
 use Rattle.buffer.specs.Choice.{pick}

@@ -1,4 +1,4 @@
--- `lookup::product` meets its contract. Assumes nothing.
+-- `lookup::product` meets its contract.
 use Prim.Native.Nat.{ℕ, _*_, _≤_}
 use native.Mathlib.Omega.{arith}
 use native.Mathlib.Nat.{mul-le-mul}

@@ -1,4 +1,4 @@
--- `lookup::rank` meets its contract. Assumes nothing.
+-- `lookup::rank` meets its contract.
 use borrow.Author.Needs.{needs}
 use Rattle.lookup.specs.KeyLaws.{unit-within, rank-found}
 use Rattle.lookup.proofs.rank.Statement.{statement}

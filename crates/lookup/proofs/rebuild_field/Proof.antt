@@ -1,4 +1,4 @@
--- `lookup::rebuild_field` meets its contract. Assumes nothing.
+-- `lookup::rebuild_field` meets its contract.
 use mathlib.Core.Path.{_≡_, sym, ap, _∙_}
 use Prim.Native.Nat.{ℕ, _<_}
 use native.Mathlib.Omega.{arith}

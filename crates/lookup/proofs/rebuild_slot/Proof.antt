@@ -1,4 +1,4 @@
--- `lookup::rebuild_slot` meets its contract. What is known at a place is said once, and the needs behind it use it. Assumes nothing.
+-- `lookup::rebuild_slot` meets its contract. What is known at a place is said once, and the needs behind it use it.
 use mathlib.Core.Path.{_≡_, sym, ap, ap₂, _∙_}
 use mathlib.Core.List.{List, _++_}
 use Prim.Native.Nat.{ℕ, _+_, _*_, _≤_}

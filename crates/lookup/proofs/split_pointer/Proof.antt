@@ -1,4 +1,4 @@
--- `lookup::split_pointer` meets its contract. Assumes nothing.
+-- `lookup::split_pointer` meets its contract.
 use native.Mathlib.Omega.{arith}
 use borrow.Author.Needs.{needs}
 use Rattle.model.specs.Units.{splitPointer}

@@ -1,4 +1,4 @@
--- `lookup::state` meets its contract. Assumes nothing.
+-- `lookup::state` meets its contract.
 use mathlib.Core.Path.{_∙_}
 use borrow.Author.Needs.{needs}
 use Rattle.lookup.specs.States.{state-byte}

@@ -1,5 +1,5 @@
 -- `lookup::unit_of` meets its contract. That no sum or product is too large rests on the size of the remainders alone; that the unit is the key's, on what
--- the 0 or 1 tells. Assumes nothing.
+-- the 0 or 1 tells.
 use mathlib.Core.Path.{_≡_, _∙_}
 use Prim.Native.Nat.{ℕ, _+_, _*_, _-_, _%_, _≤_, _<_}
 use native.Mathlib.Omega.{arith}

@@ -1,5 +1,5 @@
 -- The ledger's answers: numbers, a granted read's field, the part read in place (field or empty), list's count and written bytes; and the ledger
--- after each call. Assumes nothing.
+-- after each call.
 use Prim.Native.Nat.{ℕ}
 use mathlib.Core.List.{List, [], _∷_}
 use mathlib.Core.Bool.{not, _&&_}

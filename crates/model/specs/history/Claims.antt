@@ -1,5 +1,5 @@
 -- Demand 3: the statements, over every list of steps, base calls and further ones, after one granted layout. What the types give (a key has
--- 32 bits, a slice holds bytes) is the only side condition. Assumes nothing.
+-- 32 bits, a slice holds bytes) is the only side condition.
 use Prim.Native.Nat.{ℕ, _*_, _<_, _≤_}
 use mathlib.Core.Path.{_≡_}
 use mathlib.Core.List.{List}

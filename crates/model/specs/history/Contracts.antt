@@ -1,5 +1,5 @@
 -- From contracts to demand 3. Each call's contract is one equation, `outcome answer after ≡ performStep before step`; of a base call it says `perform`,
--- which is the same (`base-step`). A run is a list of steps, each of which meets its contract and gets the store as the one before left it. Assumes nothing.
+-- which is the same (`base-step`). A run is a list of steps, each of which meets its contract and gets the store as the one before left it.
 use Prim.Native.Nat.{ℕ}
 use mathlib.Core.Path.{_≡_}
 use mathlib.Core.List.{List, [], _∷_}

@@ -1,5 +1,5 @@
 -- Calls that may stand in a history beside the base calls. Of each: the base call that it counts as where it is granted, its rows of the table of
--- numbers, and its answer, by the bytes of a store and by a ledger. Nothing else of a history depends on which of them there are. Assumes nothing.
+-- numbers, and its answer, by the bytes of a store and by a ledger. Nothing else of a history depends on which of them there are.
 use Prim.Native.Nat.{ℕ}
 use mathlib.Core.List.{List, [], _∷_, _++_}
 use mathlib.Core.Option.{Option, none, some}

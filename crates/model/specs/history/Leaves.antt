@@ -1,5 +1,5 @@
 -- A history, the layout with its list of calls, and the stores that it leaves. At its end the next call's answer is the ledger's, and so are the records,
--- each in its unit and at its rank. Assumes nothing.
+-- each in its unit and at its rank.
 use Prim.Native.Nat.{ℕ, _<_}
 use mathlib.Core.Path.{_≡_}
 use mathlib.Core.List.{List, [], _∷_, _++_}

@@ -1,5 +1,5 @@
 -- Document 01, "The ledger": lists of records, fed by the calls' arguments alone, never by an answer or a byte of the store. With the store it
--- shares what document 01 itself shares, the unit of a key, the split unit and the calls, and the general `filterBy`. Assumes nothing.
+-- shares what document 01 itself shares, the unit of a key, the split unit and the calls, and the general `filterBy`.
 use Prim.Native.Nat.{ℕ, suc, pred, _+_, _*_, _-_, _/_, _%_}
 use mathlib.Core.List.{List, [], _∷_, _++_}
 use mathlib.Core.Bool.{Bool, true, false, not, _&&_, _||_}

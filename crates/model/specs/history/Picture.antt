@@ -1,4 +1,4 @@
--- The picture of a ledger (document 01, "The ledger"): the store's bytes as the ledger sees them. Assumes nothing.
+-- The picture of a ledger (document 01, "The ledger"): the store's bytes as the ledger sees them.
 use Prim.Native.Nat.{ℕ, _+_, _*_, _/_, _%_}
 use mathlib.Core.List.{List, _++_}
 use lib.Dec.{eqb}

@@ -1,5 +1,5 @@
 -- The plan of a grow (document 02, ask 6): one entry a record of the split unit, old unit and rank, new unit and rank, in old rank order; ranks in moves
--- count from 1. By the bytes of a store, and by a ledger. Assumes nothing.
+-- count from 1. By the bytes of a store, and by a ledger.
 use Prim.Native.Nat.{ℕ, suc}
 use mathlib.Core.List.{List}
 use mathlib.Core.Bool.{Bool, not}

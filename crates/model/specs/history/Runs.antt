@@ -1,4 +1,4 @@
--- Runs of the store: a list of calls, each getting the store as the one before left it; and what a list of calls says of a key. Assumes nothing.
+-- Runs of the store: a list of calls, each getting the store as the one before left it; and what a list of calls says of a key.
 use Prim.Native.Nat.{ℕ, _+_, _-_}
 use mathlib.Core.List.{List, [], _∷_}
 use mathlib.Core.Option.{Option, none, some}

@@ -1,5 +1,5 @@
 -- A sound store stays sound: whatever a call's arguments, and whatever the store's fields and parity bytes, the store that the call leaves is sound
--- again. It need not come from a history. What the types give (a key has 32 bits, a slice holds bytes) is the only side condition. Assumes nothing.
+-- again. It need not come from a history. What the types give (a key has 32 bits, a slice holds bytes) is the only side condition.
 use Prim.Native.Nat.{ℕ}
 use mathlib.Core.Path.{_≡_}
 use mathlib.Core.List.{List}

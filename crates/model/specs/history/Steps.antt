@@ -1,5 +1,5 @@
 -- Histories of base calls and further calls. A step counts as a base call or as nothing, and that alone says what becomes of the store and of the ledger;
--- its answer is its own. Assumes nothing.
+-- its answer is its own.
 use Prim.Native.Nat.{ℕ}
 use mathlib.Core.List.{List, [], _∷_}
 use mathlib.Core.Option.{Option, none, some}

@@ -1,4 +1,4 @@
--- Each call's number by arguments and ledger: document 01's table once more, of the ledger's lists and marks. 1 never applies. Assumes nothing.
+-- Each call's number by arguments and ledger: document 01's table once more, of the ledger's lists and marks. 1 never applies.
 use Prim.Native.Nat.{ℕ, pred, _+_, _*_, _/_}
 use mathlib.Core.List.{List, [], _∷_}
 use mathlib.Core.Bool.{Bool, false, not}

@@ -1,4 +1,4 @@
--- What the types give, the only side condition of the theorems: a key has 32 bits, a slice holds bytes. Assumes nothing.
+-- What the types give, the only side condition of the theorems: a key has 32 bits, a slice holds bytes.
 use Prim.Native.Nat.{ℕ, _<_}
 use mathlib.Core.List.{List, [], _∷_}
 use Rattle.buffer.specs.Bytes.{byte}

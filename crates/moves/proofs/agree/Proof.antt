@@ -1,5 +1,5 @@
 -- `moves::agree` meets its contract: a walk of its MIR, by hand. The borrow of the list is looked into before the first statement and shut behind the
--- loop. In each turn one entry is copied out of the list and passed to the function that compares it. Assumes nothing.
+-- loop. In each turn one entry is copied out of the list and passed to the function that compares it.
 use mathlib.Core.Path.{_≡_, refl, sym, _∙_, ap}
 use Prim.Native.Nat.{ℕ, _+_, _*_, _<_, _≤_, _^_, min}
 use native.Mathlib.Omega.{arith}

@@ -1,4 +1,4 @@
--- `moves::agree_at` meets its contract. Assumes nothing.
+-- `moves::agree_at` meets its contract.
 use mathlib.Core.Path.{_∙_, ap}
 use borrow.Author.Needs.{needs}
 use Rattle.moves.specs.Moves.{sameMove}

@@ -1,4 +1,4 @@
--- `moves::answer_for` meets its contract. Assumes nothing.
+-- `moves::answer_for` meets its contract.
 use native.Mathlib.Omega.{arith}
 use borrow.Author.Tests.{lt-ltb, le-ltb, eq-eqb, ne-eqb}
 use Rattle.buffer.specs.Choice.{pick}

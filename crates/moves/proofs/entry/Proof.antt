@@ -1,4 +1,4 @@
--- `moves::entry` meets its contract. Assumes nothing.
+-- `moves::entry` meets its contract.
 use borrow.Author.Needs.{needs}
 use borrow.Author.Tests.{lt-ltb, le-ltb}
 use mathlib.Core.Path.{sym, _∙_}

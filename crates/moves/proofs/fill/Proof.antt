@@ -1,5 +1,5 @@
 -- `moves::fill` meets its contract: a walk of its MIR, by hand. The borrow of the list is opened before the first statement and closed behind the loop.
--- Between the two the list is the function's own: after i turns it is `filled (entryOf p) i` of the list that came in. Assumes nothing.
+-- Between the two the list is the function's own: after i turns it is `filled (entryOf p) i` of the list that came in.
 use mathlib.Core.Path.{_≡_, refl, sym, _∙_, ap, subst}
 use Prim.Native.Nat.{ℕ, _+_, _*_, _<_, _≤_, _^_}
 use native.Mathlib.Omega.{arith}

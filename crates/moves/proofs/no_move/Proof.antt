@@ -1,4 +1,4 @@
--- `moves::no_move` meets its contract. Assumes nothing.
+-- `moves::no_move` meets its contract.
 use mathlib.Core.Path.{refl}
 use Rattle.moves.specs.Moves.{noMove}
 use Rattle.moves.proofs.no_move.Statement.{statement}

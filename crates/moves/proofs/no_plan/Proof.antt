@@ -1,4 +1,4 @@
--- `moves::no_plan` meets its contract. Assumes nothing.
+-- `moves::no_plan` meets its contract.
 use borrow.Author.Needs.{needs}
 use mathlib.Core.Path.{refl}
 use Rattle.moves.specs.Drafts.{blank}

@@ -1,4 +1,4 @@
--- `moves::right_count` meets its contract. Assumes nothing.
+-- `moves::right_count` meets its contract.
 use borrow.Author.Tests.{lt-ltb, le-ltb}
 use Rattle.moves.specs.Drafts.{rightCount}
 use Rattle.moves.proofs.right_count.Statement.{statement}

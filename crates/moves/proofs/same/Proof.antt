@@ -1,4 +1,4 @@
--- `moves::same` meets its contract. Assumes nothing.
+-- `moves::same` meets its contract.
 use borrow.Author.Tests.{eq-eqb, ne-eqb}
 use Rattle.moves.specs.Moves.{sameMove}
 use Rattle.moves.proofs.same.Statement.{statement}

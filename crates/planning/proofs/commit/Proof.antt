@@ -1,6 +1,6 @@
 -- `planning::commit` meets its contract: a walk of its MIR, by hand. The store is lent as a `&` to `drafted`, for a lifetime that is made for the call, and
 -- comes back whole (`LentShared`). The list is a `&`, so what it owns is had twice. Then the store is passed on to `grow_if`, which has it for good
--- (`gave-slice`): what is left of it is what says its last value. What the callees ensure gives what the function ensures by `commit-is`. Assumes nothing.
+-- (`gave-slice`): what is left of it is what says its last value. What the callees ensure gives what the function ensures by `commit-is`.
 use mathlib.Core.Path.{refl, _∙_}
 use Prim.Native.Nat.{ℕ, _<_, _^_}
 use mathlib.Core.List.{List, [], _∷_}

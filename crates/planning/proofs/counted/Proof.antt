@@ -1,4 +1,4 @@
--- `planning::counted` meets its contract. Assumes nothing.
+-- `planning::counted` meets its contract.
 use borrow.Author.Needs.{needs}
 use Prim.Native.Nat.{ℕ}
 use native.Mathlib.Omega.{arith}

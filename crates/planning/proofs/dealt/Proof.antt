@@ -1,4 +1,4 @@
--- `planning::dealt` meets its contract. Assumes nothing.
+-- `planning::dealt` meets its contract.
 use borrow.Author.Needs.{needs}
 use Prim.Native.Nat.{_-_, _≤_}
 use Rattle.lookup.specs.Sized.{Sized}

@@ -1,4 +1,4 @@
--- `planning::drafted` meets its contract. What is known at a place is said once, and the needs behind it use it. Assumes nothing.
+-- `planning::drafted` meets its contract. What is known at a place is said once, and the needs behind it use it.
 use borrow.Author.Needs.{needs}
 use borrow.Author.Tests.{eq-eqb}
 use Prim.Native.Nat.{ℕ}

@@ -1,4 +1,4 @@
--- `planning::grow_if` meets its contract. Assumes nothing.
+-- `planning::grow_if` meets its contract.
 use borrow.Author.Needs.{needs}
 use borrow.Author.Tests.{not-true, not-false}
 use mathlib.Core.Path.{sym, _∙_}

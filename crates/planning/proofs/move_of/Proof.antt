@@ -1,4 +1,4 @@
--- `planning::move_of` meets its contract. Assumes nothing.
+-- `planning::move_of` meets its contract.
 use borrow.Author.Needs.{needs}
 use mathlib.Core.Path.{sym}
 use Rattle.buffer.specs.ChoiceLaws.{pick-true, pick-false}

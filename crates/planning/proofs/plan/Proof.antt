@@ -1,6 +1,6 @@
 -- `planning::plan` meets its contract: a walk of its MIR, by hand. The plan is made by value, and the list is passed on to `fill`, which has it for good
 -- (`gave-slice`): what is left of it is what says its last value. The store is a `&`, so what it owns is had twice.
--- What the callees ensure gives what the function ensures by `plan-is`. Assumes nothing.
+-- What the callees ensure gives what the function ensures by `plan-is`.
 use mathlib.Core.Path.{refl}
 use Prim.Native.Nat.{ℕ}
 use mathlib.Core.List.{List, [], _∷_}

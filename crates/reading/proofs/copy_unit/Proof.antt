@@ -1,4 +1,4 @@
--- `reading::copy_unit` meets its contract. Assumes nothing.
+-- `reading::copy_unit` meets its contract.
 use mathlib.Core.Path.{sym, ap, _∙_}
 use Prim.Native.Nat.{ℕ, _*_}
 use native.Mathlib.Omega.{arith}

@@ -1,4 +1,4 @@
--- `reading::count_records` meets its contract. What is known at a place is said once, and the needs behind it use it. Assumes nothing.
+-- `reading::count_records` meets its contract. What is known at a place is said once, and the needs behind it use it.
 use mathlib.Core.Bool.{true, false}
 use mathlib.Core.Path.{_≡_, refl, sym, _∙_}
 use native.Mathlib.Omega.{arith}

@@ -1,4 +1,4 @@
--- `reading::list` meets its contract. Assumes nothing.
+-- `reading::list` meets its contract.
 use mathlib.Core.Path.{refl, _∙_}
 use borrow.Author.Needs.{needs}
 use Rattle.reading.specs.Rows.{list-rows}

@@ -1,4 +1,4 @@
--- `reading::look_up` meets its contract. What is known at a place is said once, and the needs behind it use it. Assumes nothing.
+-- `reading::look_up` meets its contract. What is known at a place is said once, and the needs behind it use it.
 use mathlib.Core.Bool.{false}
 use mathlib.Core.Path.{_≡_, sym, _∙_}
 use Prim.Native.Nat.{_≤_}

@@ -1,4 +1,4 @@
--- `reading::read` meets its contract. Assumes nothing.
+-- `reading::read` meets its contract.
 use mathlib.Core.Path.{refl, sym, _∙_}
 use native.Mathlib.Omega.{arith}
 use borrow.Author.Needs.{needs}

@@ -1,4 +1,4 @@
--- `reading::read_in_place` meets its contract. What is known at a place is said once, and the needs behind it use it. Assumes nothing.
+-- `reading::read_in_place` meets its contract. What is known at a place is said once, and the needs behind it use it.
 use mathlib.Core.Path.{_≡_, sym, _∙_}
 use Prim.Native.Nat.{_+_}
 use native.Mathlib.Omega.{arith}

@@ -1,4 +1,4 @@
--- `reading::total` meets its contract. Assumes nothing.
+-- `reading::total` meets its contract.
 use Prim.Native.Nat.{_*_, _-_, _≤_}
 use native.Mathlib.Omega.{arith}
 use lib.ListN.{getD}

@@ -1,4 +1,4 @@
--- `reading::write_records` meets its contract. What is known at a place is said once, and the needs behind it use it. Assumes nothing.
+-- `reading::write_records` meets its contract. What is known at a place is said once, and the needs behind it use it.
 use mathlib.Core.Path.{_≡_, ap, _∙_}
 use Prim.Native.Nat.{ℕ, _+_, _*_, _-_, _/_, _≤_}
 use native.Mathlib.Omega.{arith}

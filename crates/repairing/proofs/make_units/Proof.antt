@@ -1,4 +1,4 @@
--- `repairing::make_units` meets its contract. Assumes nothing.
+-- `repairing::make_units` meets its contract.
 use borrow.Author.Needs.{needs}
 use mathlib.Core.Path.{_∙_}
 use mathlib.Core.Logic.{⊎-elim}

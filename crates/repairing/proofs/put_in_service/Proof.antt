@@ -1,4 +1,4 @@
--- `repairing::put_in_service` meets its contract. Assumes nothing.
+-- `repairing::put_in_service` meets its contract.
 use mathlib.Core.Path.{sym, _∙_}
 use mathlib.Core.Logic.{⊎-elim}
 use mathlib.Core.List.{map}

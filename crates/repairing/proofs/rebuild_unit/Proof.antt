@@ -1,4 +1,4 @@
--- `repairing::rebuild_unit` meets its contract. What is known at a place is said once, and the needs behind it use it. Assumes nothing.
+-- `repairing::rebuild_unit` meets its contract. What is known at a place is said once, and the needs behind it use it.
 use native.Mathlib.Nat.{add-sub-cancel-left}
 use mathlib.Core.Path.{_∙_}
 use borrow.Author.Needs.{needs}

@@ -1,4 +1,4 @@
--- `repairing::rebuild_units` meets its contract. Assumes nothing.
+-- `repairing::rebuild_units` meets its contract.
 use borrow.Author.Needs.{needs}
 use mathlib.Core.Path.{refl, sym, _∙_}
 use mathlib.Core.Logic.{⊎-elim}

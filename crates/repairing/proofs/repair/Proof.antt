@@ -1,4 +1,4 @@
--- `repairing::repair` meets its contract. Assumes nothing.
+-- `repairing::repair` meets its contract.
 use native.Mathlib.Omega.{arith}
 use Rattle.model.specs.Perform.{grantedIn}
 use Rattle.model.specs.PerformLaws.{of-repair, refused, granted}

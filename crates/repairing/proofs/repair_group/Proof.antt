@@ -1,4 +1,4 @@
--- `repairing::repair_group` meets its contract. Assumes nothing.
+-- `repairing::repair_group` meets its contract.
 use Rattle.repairing.proofs.Repaired.{group-rebuilt, group-made, group-repaired}
 use borrow.Author.Needs.{needs}
 use Rattle.repairing.proofs.repair_group.Statement.{statement}

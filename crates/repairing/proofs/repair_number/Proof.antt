@@ -1,4 +1,4 @@
--- `repairing::repair_number` meets its contract. Assumes nothing.
+-- `repairing::repair_number` meets its contract.
 use Rattle.buffer.specs.TestLaws.{is-yes}
 use Prim.Native.Nat.{_<_}
 use mathlib.Core.Path.{refl}

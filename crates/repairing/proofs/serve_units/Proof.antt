@@ -1,4 +1,4 @@
--- `repairing::serve_units` meets its contract. Assumes nothing.
+-- `repairing::serve_units` meets its contract.
 use Prim.Native.Nat.{_+_, _*_}
 use native.Mathlib.Nat.{add-sub-cancel-left}
 use native.Mathlib.Omega.{arith}

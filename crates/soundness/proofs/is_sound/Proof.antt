@@ -1,4 +1,4 @@
--- `soundness::is_sound` meets its contract. Assumes nothing.
+-- `soundness::is_sound` meets its contract.
 use borrow.Author.Needs.{needs}
 use Rattle.soundness.proofs.is_sound.Statement.{statement}
 use Rattle.soundness.proofs.is_sound.Tie as tie

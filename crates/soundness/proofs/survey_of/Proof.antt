@@ -1,4 +1,4 @@
--- `soundness::survey_of` meets its contract: each test that fails is one of the pieces, and where none fails all of them hold. Assumes nothing.
+-- `soundness::survey_of` meets its contract: each test that fails is one of the pieces, and where none fails all of them hold.
 use mathlib.Core.Bool.{and-false}
 use native.Mathlib.Omega.{arith}
 use borrow.Author.Needs.{needs}

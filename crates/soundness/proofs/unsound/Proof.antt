@@ -1,4 +1,4 @@
--- `soundness::unsound` meets its contract. Assumes nothing.
+-- `soundness::unsound` meets its contract.
 use mathlib.Core.Path.{refl}
 use Rattle.buffer.specs.Loops.{entries}
 use Rattle.soundness.proofs.unsound.Statement.{statement}

@@ -1,4 +1,4 @@
--- `splitting::add_next` meets its contract. Assumes nothing.
+-- `splitting::add_next` meets its contract.
 use borrow.Author.Needs.{needs}
 use mathlib.Core.Path.{refl, ap, _∙_}
 use native.Mathlib.Omega.{arith}

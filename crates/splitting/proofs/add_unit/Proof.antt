@@ -1,4 +1,4 @@
--- `splitting::add_unit` meets its contract. Assumes nothing.
+-- `splitting::add_unit` meets its contract.
 use borrow.Author.Needs.{needs}
 use native.Mathlib.Omega.{arith}
 use Rattle.encoding.specs.Holding.{holds-long}

@@ -1,4 +1,4 @@
--- `splitting::any_out` meets its contract. Assumes nothing.
+-- `splitting::any_out` meets its contract.
 use borrow.Author.Needs.{needs}
 use native.Mathlib.Nat.{zero-add}
 use Rattle.buffer.specs.Range.{sum}

@@ -1,4 +1,4 @@
--- `splitting::grow` meets its contract. Assumes nothing.
+-- `splitting::grow` meets its contract.
 use borrow.Author.Needs.{needs}
 use borrow.Author.Tests.{eq-eqb}
 use mathlib.Core.Path.{refl, sym, _∙_}

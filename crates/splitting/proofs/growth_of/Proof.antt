@@ -1,4 +1,4 @@
--- `splitting::growth_of` meets its contract. What is known at a place is said once, and the needs behind it use it. Assumes nothing.
+-- `splitting::growth_of` meets its contract. What is known at a place is said once, and the needs behind it use it.
 use borrow.Author.Needs.{needs}
 use borrow.Author.Tests.{eq-eqb, ne-eqb}
 use mathlib.Core.List.{List}

@@ -1,4 +1,4 @@
--- `splitting::pair_crowded` meets its contract. Assumes nothing.
+-- `splitting::pair_crowded` meets its contract.
 use borrow.Author.Needs.{needs}
 use native.Mathlib.Omega.{arith}
 use Rattle.splitting.specs.Steps.{pairCrowded}

@@ -1,4 +1,4 @@
--- `splitting::pair_out` meets its contract. Assumes nothing.
+-- `splitting::pair_out` meets its contract.
 use mathlib.Core.Path.{_∙_}
 use borrow.Author.Needs.{needs}
 use native.Mathlib.Omega.{arith}

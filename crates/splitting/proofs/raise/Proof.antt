@@ -1,4 +1,4 @@
--- `splitting::raise` meets its contract. Assumes nothing.
+-- `splitting::raise` meets its contract.
 use borrow.Author.Needs.{needs}
 use Rattle.model.specs.Perform.{grantedIn}
 use Rattle.model.specs.PerformLaws.{of-raise, refused, granted}

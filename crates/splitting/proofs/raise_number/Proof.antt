@@ -1,4 +1,4 @@
--- `splitting::raise_number` meets its contract. Assumes nothing.
+-- `splitting::raise_number` meets its contract.
 use borrow.Author.Needs.{needs}
 use borrow.Author.Tests.{not-false}
 use Rattle.buffer.specs.Choice.{pick}

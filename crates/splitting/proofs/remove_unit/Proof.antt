@@ -1,4 +1,4 @@
--- `splitting::remove_unit` meets its contract. Assumes nothing.
+-- `splitting::remove_unit` meets its contract.
 use borrow.Author.Needs.{needs}
 use native.Mathlib.Omega.{arith}
 use Rattle.encoding.specs.Holding.{holds-long}

@@ -1,4 +1,4 @@
--- `splitting::row` meets its contract. Assumes nothing.
+-- `splitting::row` meets its contract.
 use mathlib.Core.Path.{sym}
 use Rattle.buffer.specs.ChoiceLaws.{pick-true, pick-false}
 use Rattle.splitting.proofs.row.Statement.{statement}

@@ -1,4 +1,4 @@
--- `splitting::shrink` meets its contract. What is known at a place is said once, and the needs behind it use it. Assumes nothing.
+-- `splitting::shrink` meets its contract. What is known at a place is said once, and the needs behind it use it.
 use borrow.Author.Needs.{needs}
 use mathlib.Core.List.{List}
 use mathlib.Core.Path.{ap, _∙_}

@@ -1,5 +1,5 @@
 -- `store::lhrs_commit` meets its contract: a walk of its MIR, by hand. Both slices are passed on to `commit`. It has the store for good (`gave-slice`): what
--- is left of it is what says its last value. The list is a `&`, so what it owns is had twice. Assumes nothing.
+-- is left of it is what says its last value. The list is a `&`, so what it owns is had twice.
 use mathlib.Core.Path.{refl}
 use Prim.Native.Nat.{ℕ, _<_, _^_}
 use mathlib.Core.List.{List, [], _∷_}

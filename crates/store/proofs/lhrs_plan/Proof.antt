@@ -1,6 +1,6 @@
 -- `store::lhrs_plan` meets its contract: a walk of its MIR, by hand. The list is passed on to `plan`, which has it for good (`gave-slice`): what is left of
 -- it is what says its last value. The store is a `&`, so what it owns is had twice. Then the borrow of the count is opened, the count of the answer is stored
--- behind it, and the borrow is closed at that number. Assumes nothing.
+-- behind it, and the borrow is closed at that number.
 use mathlib.Core.Path.{refl, ap}
 use Prim.Native.Nat.{ℕ, _<_, _^_}
 use mathlib.Core.List.{List, [], _∷_}

@@ -1,4 +1,4 @@
--- `writing::change_of` meets its contract. Assumes nothing.
+-- `writing::change_of` meets its contract.
 use borrow.Author.Needs.{needs}
 use Rattle.writing.proofs.change_of.Statement.{statement}
 use Rattle.writing.proofs.change_of.Tie as tie

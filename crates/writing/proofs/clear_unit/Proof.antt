@@ -1,4 +1,4 @@
--- `writing::clear_unit` meets its contract. Assumes nothing.
+-- `writing::clear_unit` meets its contract.
 use native.Mathlib.Omega.{arith}
 use mathlib.Core.Path.{refl}
 use lib.ListN.{length, getD}

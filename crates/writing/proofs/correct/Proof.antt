@@ -1,4 +1,4 @@
--- `writing::correct` meets its contract. Assumes nothing.
+-- `writing::correct` meets its contract.
 use borrow.Author.Tests.{eqb-true}
 use borrow.Author.Needs.{needs}
 use Rattle.model.specs.RowLaws.{row-holds}

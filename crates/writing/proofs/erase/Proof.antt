@@ -1,4 +1,4 @@
--- `writing::erase` meets its contract. Assumes nothing.
+-- `writing::erase` meets its contract.
 use native.Mathlib.Omega.{arith}
 use borrow.Author.Needs.{needs}
 use Rattle.model.specs.RowLaws.{row-holds}

@@ -1,4 +1,4 @@
--- `writing::erase_at` meets its contract. Assumes nothing.
+-- `writing::erase_at` meets its contract.
 use native.Mathlib.Omega.{arith}
 use native.Mathlib.Nat.{add-sub-cancel-left}
 use mathlib.Core.Path.{refl, _∙_}

@@ -1,4 +1,4 @@
--- `writing::follow_checks` meets its contract. Assumes nothing.
+-- `writing::follow_checks` meets its contract.
 use Prim.Native.Nat.{_+_, _*_, _-_, _/_}
 use native.Mathlib.Omega.{arith}
 use native.Mathlib.Nat.{add-sub-cancel-left}

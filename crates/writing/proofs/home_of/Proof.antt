@@ -1,4 +1,4 @@
--- `writing::home_of` meets its contract. What is known at a place is said once, and the needs behind it use it. Assumes nothing.
+-- `writing::home_of` meets its contract. What is known at a place is said once, and the needs behind it use it.
 use Prim.Native.Nat.{_/_}
 use mathlib.Core.Bool.{true}
 use mathlib.Core.Path.{_≡_, sym, ap, _∙_}

@@ -1,4 +1,4 @@
--- `writing::out_number` meets its contract. Assumes nothing.
+-- `writing::out_number` meets its contract.
 use Rattle.buffer.specs.Choice.{pick}
 use Rattle.model.specs.Numbers.{firstOf, refusalsIn}
 use borrow.Author.Needs.{needs}

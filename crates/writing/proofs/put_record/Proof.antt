@@ -1,4 +1,4 @@
--- `writing::put_record` meets its contract. Assumes nothing.
+-- `writing::put_record` meets its contract.
 use native.Mathlib.Omega.{arith}
 use mathlib.Core.Path.{_∙_}
 use Rattle.buffer.specs.Bytes.{bytes32, splice}

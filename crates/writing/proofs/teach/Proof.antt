@@ -1,4 +1,4 @@
--- `writing::teach` meets its contract. Assumes nothing.
+-- `writing::teach` meets its contract.
 use mathlib.Core.Path.{_∙_}
 use borrow.Author.Tests.{eqb-true}
 use borrow.Author.Needs.{needs}

@@ -1,4 +1,4 @@
--- `writing::unit_at` meets its contract. Assumes nothing.
+-- `writing::unit_at` meets its contract.
 use native.Mathlib.Omega.{arith}
 use mathlib.Core.Path.{sym, _∙_}
 use Rattle.writing.proofs.Lost.{data-at, checks-at}

@@ -1,4 +1,4 @@
--- `writing::unit_out` meets its contract. Assumes nothing.
+-- `writing::unit_out` meets its contract.
 use native.Mathlib.Omega.{arith}
 use mathlib.Core.Path.{refl}
 use Rattle.model.specs.PerformLaws.{of-out, refused, granted}

@@ -1,4 +1,4 @@
--- `writing::write_record` meets its contract. Assumes nothing.
+-- `writing::write_record` meets its contract.
 use borrow.Author.Needs.{needs}
 use Rattle.writing.proofs.write_record.Statement.{statement}
 use Rattle.writing.proofs.write_record.Tie as tie

@@ -1,4 +1,4 @@
--- `writing::write_slot` meets its contract. Assumes nothing.
+-- `writing::write_slot` meets its contract.
 use native.Mathlib.Omega.{arith}
 use native.Mathlib.Nat.{add-sub-cancel-left}
 use mathlib.Core.Path.{_≡_, refl, _∙_}

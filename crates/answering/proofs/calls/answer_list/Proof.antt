@@ -1,4 +1,4 @@
--- `calls::answer_list` meets its contract. Assumes nothing.
+-- `calls::answer_list` meets its contract.
 use Prim.Native.Nat.{_+_, _*_, _≤_}
 use mathlib.Core.Path.{_≡_, _∙_}
 use native.Mathlib.Omega.{arith}

@@ -1,4 +1,4 @@
--- `calls::answer_read` meets its contract. Assumes nothing.
+-- `calls::answer_read` meets its contract.
 use Prim.Native.Nat.{ℕ}
 use mathlib.Core.Path.{_≡_, sym, ap, _∙_}
 use mathlib.Core.List.{List, []}

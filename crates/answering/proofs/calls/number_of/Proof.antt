@@ -1,4 +1,4 @@
--- `calls::number_of` meets its contract. Assumes nothing.
+-- `calls::number_of` meets its contract.
 use Prim.Native.Nat.{ℕ}
 use mathlib.Core.Path.{_≡_, sym, ap, _∙_}
 use borrow.Author.Needs.{needs}

@@ -1,4 +1,4 @@
--- `records::next` meets its contract. Assumes nothing.
+-- `records::next` meets its contract.
 use mathlib.Core.Path.{refl, sym, _∙_}
 use native.Mathlib.Numerals.{add-one}
 use borrow.Author.Needs.{needs}

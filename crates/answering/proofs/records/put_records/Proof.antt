@@ -1,4 +1,4 @@
--- `records::put_records` meets its contract. Assumes nothing.
+-- `records::put_records` meets its contract.
 use Prim.Native.Nat.{ℕ, suc, _+_, _*_, _-_, _≤_}
 use mathlib.Core.Path.{_≡_, refl, sym, ap, _∙_}
 use mathlib.Core.List.{List}

@@ -1,4 +1,4 @@
--- `coder::marks::first_present` meets its contract. Assumes nothing.
+-- `coder::marks::first_present` meets its contract.
 use mathlib.Core.Path.{sym, _∙_}
 use Prim.Native.Nat.{_-_, _≤_}
 use native.Mathlib.Omega.{arith}

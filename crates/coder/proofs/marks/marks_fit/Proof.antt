@@ -1,4 +1,4 @@
--- `coder::marks::marks_fit` meets its contract. Assumes nothing.
+-- `coder::marks::marks_fit` meets its contract.
 use Prim.Native.Nat.{_-_}
 use lib.Dec.{leb}
 use lib.ListN.{length}

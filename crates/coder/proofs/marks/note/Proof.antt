@@ -1,4 +1,4 @@
--- `coder::marks::note` meets its contract. Assumes nothing.
+-- `coder::marks::note` meets its contract.
 use mathlib.Core.Path.{refl}
 use borrow.Author.Needs.{needs}
 use borrow.Author.Tests.{eq-eqb, ne-eqb}

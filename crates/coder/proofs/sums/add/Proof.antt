@@ -1,4 +1,4 @@
--- `coder::sums::add` meets its contract. Assumes nothing.
+-- `coder::sums::add` meets its contract.
 use mathlib.Core.Path.{ap₂}
 use Prim.Native.Nat.{_-_}
 use native.Mathlib.Omega.{arith}

@@ -1,4 +1,4 @@
--- `coder::sums::add_digit` meets its contract. Assumes nothing.
+-- `coder::sums::add_digit` meets its contract.
 use mathlib.Core.Path.{_≡_, refl, ap, _∙_}
 use Prim.Native.Nat.{_-_}
 use native.Mathlib.Omega.{arith}

@@ -1,4 +1,4 @@
--- `coder::sums::double_add` meets its contract. Assumes nothing.
+-- `coder::sums::double_add` meets its contract.
 use mathlib.Core.Path.{ap, ap₂, _∙_}
 use Prim.Native.Nat.{_-_}
 use native.Mathlib.Omega.{arith}

@@ -1,4 +1,4 @@
--- `coder::sums::pick_digit` meets its contract. Assumes nothing.
+-- `coder::sums::pick_digit` meets its contract.
 use mathlib.Core.Path.{sym, _∙_}
 use Prim.Native.Nat.{_+_, _-_, _≤_}
 use native.Mathlib.Omega.{arith}

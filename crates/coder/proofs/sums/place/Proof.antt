@@ -1,4 +1,4 @@
--- `coder::sums::place` meets its contract. Assumes nothing.
+-- `coder::sums::place` meets its contract.
 use Prim.Native.Nat.{_*_, _≤_}
 use native.Mathlib.Nat.{mul-le-mul}
 use native.Mathlib.Omega.{arith}

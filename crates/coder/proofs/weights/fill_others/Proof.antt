@@ -1,4 +1,4 @@
--- `coder::weights::fill_others` meets its contract. Assumes nothing.
+-- `coder::weights::fill_others` meets its contract.
 use Prim.Native.Nat.{_-_}
 use native.Mathlib.Omega.{arith}
 use lib.ListN.{getD}

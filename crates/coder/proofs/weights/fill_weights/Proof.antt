@@ -1,4 +1,4 @@
--- `coder::weights::fill_weights` meets its contract. Assumes nothing.
+-- `coder::weights::fill_weights` meets its contract.
 use Prim.Native.Nat.{_+_, _-_, _≤_}
 use native.Mathlib.Omega.{arith}
 use lib.ListN.{getD}

@@ -1,4 +1,4 @@
--- `coder::weights::log_others` meets its contract. Assumes nothing.
+-- `coder::weights::log_others` meets its contract.
 use mathlib.Core.Logic.{⊎-elim}
 use mathlib.Core.Path.{sym}
 use Prim.Native.Nat.{_-_}

@@ -1,4 +1,4 @@
--- `group::parities::fill` meets its contract. Assumes nothing.
+-- `group::parities::fill` meets its contract.
 use borrow.Author.Needs.{needs}
 use Prim.Native.Nat.{_-_}
 use native.Mathlib.Omega.{arith}

@@ -1,4 +1,4 @@
--- `group::parities::fill_row` meets its contract. Assumes nothing.
+-- `group::parities::fill_row` meets its contract.
 use borrow.Author.Needs.{needs}
 use Prim.Native.Nat.{_-_}
 use mathlib.Core.Path.{ap, _∙_}

@@ -1,4 +1,4 @@
--- `group::parities::mix` meets its contract. Assumes nothing.
+-- `group::parities::mix` meets its contract.
 use borrow.Author.Needs.{needs}
 use lib.Bits.{bitXor, xor-lt}
 use Rattle.group.proofs.ParitySums.{mixed, row-byte}

@@ -1,4 +1,4 @@
--- `group::parities::mix_low` meets its contract. Assumes nothing.
+-- `group::parities::mix_low` meets its contract.
 use Prim.Native.Nat.{_%_}
 use native.Mathlib.Omega.{arith}
 use borrow.Author.Needs.{needs}

@@ -1,4 +1,4 @@
--- `group::parities::mix_words` meets its contract. Assumes nothing.
+-- `group::parities::mix_words` meets its contract.
 use Prim.Native.Nat.{ℕ}
 use mathlib.Core.Path.{_∙_}
 use borrow.Author.Needs.{needs}

@@ -1,4 +1,4 @@
--- `group::parities::write_first` meets its contract. Assumes nothing.
+-- `group::parities::write_first` meets its contract.
 use Prim.Native.Nat.{ℕ, _+_, _-_, _%_, _≤_, _<_}
 use mathlib.Core.List.{List}
 use mathlib.Core.Path.{_≡_, sym, ap, _∙_}

@@ -1,4 +1,4 @@
--- `digits::digit_byte` meets its contract. Assumes nothing.
+-- `digits::digit_byte` meets its contract.
 use mathlib.Core.Path.{sym}
 use borrow.Author.Needs.{needs}
 use Rattle.lines.specs.DigitLaws.{digitOf-number, digitOf-letter}

@@ -1,4 +1,4 @@
--- `digits::digit_value` meets its contract. Assumes nothing.
+-- `digits::digit_value` meets its contract.
 use mathlib.Core.Path.{sym}
 use native.Mathlib.Omega.{arith}
 use borrow.Author.Needs.{needs}

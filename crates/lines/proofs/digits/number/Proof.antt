@@ -1,4 +1,4 @@
--- `digits::number` meets its contract. Assumes nothing.
+-- `digits::number` meets its contract.
 use Prim.Native.Nat.{_-_}
 use native.Mathlib.Omega.{arith}
 use borrow.Author.Needs.{needs}

@@ -1,4 +1,4 @@
--- `digits::put_byte` meets its contract. Assumes nothing.
+-- `digits::put_byte` meets its contract.
 use mathlib.Core.Path.{_∙_}
 use mathlib.Core.List.{[], _∷_}
 use native.Mathlib.Omega.{arith}

@@ -1,4 +1,4 @@
--- `digits::put_bytes` meets its contract. Assumes nothing.
+-- `digits::put_bytes` meets its contract.
 use Prim.Native.Nat.{ℕ, _+_, _*_, _-_, _≤_}
 use mathlib.Core.Path.{_≡_, sym, ap, _∙_}
 use mathlib.Core.List.{List, append-nil}

@@ -1,4 +1,4 @@
--- `digits::read_field` meets its contract. Assumes nothing.
+-- `digits::read_field` meets its contract.
 use Prim.Native.Nat.{_-_}
 use mathlib.Core.Path.{refl}
 use native.Mathlib.Omega.{arith}

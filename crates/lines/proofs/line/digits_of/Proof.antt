@@ -1,4 +1,4 @@
--- `line::digits_of` meets its contract. Assumes nothing.
+-- `line::digits_of` meets its contract.
 use Prim.Native.Nat.{ℕ}
 use mathlib.Core.Path.{_≡_, refl, sym, ap, _∙_}
 use mathlib.Core.Logic.{⊎-elim, inl, inr}

@@ -1,4 +1,4 @@
--- `line::has_field` meets its contract. Assumes nothing.
+-- `line::has_field` meets its contract.
 use borrow.Author.Tests.{eq-eqb, ne-eqb}
 use Rattle.lines.specs.Line.{hasField}
 use Rattle.lines.proofs.line.has_field.Statement.{statement}

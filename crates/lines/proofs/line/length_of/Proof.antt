@@ -1,4 +1,4 @@
--- `line::length_of` meets its contract. Assumes nothing.
+-- `line::length_of` meets its contract.
 use native.Mathlib.Omega.{arith}
 use borrow.Author.Needs.{needs}
 use borrow.Author.Tests.{eq-eqb, ne-eqb}

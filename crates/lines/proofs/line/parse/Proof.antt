@@ -1,4 +1,4 @@
--- `line::parse` meets its contract. Assumes nothing.
+-- `line::parse` meets its contract.
 use mathlib.Core.Path.{sym, _∙_}
 use native.Mathlib.Omega.{arith}
 use borrow.Author.Needs.{needs}

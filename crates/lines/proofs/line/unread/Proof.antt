@@ -1,4 +1,4 @@
--- `line::unread` meets its contract. Assumes nothing.
+-- `line::unread` meets its contract.
 use borrow.Author.Needs.{needs}
 use Rattle.lines.specs.Line.{unreadable}
 use Rattle.lines.proofs.line.unread.Statement.{statement}

@@ -1,4 +1,4 @@
--- `line::without_field` meets its contract. Assumes nothing.
+-- `line::without_field` meets its contract.
 use mathlib.Core.Path.{refl}
 use Rattle.buffer.specs.Bytes.{zeros}
 use Rattle.lines.proofs.line.without_field.Statement.{statement}

@@ -1,4 +1,4 @@
--- `output::put_argument` meets its contract. Assumes nothing.
+-- `output::put_argument` meets its contract.
 use Prim.Native.Nat.{_+_, _*_, _-_}
 use mathlib.Core.Path.{_≡_, refl}
 use native.Mathlib.Omega.{arith}

@@ -1,4 +1,4 @@
--- `output::put_field` meets its contract. Assumes nothing.
+-- `output::put_field` meets its contract.
 use native.Mathlib.Omega.{arith}
 use lib.ListN.{set, length-set}
 use borrow.Author.Needs.{needs}

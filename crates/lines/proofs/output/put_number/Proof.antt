@@ -1,4 +1,4 @@
--- `output::put_number` meets its contract. Assumes nothing.
+-- `output::put_number` meets its contract.
 use Prim.Native.Nat.{_+_, _/_, _%_}
 use native.Mathlib.Omega.{arith}
 use lib.ListN.{length-set}

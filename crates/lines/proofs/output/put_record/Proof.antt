@@ -1,4 +1,4 @@
--- `output::put_record` meets its contract. Assumes nothing.
+-- `output::put_record` meets its contract.
 use borrow.Author.Needs.{needs}
 use Rattle.lines.proofs.Writing.{record-line}
 use Rattle.lines.proofs.output.put_record.Statement.{statement}

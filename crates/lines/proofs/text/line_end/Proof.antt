@@ -1,4 +1,4 @@
--- `text::line_end` meets its contract. Assumes nothing.
+-- `text::line_end` meets its contract.
 use Prim.Native.Nat.{ℕ, _-_, _≤_, _<_}
 use mathlib.Core.Path.{_≡_, sym}
 use mathlib.Core.Bool.{Bool, false, _&&_}

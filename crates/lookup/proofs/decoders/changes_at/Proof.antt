@@ -1,4 +1,4 @@
--- `lookup::decoders::changes_at` meets its contract. Assumes nothing.
+-- `lookup::decoders::changes_at` meets its contract.
 use borrow.Author.Needs.{needs}
 use Rattle.model.specs.Layout.{view}
 use Rattle.lookup.specs.Decoders.{changesAt}

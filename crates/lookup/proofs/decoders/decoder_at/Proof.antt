@@ -1,4 +1,4 @@
--- `lookup::decoders::decoder_at` meets its contract. Assumes nothing.
+-- `lookup::decoders::decoder_at` meets its contract.
 use native.Mathlib.Omega.{arith}
 use borrow.Author.Needs.{needs}
 use Rattle.group.specs.RebuildingLaws.{members-within}

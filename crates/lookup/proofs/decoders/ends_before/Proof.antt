@@ -1,4 +1,4 @@
--- `lookup::decoders::ends_before` meets its contract. Assumes nothing.
+-- `lookup::decoders::ends_before` meets its contract.
 use mathlib.Core.Path.{_≡_, sym, _∙_}
 use lib.Dec.{ltb}
 use lib.ListN.{getD}

@@ -1,4 +1,4 @@
--- `lookup::decoders::next_decoder` meets its contract. Assumes nothing.
+-- `lookup::decoders::next_decoder` meets its contract.
 use borrow.Author.Needs.{needs}
 use Rattle.lookup.proofs.decoders.next_decoder.Statement.{statement}
 use Rattle.lookup.proofs.decoders.next_decoder.Tie as tie

@@ -1,4 +1,4 @@
--- `lookup::decoders::none` meets its contract. Assumes nothing.
+-- `lookup::decoders::none` meets its contract.
 use mathlib.Core.Path.{refl}
 use Rattle.buffer.specs.Loops.{entries}
 use Rattle.lookup.proofs.decoders.none.Statement.{statement}

@@ -1,4 +1,4 @@
--- `lookup::digits::digit_sum` meets its contract. Assumes nothing.
+-- `lookup::digits::digit_sum` meets its contract.
 use borrow.Author.Needs.{needs}
 use Rattle.model.specs.DigitLaws.{digit-sum-most}
 use Rattle.lookup.specs.Spread.{sumIn}

@@ -1,4 +1,4 @@
--- `lookup::digits::spread` meets its contract. Assumes nothing.
+-- `lookup::digits::spread` meets its contract.
 use Prim.Native.Nat.{ℕ, _*_}
 use mathlib.Core.Path.{ap, _∙_}
 use borrow.Author.Needs.{needs}

@@ -1,4 +1,4 @@
--- `lookup::losses::beyond` meets its contract. Assumes nothing.
+-- `lookup::losses::beyond` meets its contract.
 use Prim.Native.Nat.{_+_, _*_, _-_, _/_}
 use mathlib.Core.Path.{_≡_, sym, ap, _∙_}
 use native.Mathlib.Omega.{arith}

@@ -1,4 +1,4 @@
--- `lookup::losses::check_states` meets its contract. Assumes nothing.
+-- `lookup::losses::check_states` meets its contract.
 use Prim.Native.Nat.{_+_, _*_}
 use native.Mathlib.Omega.{arith}
 use borrow.Author.Needs.{needs}

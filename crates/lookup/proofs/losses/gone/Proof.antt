@@ -1,4 +1,4 @@
--- `lookup::losses::gone` meets its contract. What is known at a place is said once, and the needs behind it use it. Assumes nothing.
+-- `lookup::losses::gone` meets its contract. What is known at a place is said once, and the needs behind it use it.
 use mathlib.Core.Path.{_≡_, sym, ap, _∙_}
 use mathlib.Core.Bool.{not}
 use native.Mathlib.Omega.{arith}

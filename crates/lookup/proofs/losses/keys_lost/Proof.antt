@@ -1,4 +1,4 @@
--- `lookup::losses::keys_lost` meets its contract. Assumes nothing.
+-- `lookup::losses::keys_lost` meets its contract.
 use mathlib.Core.Path.{sym}
 use borrow.Author.Needs.{needs}
 use Rattle.lookup.specs.GroupLaws.{lost-no, lost-none-serves}

@@ -1,4 +1,4 @@
--- `lookup::losses::lost` meets its contract. Assumes nothing.
+-- `lookup::losses::lost` meets its contract.
 use Prim.Native.Nat.{_-_}
 use mathlib.Core.Path.{sym, ap, _∙_}
 use native.Mathlib.Omega.{arith}

@@ -1,4 +1,4 @@
--- `lookup::losses::missing` meets its contract. Assumes nothing.
+-- `lookup::losses::missing` meets its contract.
 use Prim.Native.Nat.{_+_, _*_}
 use mathlib.Core.Path.{_≡_, sym, _∙_}
 use lib.Dec.{ltb}

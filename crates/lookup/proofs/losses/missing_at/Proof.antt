@@ -1,4 +1,4 @@
--- `lookup::losses::missing_at` meets its contract. Assumes nothing.
+-- `lookup::losses::missing_at` meets its contract.
 use mathlib.Core.List.{[], _∷_}
 use borrow.Author.Needs.{needs}
 use Rattle.buffer.specs.Loops.{entries}

@@ -1,6 +1,6 @@
 -- Two stores are alike where they differ in the fields of records and in parity bytes alone: header, states, keys and key lists are the same, and so
 -- are slots without a record and check units that are not in service. Then what the calls read of states and keys is the same, and the parts that
--- their bytes show are alike again. Assumes nothing.
+-- their bytes show are alike again.
 use Prim.Native.Nat.{ℕ, _+_, _*_, _-_, _<_}
 use mathlib.Core.Path.{_≡_, refl, sym, ap, ap₂, _∙_}
 use mathlib.Core.List.{List}

@@ -1,4 +1,4 @@
--- Grow and shrink lead from alike stores to alike stores: records are dealt out and put together by their keys. Assumes nothing.
+-- Grow and shrink lead from alike stores to alike stores: records are dealt out and put together by their keys.
 use Prim.Native.Nat.{ℕ, zero, suc, _+_, _*_, _/_, _%_, _<_}
 use mathlib.Core.Path.{_≡_, refl, sym, ap, _∙_}
 use mathlib.Core.List.{List, [], _∷_, _++_}

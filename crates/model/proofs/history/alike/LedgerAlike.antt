@@ -1,5 +1,4 @@
 -- A sound store is alike to the picture of the ledger that it shows: its header, states, keys and key lists are those of the picture.
--- Assumes nothing.
 use Prim.Native.Nat.{ℕ, _+_, _*_, _/_, _%_, _≤_, _<_}
 use mathlib.Core.Path.{_≡_, refl, sym, ap, _∙_}
 use mathlib.Core.List.{List, [], _∷_, _++_}

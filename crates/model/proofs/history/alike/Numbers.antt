@@ -1,4 +1,4 @@
--- On alike stores the calls that change a store get the same numbers: the rows of the table look at states and keys alone. Assumes nothing.
+-- On alike stores the calls that change a store get the same numbers: the rows of the table look at states and keys alone.
 use Prim.Native.Nat.{ℕ, pred, _+_, _*_, _/_, _≤_, _<_}
 use mathlib.Core.Path.{_≡_, refl, sym, ap, ap₂, _∙_}
 use mathlib.Core.List.{List}

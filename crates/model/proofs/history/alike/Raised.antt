@@ -1,4 +1,4 @@
--- Raise leads from alike stores to alike stores: the added check units list the keys of the same records. Assumes nothing.
+-- Raise leads from alike stores to alike stores: the added check units list the keys of the same records.
 use Prim.Native.Nat.{ℕ, suc, _+_, _*_, _/_, _%_}
 use mathlib.Core.Path.{_≡_, ap, _∙_}
 use mathlib.Core.List.{List}

@@ -1,4 +1,4 @@
--- A repair leads from alike stores to alike stores: keys are those that a check unit lists, whatever fields are rebuilt. Assumes nothing.
+-- A repair leads from alike stores to alike stores: keys are those that a check unit lists, whatever fields are rebuilt.
 use Prim.Native.Nat.{ℕ, _+_, _*_, _-_, _/_, _%_, _<_}
 use mathlib.Core.Path.{_≡_, sym, ap, _∙_}
 use mathlib.Core.Logic.{_≢_}

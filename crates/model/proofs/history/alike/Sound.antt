@@ -1,4 +1,4 @@
--- What is sound stays sound in an alike store: no clause of soundness looks at the field of a record or at parity bytes. Assumes nothing.
+-- What is sound stays sound in an alike store: no clause of soundness looks at the field of a record or at parity bytes.
 use Prim.Native.Nat.{ℕ, _+_, _*_, _/_, _<_}
 use mathlib.Core.Path.{_≡_, refl, sym, ap, ap₂, _∙_}
 use mathlib.Core.List.{List}

@@ -1,5 +1,4 @@
 -- The changes that touch one unit lead from alike stores to alike stores: a slot written and followed in the check units, a record erased, a unit out.
--- Assumes nothing.
 use Prim.Native.Nat.{ℕ, _+_, _*_, _/_, _%_, _<_}
 use mathlib.Core.Path.{_≡_, refl, sym, ap, ap₂, _∙_}
 use mathlib.Core.List.{List}

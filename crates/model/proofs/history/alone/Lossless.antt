@@ -1,4 +1,4 @@
--- The ledger with no unit out: it is what the lasting calls alone leave, and run alone they are all granted. Assumes nothing.
+-- The ledger with no unit out: it is what the lasting calls alone leave, and run alone they are all granted.
 use Prim.Native.Nat.{ℕ, pred, _+_, _*_, _/_}
 use mathlib.Core.Path.{_≡_, refl, sym, ap, _∙_, subst}
 use mathlib.Core.List.{List, [], _∷_}

@@ -1,4 +1,4 @@
--- A unit in service has the same bytes on the picture of a ledger and on that of the same ledger with no unit out. Assumes nothing.
+-- A unit in service has the same bytes on the picture of a ledger and on that of the same ledger with no unit out.
 use Prim.Native.Nat.{ℕ, _+_, _-_, _≤_, _<_}
 use mathlib.Core.Path.{_≡_, refl, sym, ap, _∙_}
 use mathlib.Core.List.{List}

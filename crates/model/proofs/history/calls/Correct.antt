@@ -1,4 +1,4 @@
--- Correct: another field for a record of the key's unit. Assumes nothing.
+-- Correct: another field for a record of the key's unit.
 use Prim.Native.Nat.{ℕ, _/_, _<_}
 use mathlib.Core.Path.{_≡_, refl}
 use mathlib.Core.Logic.{_≢_}

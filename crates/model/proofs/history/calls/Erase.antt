@@ -1,4 +1,4 @@
--- Erase: the unit's highest-ranked record moves into the freed rank. Between the two writes a key stands twice. Assumes nothing.
+-- Erase: the unit's highest-ranked record moves into the freed rank. Between the two writes a key stands twice.
 use Prim.Native.Nat.{ℕ, suc, pred, _/_, _≤_, _<_}
 use mathlib.Core.Path.{_≡_, refl, sym, ap, _∙_, fun-ext}
 use mathlib.Core.Logic.{_≢_}

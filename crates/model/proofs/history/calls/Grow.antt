@@ -1,4 +1,4 @@
--- Grow on a picture: the store that it leaves is the picture of the grown ledger. Assumes nothing.
+-- Grow on a picture: the store that it leaves is the picture of the grown ledger.
 use Prim.Native.Nat.{ℕ, suc, _+_, _*_, _/_, _%_, _≤_, _<_}
 use mathlib.Core.Path.{_≡_, refl, sym, ap, _∙_}
 use mathlib.Core.Logic.{_⊎_, inl, inr, ⊎-elim}

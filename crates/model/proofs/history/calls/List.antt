@@ -1,4 +1,4 @@
--- List: key and field of all records, by unit and then rank, out units rebuilt. Assumes nothing.
+-- List: key and field of all records, by unit and then rank, out units rebuilt.
 use Prim.Native.Nat.{ℕ, _/_, _<_}
 use mathlib.Core.Path.{_≡_, refl, ap, _∙_}
 use mathlib.Core.List.{List}

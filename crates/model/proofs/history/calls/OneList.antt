@@ -1,5 +1,5 @@
 -- For the calls that change the list of one unit: its key's unit on a picture, one record written there, and the ledger with the new list is valid
--- again. Assumes nothing.
+-- again.
 use Prim.Native.Nat.{ℕ, _/_, _≤_, _<_}
 use mathlib.Core.Path.{_≡_, sym, ap, _∙_, subst}
 use mathlib.Core.Logic.{_≢_}

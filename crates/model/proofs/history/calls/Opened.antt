@@ -1,4 +1,4 @@
--- A granted layout: what it leaves is the picture of the ledger that it opens, and that ledger is valid. Assumes nothing.
+-- A granted layout: what it leaves is the picture of the ledger that it opens, and that ledger is valid.
 use Prim.Native.Nat.{ℕ, _+_, _*_, _%_, _≤_}
 use mathlib.Core.Path.{_≡_, refl, sym, ap, _∙_}
 use mathlib.Core.List.{List, [], _∷_, _++_, append-assoc}

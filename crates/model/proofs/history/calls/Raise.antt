@@ -1,4 +1,4 @@
--- Raise on a picture: each group in place gets a check unit, and what is left is the picture of the ledger with the higher level. Assumes nothing.
+-- Raise on a picture: each group in place gets a check unit, and what is left is the picture of the ledger with the higher level.
 use Prim.Native.Nat.{ℕ, suc, _+_, _*_, _/_, _%_, _<_}
 use mathlib.Core.Path.{_≡_, refl, sym, ap, _∙_}
 use mathlib.Core.List.{List}

@@ -1,4 +1,4 @@
--- Read: the field of a key, rebuilt where its unit is out. Assumes nothing.
+-- Read: the field of a key, rebuilt where its unit is out.
 use Prim.Native.Nat.{ℕ, _/_, _<_}
 use mathlib.Core.Path.{_≡_, refl}
 use mathlib.Core.List.{List}

@@ -1,5 +1,4 @@
 -- Read in place: the part of the store that holds the field, empty exactly where read, given a buffer that fits, is refused or the unit is out.
--- Assumes nothing.
 use Prim.Native.Nat.{ℕ, _+_, _<_}
 use mathlib.Core.Path.{_≡_, refl, ap, _∙_}
 use mathlib.Core.List.{List, []}

@@ -1,4 +1,4 @@
--- Repair: every unit of the group is in service again, with its bytes. Assumes nothing.
+-- Repair: every unit of the group is in service again, with its bytes.
 use Prim.Native.Nat.{ℕ, _+_, _*_, _-_, _/_, _%_, _<_}
 use mathlib.Core.Path.{_≡_, refl, sym, ap, _∙_}
 use mathlib.Core.List.{List}

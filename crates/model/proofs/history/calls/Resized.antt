@@ -1,5 +1,5 @@
 -- What grow and shrink have in common on a picture: unit m is added or removed, and the records of the unit that it is split from change. The two
--- groups that are touched have no unit out; their check records are made anew, and all else is shown as before. Assumes nothing.
+-- groups that are touched have no unit out; their check records are made anew, and all else is shown as before.
 use Prim.Native.Nat.{ℕ, _+_, _*_, _/_, _%_, _<_}
 use mathlib.Core.Path.{_≡_, sym, ap, _∙_}
 use mathlib.Core.List.{List}

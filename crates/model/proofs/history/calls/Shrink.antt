@@ -1,4 +1,4 @@
--- Shrink on a picture: the store that it leaves is the picture of the shrunk ledger. Assumes nothing.
+-- Shrink on a picture: the store that it leaves is the picture of the shrunk ledger.
 use Prim.Native.Nat.{ℕ, suc, pred, _+_, _*_, _/_, _%_, _≤_, _<_}
 use mathlib.Core.Path.{_≡_, refl, sym, ap, _∙_}
 use mathlib.Core.Logic.{inl, inr}

@@ -1,4 +1,4 @@
--- What one call owes on a picture, and what follows of it: number, answer, bytes, and a valid ledger again. Assumes nothing.
+-- What one call owes on a picture, and what follows of it: number, answer, bytes, and a valid ledger again.
 use Prim.Native.Nat.{ℕ}
 use mathlib.Core.Path.{_≡_, sym, ap, _∙_}
 use mathlib.Core.List.{List}

@@ -1,4 +1,4 @@
--- Teach: a record at the end of the list of the key's unit. Assumes nothing.
+-- Teach: a record at the end of the list of the key's unit.
 use Prim.Native.Nat.{ℕ, _/_, _≤_, _<_, _+_}
 use mathlib.Core.Path.{_≡_, refl, sym, _∙_}
 use mathlib.Core.Logic.{_≢_}

@@ -1,4 +1,4 @@
--- Unit out: the unit is marked out and its bytes are zeroed. Assumes nothing.
+-- Unit out: the unit is marked out and its bytes are zeroed.
 use Prim.Native.Nat.{ℕ, _+_, _<_}
 use mathlib.Core.Path.{_≡_, refl, sym, ap, _∙_}
 use mathlib.Core.List.{List}

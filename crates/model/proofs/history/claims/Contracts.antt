@@ -1,4 +1,4 @@
--- Runs of functions that meet their contracts are runs of `performStep`, so demand 3 holds of them. Assumes nothing.
+-- Runs of functions that meet their contracts are runs of `performStep`, so demand 3 holds of them.
 use Prim.Native.Nat.{ℕ}
 use mathlib.Core.Path.{_≡_, refl, sym, ap, ap₂, _∙_}
 use mathlib.Core.List.{List, _∷_}

@@ -1,5 +1,4 @@
 -- Demand 3: a taught position outlives its unit. Answers and picture come by the steps; what is kept is what the base calls that they count as keep.
--- Assumes nothing.
 use Prim.Native.Nat.{ℕ}
 use mathlib.Core.Path.{_≡_, sym, ap, _∙_}
 use mathlib.Core.List.{List}

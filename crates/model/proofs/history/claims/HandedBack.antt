@@ -1,4 +1,4 @@
--- On the picture of a ledger that holds a field for a key, that field is handed back: in place, and as an entry of the list. Assumes nothing.
+-- On the picture of a ledger that holds a field for a key, that field is handed back: in place, and as an entry of the list.
 use Prim.Native.Nat.{ℕ, _+_, _*_, _≤_, _<_}
 use mathlib.Core.Path.{_≡_, refl, sym, ap₂, _∙_}
 use mathlib.Core.List.{List, _++_}

@@ -1,4 +1,4 @@
--- Every base call, and every list of them: run on a picture it leaves the ledger's picture, and what it says of a key is what the ledger says. Assumes nothing.
+-- Every base call, and every list of them: run on a picture it leaves the ledger's picture, and what it says of a key is what the ledger says.
 use Prim.Native.Nat.{ℕ}
 use mathlib.Core.Path.{_≡_, refl}
 use mathlib.Core.List.{List, [], _∷_}

@@ -1,4 +1,4 @@
--- What was taught is kept, over every list of base calls. Assumes nothing.
+-- What was taught is kept, over every list of base calls.
 use Prim.Native.Nat.{ℕ, _*_, _≤_}
 use mathlib.Core.Path.{_≡_, sym, ap, _∙_}
 use mathlib.Core.List.{List}

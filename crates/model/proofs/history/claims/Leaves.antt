@@ -1,4 +1,4 @@
--- At the end of a history, in every store that it leaves: the length, the next call and the records. Assumes nothing.
+-- At the end of a history, in every store that it leaves: the length, the next call and the records.
 use Prim.Native.Nat.{ℕ}
 use mathlib.Core.Path.{_≡_, refl, _∙_}
 use mathlib.Core.List.{List, [], _∷_, _++_}

@@ -1,5 +1,5 @@
 -- A sound store stays sound under every call: it is alike to the picture of a valid ledger, a granted call leaves alike stores of the two, and what it
--- leaves of the picture is the picture of a valid ledger again. Assumes nothing.
+-- leaves of the picture is the picture of a valid ledger again.
 use Prim.Native.Nat.{ℕ, pred, _+_, _*_, _/_, _%_, _≤_, _<_}
 use mathlib.Core.Path.{_≡_, sym, ap, _∙_}
 use mathlib.Core.List.{List}

@@ -1,5 +1,5 @@
 -- A list of records with different keys after a correct (one record replaced) and after an erase (the last record moved into the freed place):
--- which keys it then has. Assumes nothing.
+-- which keys it then has.
 use Prim.Native.Nat.{ℕ, suc, _<_}
 use mathlib.Core.Path.{_≡_, sym, ap, _∙_, subst}
 use mathlib.Core.Logic.{_≢_}

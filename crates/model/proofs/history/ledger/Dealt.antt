@@ -1,4 +1,4 @@
--- Lists that are dealt out, and lists put one behind the other: what holds of their elements. Assumes nothing.
+-- Lists that are dealt out, and lists put one behind the other: what holds of their elements.
 use Prim.Native.Nat.{ℕ, zero, suc, _+_, _-_, _≤_, _<_}
 use mathlib.Core.Path.{_≡_, refl, sym, ap, _∙_, subst}
 use mathlib.Core.Logic.{_≢_}

@@ -1,5 +1,5 @@
 -- A granted call on a ledger: none of the conditions of its rows holds, and the ledger changes; a refused call changes nothing. No call changes the
--- ranks of a unit. Assumes nothing.
+-- ranks of a unit.
 use mathlib.Core.Path.{_≡_, refl}
 use mathlib.Core.Bool.{true, false}
 use lib.Dec.{eqb}

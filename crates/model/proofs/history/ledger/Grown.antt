@@ -1,4 +1,4 @@
--- The ledger after a grow: it is valid where it was before. Assumes nothing.
+-- The ledger after a grow: it is valid where it was before.
 use Prim.Native.Nat.{ℕ, suc, _≤_, _<_}
 use mathlib.Core.Path.{_≡_, sym, _∙_, subst}
 use mathlib.Core.Logic.{_≢_, _⊎_, ⊎-elim}

@@ -1,4 +1,4 @@
--- The largest power of two up to M, and with a unit more: a table over M = 1 to 16, computed. Assumes nothing.
+-- The largest power of two up to M, and with a unit more: a table over M = 1 to 16, computed.
 use Prim.Native.Nat.{ℕ, zero, suc, _*_, _^_, _≤_, _<_}
 use mathlib.Core.Path.{_≡_, refl}
 use mathlib.Core.List.{List, [], _∷_}

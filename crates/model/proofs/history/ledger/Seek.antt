@@ -1,4 +1,4 @@
--- A key in a list of records: the field of the first record with that key, or none. Assumes nothing.
+-- A key in a list of records: the field of the first record with that key, or none.
 use Prim.Native.Nat.{ℕ, zero, suc, _≤_, _<_}
 use mathlib.Core.Path.{_≡_, refl, sym, ap, _∙_}
 use mathlib.Core.Logic.{_≢_}

@@ -1,4 +1,4 @@
--- Linear hashing's split: with one unit more a key stays in its unit, or it leaves the split unit for the new one. Assumes nothing.
+-- Linear hashing's split: with one unit more a key stays in its unit, or it leaves the split unit for the new one.
 use Prim.Native.Nat.{ℕ, zero, suc, _+_, _*_, _-_, _/_, _%_, _≤_, _<_}
 use mathlib.Core.Path.{_≡_, refl, sym, ap, _∙_}
 use mathlib.Core.Logic.{_⊎_, inl, inr, ⊎-elim}

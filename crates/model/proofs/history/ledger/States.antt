@@ -1,4 +1,4 @@
--- The state of a unit in a ledger, and what it says: in place, in service, out. Of a unit that is not out nothing is lost. Assumes nothing.
+-- The state of a unit in a ledger, and what it says: in place, in service, out. Of a unit that is not out nothing is lost.
 use Prim.Native.Nat.{ℕ, suc, _+_, _*_, _-_, _/_, _%_, _≤_, _<_}
 use mathlib.Core.Path.{_≡_, refl, sym, ap, _∙_}
 use mathlib.Core.Bool.{Bool, true, false, _&&_, not}

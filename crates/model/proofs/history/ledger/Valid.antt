@@ -1,5 +1,4 @@
 -- What every ledger of a history is: its records are such that bytes can hold them, and its lists and its marks are in order.
--- Assumes nothing.
 use Prim.Native.Nat.{ℕ, _≤_, _<_}
 use mathlib.Core.Path.{_≡_}
 use mathlib.Core.Logic.{_≢_}

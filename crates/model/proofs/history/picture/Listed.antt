@@ -1,4 +1,4 @@
--- The keys of a unit on a picture: its own, or for a unit out those that a check unit in service lists. Assumes nothing.
+-- The keys of a unit on a picture: its own, or for a unit out those that a check unit in service lists.
 use Prim.Native.Nat.{ℕ, _+_, _*_, _/_, _%_, _<_}
 use mathlib.Core.Path.{_≡_, sym, ap, _∙_}
 use mathlib.Core.List.{List}

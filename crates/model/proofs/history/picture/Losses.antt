@@ -1,4 +1,4 @@
--- Losses on a picture, rank by rank: what the calls find missing, and beyond recovery, is what the ledger says. Assumes nothing.
+-- Losses on a picture, rank by rank: what the calls find missing, and beyond recovery, is what the ledger says.
 use Prim.Native.Nat.{ℕ, _+_, _*_, _/_, _%_, _<_}
 use mathlib.Core.Path.{_≡_, refl, ap, ap₂, _∙_, subst}
 use mathlib.Core.List.{List}

@@ -1,4 +1,4 @@
--- The picture of a ledger: the sizes of its parts, and that they are read back from the bytes. Assumes nothing.
+-- The picture of a ledger: the sizes of its parts, and that they are read back from the bytes.
 use Prim.Native.Nat.{ℕ, _+_, _*_, _/_, _%_}
 use mathlib.Core.Path.{_≡_, refl}
 use mathlib.Core.List.{List}

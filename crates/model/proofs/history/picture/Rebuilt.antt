@@ -1,4 +1,4 @@
--- Rebuilding on a picture: the slot of a unit in service, or of a unit out at a rank that can be rebuilt, is its record's bytes. Assumes nothing.
+-- Rebuilding on a picture: the slot of a unit in service, or of a unit out at a rank that can be rebuilt, is its record's bytes.
 use Prim.Native.Nat.{ℕ, _+_, _*_, _-_, _/_, _%_, _<_}
 use mathlib.Core.Path.{_≡_, sym, ap, ap₂, _∙_}
 use mathlib.Core.List.{List, _++_}

@@ -1,4 +1,4 @@
--- Records and check records as bytes: what is read back from them, and a check record where one record changes. Assumes nothing.
+-- Records and check records as bytes: what is read back from them, and a check record where one record changes.
 use Prim.Native.Nat.{ℕ, _*_, _<_}
 use mathlib.Core.Path.{_≡_, refl, sym, ap, ap₂, _∙_}
 use mathlib.Core.List.{List, _++_}

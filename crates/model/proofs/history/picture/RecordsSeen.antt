@@ -1,4 +1,4 @@
--- The records of a unit in service, read from a picture by rank: the bytes of the ledger's list. Assumes nothing.
+-- The records of a unit in service, read from a picture by rank: the bytes of the ledger's list.
 use Prim.Native.Nat.{ℕ, _<_}
 use mathlib.Core.Path.{_≡_, _∙_}
 use mathlib.Core.List.{List, map}

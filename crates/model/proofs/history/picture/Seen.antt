@@ -1,4 +1,4 @@
--- What the calls read from a picture is what the ledger says. Assumes nothing.
+-- What the calls read from a picture is what the ledger says.
 use Prim.Native.Nat.{ℕ, _+_, _*_, _-_, _/_, _≤_, _<_}
 use mathlib.Core.Path.{_≡_, refl, sym, ap, ap₂, _∙_}
 use mathlib.Core.List.{List}

@@ -1,4 +1,4 @@
--- The picture of a valid ledger is sound, clause by clause. Assumes nothing.
+-- The picture of a valid ledger is sound, clause by clause.
 use Prim.Native.Nat.{ℕ, _+_, _*_, _/_, _%_, _≤_, _<_}
 use mathlib.Core.Path.{_≡_, refl, sym, ap, _∙_, subst}
 use mathlib.Core.List.{List}

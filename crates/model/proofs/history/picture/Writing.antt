@@ -1,5 +1,5 @@
 -- One slot written, and followed in the check units: on parts that are a ledger's picture this leaves the picture of the ledger with that record.
--- Nothing is asked of the ledger but records that bytes can hold. Assumes nothing.
+-- Nothing is asked of the ledger but records that bytes can hold.
 use Prim.Native.Nat.{ℕ, _+_, _*_, _/_, _%_, _<_}
 use mathlib.Core.Path.{_≡_, refl, sym, ap, _∙_}
 use mathlib.Core.List.{List}

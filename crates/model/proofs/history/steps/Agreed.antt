@@ -1,4 +1,4 @@
--- Each further call on a picture: its number and its answer are the ledger's. Assumes nothing.
+-- Each further call on a picture: its number and its answer are the ledger's.
 use Prim.Native.Nat.{ℕ}
 use mathlib.Core.List.{List}
 use Rattle.model.specs.history.Ledger.{Ledger}

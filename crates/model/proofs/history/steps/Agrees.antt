@@ -1,4 +1,4 @@
--- What a history asks of a further call: on the picture of a valid ledger its number and its answer are the ledger's. Assumes nothing.
+-- What a history asks of a further call: on the picture of a valid ledger its number and its answer are the ledger's.
 use Prim.Native.Nat.{ℕ}
 use mathlib.Core.Path.{_≡_}
 use mathlib.Core.List.{List}

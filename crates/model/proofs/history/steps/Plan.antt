@@ -1,4 +1,4 @@
--- The plan on a picture is the ledger's: each record goes where the grown ledger has its key. Assumes nothing.
+-- The plan on a picture is the ledger's: each record goes where the grown ledger has its key.
 use Prim.Native.Nat.{ℕ, suc, _/_, _≤_, _<_}
 use mathlib.Core.Path.{_≡_, refl, sym, ap, _∙_, subst}
 use mathlib.Core.Logic.{_⊎_, inl, inr, ⊎-elim}

@@ -1,4 +1,4 @@
--- Asking for a plan, and a commit, on a picture: number and answer are the ledger's. Assumes nothing.
+-- Asking for a plan, and a commit, on a picture: number and answer are the ledger's.
 use Prim.Native.Nat.{ℕ}
 use mathlib.Core.Path.{_≡_, sym, ap, ap₂, _∙_, subst}
 use mathlib.Core.List.{List, _++_}

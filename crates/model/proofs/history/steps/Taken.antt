@@ -1,5 +1,5 @@
 -- Every list of steps: on a picture it answers as the ledger does and leaves the ledger's picture; and the store and the ledger that it leaves are those
--- of the base calls that it counts as. Nothing here knows which further calls there are. Assumes nothing.
+-- of the base calls that it counts as. Nothing here knows which further calls there are.
 use Prim.Native.Nat.{ℕ}
 use mathlib.Core.Path.{_≡_, refl, ap, _∙_, subst}
 use mathlib.Core.List.{List, [], _∷_}

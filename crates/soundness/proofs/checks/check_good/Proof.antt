@@ -1,4 +1,4 @@
--- `soundness::checks::check_good` meets its contract. Assumes nothing.
+-- `soundness::checks::check_good` meets its contract.
 use Prim.Native.Nat.{_+_}
 use mathlib.Core.Path.{refl, sym, ap, _∙_}
 use native.Mathlib.Omega.{arith}

@@ -1,4 +1,4 @@
--- `soundness::checks::checks_good` meets its contract. Assumes nothing.
+-- `soundness::checks::checks_good` meets its contract.
 use Prim.Native.Nat.{_-_, _/_}
 use native.Mathlib.Omega.{arith}
 use borrow.Author.Needs.{needs}

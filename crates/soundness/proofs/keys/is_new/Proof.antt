@@ -1,4 +1,4 @@
--- `soundness::keys::is_new` meets its contract. Assumes nothing.
+-- `soundness::keys::is_new` meets its contract.
 use Prim.Native.Nat.{_-_}
 use mathlib.Core.Bool.{not}
 use mathlib.Core.Path.{refl, ap}

@@ -1,4 +1,4 @@
--- `soundness::keys::key` meets its contract. Assumes nothing.
+-- `soundness::keys::key` meets its contract.
 use borrow.Author.Needs.{needs}
 use Rattle.buffer.specs.Strided.{strided32}
 use Rattle.soundness.proofs.keys.key.Statement.{statement}

@@ -1,4 +1,4 @@
--- `soundness::keys::mask_of` meets its contract. Assumes nothing.
+-- `soundness::keys::mask_of` meets its contract.
 use mathlib.Core.Path.{_∙_}
 use Prim.Native.Nat.{ℕ, _-_, _%_, _≤_}
 use native.Mathlib.Omega.{arith}

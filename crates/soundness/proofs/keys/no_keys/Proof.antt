@@ -1,4 +1,4 @@
--- `soundness::keys::no_keys` meets its contract. Assumes nothing.
+-- `soundness::keys::no_keys` meets its contract.
 use Prim.Native.Nat.{_-_}
 use mathlib.Core.Path.{refl}
 use lib.Dec.{eqb}

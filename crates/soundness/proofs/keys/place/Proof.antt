@@ -1,4 +1,4 @@
--- `soundness::keys::place` meets its contract. Assumes nothing.
+-- `soundness::keys::place` meets its contract.
 use Prim.Native.Nat.{ℕ, _*_, _/_, _%_}
 use mathlib.Core.Path.{ap}
 use native.Mathlib.Nat.{mod-lt}

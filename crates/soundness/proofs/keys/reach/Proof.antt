@@ -1,5 +1,5 @@
 -- `soundness::keys::reach` meets its contract. The loop runs over the turned keys; what is known of the key that a turn has read is said once, and the
--- needs behind it use it. Assumes nothing.
+-- needs behind it use it.
 use Prim.Native.Nat.{ℕ, _*_, _-_}
 use mathlib.Core.Bool.{false}
 use mathlib.Core.List.{List}

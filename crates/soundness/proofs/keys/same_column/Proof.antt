@@ -1,4 +1,4 @@
--- `soundness::keys::same_column` meets its contract. Assumes nothing.
+-- `soundness::keys::same_column` meets its contract.
 use Prim.Native.Nat.{_-_}
 use lib.Dec.{eqb}
 use borrow.Author.Needs.{needs}

@@ -1,4 +1,4 @@
--- `soundness::keys::same_lists` meets its contract. Assumes nothing.
+-- `soundness::keys::same_lists` meets its contract.
 use Prim.Native.Nat.{_+_, _*_, _-_}
 use mathlib.Core.Bool.{_&&_, and-false}
 use borrow.Author.Needs.{needs}

@@ -1,4 +1,4 @@
--- `soundness::keys::same_pair` meets its contract. Assumes nothing.
+-- `soundness::keys::same_pair` meets its contract.
 use mathlib.Core.Path.{ap₂, _∙_}
 use native.Mathlib.Omega.{arith}
 use lib.Dec.{eqb}

@@ -1,4 +1,4 @@
--- `soundness::keys::turned_key` meets its contract. Assumes nothing.
+-- `soundness::keys::turned_key` meets its contract.
 use borrow.Author.Needs.{needs}
 use Rattle.soundness.specs.Keys.{turnedKeys}
 use Rattle.soundness.proofs.keys.turned_key.Statement.{statement}

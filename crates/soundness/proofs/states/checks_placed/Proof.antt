@@ -1,4 +1,4 @@
--- `soundness::states::checks_placed` meets its contract. Assumes nothing.
+-- `soundness::states::checks_placed` meets its contract.
 use Prim.Native.Nat.{_+_, _-_}
 use mathlib.Core.Path.{ap₂, _∙_}
 use borrow.Author.Needs.{needs}

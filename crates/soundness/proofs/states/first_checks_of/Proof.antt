@@ -1,4 +1,4 @@
--- `soundness::states::first_checks_of` meets its contract. Assumes nothing.
+-- `soundness::states::first_checks_of` meets its contract.
 use mathlib.Core.List.{[], _∷_}
 use borrow.Author.Needs.{needs}
 use Rattle.buffer.specs.Loops.{entries}

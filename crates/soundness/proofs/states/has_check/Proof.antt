@@ -1,4 +1,4 @@
--- `soundness::states::has_check` meets its contract. Assumes nothing.
+-- `soundness::states::has_check` meets its contract.
 use borrow.Author.Needs.{needs}
 use Rattle.model.specs.Sound.{checkPlaced}
 use Rattle.soundness.proofs.states.has_check.Statement.{statement}

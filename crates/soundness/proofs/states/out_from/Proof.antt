@@ -1,4 +1,4 @@
--- `soundness::states::out_from` meets its contract. Assumes nothing.
+-- `soundness::states::out_from` meets its contract.
 use mathlib.Core.Path.{refl, ap}
 use mathlib.Core.Logic.{⊎-elim}
 use Prim.Native.Nat.{_+_, _-_}

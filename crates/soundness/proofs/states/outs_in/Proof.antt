@@ -1,4 +1,4 @@
--- `soundness::states::outs_in` meets its contract. Assumes nothing.
+-- `soundness::states::outs_in` meets its contract.
 use borrow.Author.Needs.{needs}
 use Rattle.soundness.proofs.Endings.{group-outs}
 use Rattle.soundness.proofs.states.outs_in.Statement.{statement}

@@ -1,4 +1,4 @@
--- `soundness::states::outs_of` meets its contract. Assumes nothing.
+-- `soundness::states::outs_of` meets its contract.
 use mathlib.Core.List.{[], _∷_}
 use borrow.Author.Needs.{needs}
 use Rattle.buffer.specs.Loops.{entries}

@@ -1,5 +1,4 @@
 -- `soundness::states::ranges_hold` meets its contract: each test that fails is one of the ranges, and where none fails the last test decides.
--- Assumes nothing.
 use mathlib.Core.Bool.{and-false}
 use mathlib.Core.Path.{refl, ap, _∙_}
 use lib.Dec.{leb}

@@ -1,4 +1,4 @@
--- `soundness::states::state_fits` meets its contract. Assumes nothing.
+-- `soundness::states::state_fits` meets its contract.
 use Rattle.buffer.specs.Choice.{pick}
 use Rattle.model.specs.Sound.{stateFits}
 use Rattle.soundness.proofs.states.state_fits.Statement.{statement}

@@ -1,4 +1,4 @@
--- `soundness::states::units_placed` meets its contract. Assumes nothing.
+-- `soundness::states::units_placed` meets its contract.
 use Prim.Native.Nat.{_+_, _-_}
 use mathlib.Core.Path.{ap, _∙_}
 use lib.Dec.{ltb}

@@ -1,4 +1,4 @@
--- `soundness::units::count_units` meets its contract. Assumes nothing.
+-- `soundness::units::count_units` meets its contract.
 use Prim.Native.Nat.{_-_, _/_}
 use mathlib.Core.Path.{_≡_, refl}
 use native.Mathlib.Omega.{arith}

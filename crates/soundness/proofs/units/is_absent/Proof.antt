@@ -1,4 +1,4 @@
--- `soundness::units::is_absent` meets its contract. What is known at a place is said once, and the needs behind it use it. Assumes nothing.
+-- `soundness::units::is_absent` meets its contract. What is known at a place is said once, and the needs behind it use it.
 use mathlib.Core.Path.{_≡_, refl}
 use borrow.Author.Needs.{needs}
 use Rattle.buffer.specs.TestLaws.{is-no, is-yes}

@@ -1,4 +1,4 @@
--- `soundness::units::lost_count` meets its contract. What is known at a place is said once, and the needs behind it use it. Assumes nothing.
+-- `soundness::units::lost_count` meets its contract. What is known at a place is said once, and the needs behind it use it.
 use Prim.Native.Nat.{ℕ, _+_, _*_, _/_}
 use mathlib.Core.Bool.{false, and-false}
 use mathlib.Core.List.{List}

@@ -1,4 +1,4 @@
--- `soundness::units::served_count` meets its contract. What is known at a place is said once, and the needs behind it use it. Assumes nothing.
+-- `soundness::units::served_count` meets its contract. What is known at a place is said once, and the needs behind it use it.
 use Prim.Native.Nat.{_/_}
 use mathlib.Core.Logic.{⊎-elim}
 use mathlib.Core.Path.{_≡_, refl}

@@ -1,4 +1,4 @@
--- `soundness::units::uncounted` meets its contract. Assumes nothing.
+-- `soundness::units::uncounted` meets its contract.
 use mathlib.Core.Path.{refl}
 use Rattle.buffer.specs.Loops.{entries}
 use Rattle.soundness.proofs.units.uncounted.Statement.{statement}

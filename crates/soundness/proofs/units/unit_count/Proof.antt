@@ -1,4 +1,4 @@
--- `soundness::units::unit_count` meets its contract. Assumes nothing.
+-- `soundness::units::unit_count` meets its contract.
 use Prim.Native.Nat.{_+_}
 use mathlib.Core.Path.{refl, sym, ap, _∙_}
 use borrow.Author.Tests.{lt-ltb, le-ltb}

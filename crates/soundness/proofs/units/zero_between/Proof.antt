@@ -1,4 +1,4 @@
--- `soundness::units::zero_between` meets its contract. Assumes nothing.
+-- `soundness::units::zero_between` meets its contract.
 use borrow.Author.Needs.{needs}
 use Rattle.buffer.specs.Bytes.{part}
 use Rattle.soundness.specs.Pieces.{zeroBetween}

@@ -1,4 +1,4 @@
--- `splitting::dealing::clear_from` meets its contract. Assumes nothing.
+-- `splitting::dealing::clear_from` meets its contract.
 use borrow.Author.Needs.{needs}
 use mathlib.Core.Path.{refl, ap, _∙_}
 use native.Mathlib.Omega.{arith}

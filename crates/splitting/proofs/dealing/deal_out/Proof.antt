@@ -1,4 +1,4 @@
--- `splitting::dealing::deal_out` meets its contract. Assumes nothing.
+-- `splitting::dealing::deal_out` meets its contract.
 use borrow.Author.Needs.{needs}
 use mathlib.Core.Logic.{⊎-elim}
 use Prim.Native.Nat.{_-_}

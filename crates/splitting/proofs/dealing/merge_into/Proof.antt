@@ -1,4 +1,4 @@
--- `splitting::dealing::merge_into` meets its contract. Assumes nothing.
+-- `splitting::dealing::merge_into` meets its contract.
 use borrow.Author.Needs.{needs}
 use Prim.Native.Nat.{_-_, _+_}
 use native.Mathlib.Omega.{arith}

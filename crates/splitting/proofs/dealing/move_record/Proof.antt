@@ -1,4 +1,4 @@
--- `splitting::dealing::move_record` meets its contract. Assumes nothing.
+-- `splitting::dealing::move_record` meets its contract.
 use borrow.Author.Needs.{needs}
 use native.Mathlib.Omega.{arith}
 use native.Mathlib.Nat.{add-sub-cancel-left}

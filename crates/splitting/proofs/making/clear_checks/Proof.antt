@@ -1,4 +1,4 @@
--- `splitting::making::clear_checks` meets its contract. Assumes nothing.
+-- `splitting::making::clear_checks` meets its contract.
 use borrow.Author.Needs.{needs}
 use native.Mathlib.Omega.{arith}
 use Prim.Native.Nat.{_+_, _*_}

@@ -1,4 +1,4 @@
--- `splitting::making::clear_first` meets its contract. Assumes nothing.
+-- `splitting::making::clear_first` meets its contract.
 use borrow.Author.Needs.{needs}
 use mathlib.Core.Path.{ap, _∙_}
 use Rattle.model.specs.Layout.{bytes, view}

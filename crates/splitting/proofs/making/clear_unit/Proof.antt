@@ -1,4 +1,4 @@
--- `splitting::making::clear_unit` meets its contract. Assumes nothing.
+-- `splitting::making::clear_unit` meets its contract.
 use borrow.Author.Needs.{needs}
 use mathlib.Core.Path.{refl, ap, _∙_}
 use native.Mathlib.Omega.{arith}

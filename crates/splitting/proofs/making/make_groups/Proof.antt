@@ -1,4 +1,4 @@
--- `splitting::making::make_groups` meets its contract. Assumes nothing.
+-- `splitting::making::make_groups` meets its contract.
 use borrow.Author.Needs.{needs}
 use mathlib.Core.Path.{ap, _∙_}
 use mathlib.Core.Bool.{true}

@@ -1,4 +1,4 @@
--- `splitting::raising::add_check` meets its contract. Assumes nothing.
+-- `splitting::raising::add_check` meets its contract.
 use Prim.Native.Nat.{_+_}
 use mathlib.Core.Path.{refl, ap}
 use borrow.Author.Needs.{needs}

@@ -1,4 +1,4 @@
--- `splitting::raising::add_checks` meets its contract. Assumes nothing.
+-- `splitting::raising::add_checks` meets its contract.
 use Prim.Native.Nat.{_+_, _*_, _-_}
 use borrow.Author.Needs.{needs}
 use native.Mathlib.Omega.{arith}

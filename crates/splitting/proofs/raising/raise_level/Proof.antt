@@ -1,4 +1,4 @@
--- `splitting::raising::raise_level` meets its contract. Assumes nothing.
+-- `splitting::raising::raise_level` meets its contract.
 use mathlib.Core.Path.{refl}
 use borrow.Author.Needs.{needs}
 use Rattle.splitting.proofs.Raised.{level-raised}

@@ -1,4 +1,4 @@
--- `splitting::states::mark` meets its contract. Assumes nothing.
+-- `splitting::states::mark` meets its contract.
 use borrow.Author.Needs.{needs}
 use mathlib.Core.Path.{ap}
 use native.Mathlib.Omega.{arith}

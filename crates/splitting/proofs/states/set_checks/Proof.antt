@@ -1,4 +1,4 @@
--- `splitting::states::set_checks` meets its contract. Assumes nothing.
+-- `splitting::states::set_checks` meets its contract.
 use borrow.Author.Needs.{needs}
 use mathlib.Core.Path.{ap}
 use native.Mathlib.Omega.{arith}

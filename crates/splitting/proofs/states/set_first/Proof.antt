@@ -1,4 +1,4 @@
--- `splitting::states::set_first` meets its contract. Assumes nothing.
+-- `splitting::states::set_first` meets its contract.
 use borrow.Author.Needs.{needs}
 use mathlib.Core.Path.{ap, _∙_}
 use Rattle.model.specs.Layout.{bytes, view}

@@ -1,4 +1,4 @@
--- `splitting::states::state_at` meets its contract. Assumes nothing.
+-- `splitting::states::state_at` meets its contract.
 use mathlib.Core.Path.{sym}
 use Rattle.buffer.specs.ChoiceLaws.{pick-true, pick-false}
 use Rattle.splitting.proofs.states.state_at.Statement.{statement}

@@ -1,4 +1,4 @@
--- `lay_out::header` meets its contract. Assumes nothing.
+-- `lay_out::header` meets its contract.
 use borrow.Author.Needs.{needs}
 use mathlib.Core.Path.{refl}
 use Rattle.buffer.specs.Bytes.{bytes32, zeros}

@@ -1,4 +1,4 @@
--- `lay_out::lay_out` meets its contract. Assumes nothing.
+-- `lay_out::lay_out` meets its contract.
 use borrow.Author.Needs.{needs}
 use Prim.Native.Nat.{ℕ, _-_}
 use mathlib.Core.Path.{sym, ap, _∙_}

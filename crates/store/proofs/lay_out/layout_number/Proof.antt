@@ -1,4 +1,4 @@
--- `lay_out::layout_number` meets its contract. Assumes nothing.
+-- `lay_out::layout_number` meets its contract.
 use borrow.Author.Needs.{needs}
 use Rattle.buffer.specs.Choice.{pick}
 use Rattle.model.specs.Numbers.{firstOf}
