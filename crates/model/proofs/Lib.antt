@@ -1,12 +1,14 @@
+pub mod Order
 pub mod Refusals
 pub mod InPlace
 pub mod history
 pub mod Further
-pub mod Demand1
 pub mod Left
 pub mod Level
 pub mod Judged
 pub mod Planning
+pub mod Misused
+pub mod Demand1
 pub mod MadeAnew
 pub mod RepairKeeps
 pub mod Hashing
