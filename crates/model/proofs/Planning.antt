@@ -142,9 +142,11 @@ module _ (s : List ℕ) where
   short lent e =
       by-test (λ _. (numberIn s grow ≡ 0) × (length lent < length (planIn (view s)))) (eqb (numberIn s grow) 0)
       (λ q.
-      let z : numberIn s grow ≡ 0 = eqb-true _ 0 q in
-      (z, by-pick (λ (n : ℕ). n ≡ 7 → length lent < length (planIn v)) (ltb (length lent) (length (planIn v))) 7 0
-      (λ f _. ltb-true _ _ f) (λ _ f. absurd (omega (arith, f))) (sym (asking z lent) ∙ e)))
+      let z : numberIn s grow ≡ 0 = eqb-true _ 0 q in (
+        z,
+        by-pick (λ (n : ℕ). n ≡ 7 → length lent < length (planIn v)) (ltb (length lent) (length (planIn v))) 7 0
+            (λ f _. ltb-true _ _ f) (λ _ f. absurd (omega (arith, f))) (sym (asking z lent) ∙ e),
+      ))
       (λ q. absurd (grow-not-7 (sym (both-as-grow (eqb-false _ 0 q) lent 0 .0) ∙ e)))
 
   -- the number of a commit, where a grow is granted
