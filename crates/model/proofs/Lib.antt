@@ -5,6 +5,7 @@ pub mod history
 pub mod Further
 pub mod Left
 pub mod Level
+pub mod Exactly8
 pub mod Judged
 pub mod Planning
 pub mod Misused
