@@ -2,25 +2,24 @@
 use Prim.Native.Nat.{ℕ, _+_, _*_, _/_, _<_}
 use mathlib.Core.Path.{_≡_, refl, sym, ap, _∙_}
 use mathlib.Core.Logic.{_≢_, inl, inr, ⊎-elim}
-use mathlib.Core.List.{List, [], _∷_}
+use mathlib.Core.List.{List}
 use mathlib.Core.Bool.{Bool, true, false, not, _&&_, _||_}
 use native.Mathlib.Omega.{arith}
-use lib.Dec.{eqb, ltb, leb}
+use lib.Dec.{eqb, ltb}
 use lib.ListN.{length}
 use borrow.Author.Tests.{eq-eqb, ne-eqb, eqb-true, eqb-false, ltb-true, lt-ltb, le-ltb, lt-leb, leb-false, not-true}
-use Rattle.buffer.specs.Choice.{pick}
-use Rattle.buffer.specs.ChoiceLaws.{by-test, by-pick}
-use Rattle.buffer.specs.TestLaws.{and-true, and-first, and-second, or-else, or-other, not-both}
+use Rattle.buffer.specs.ChoiceLaws.{by-test}
+use Rattle.buffer.specs.TestLaws.{and-true, and-first, and-second, or-else, or-other}
 use Rattle.buffer.specs.Range.{all, count, first}
 use Rattle.buffer.specs.RangeLaws.{all-fails, count-fails, count-zero, count-pos, first-found, first-holds}
 use Rattle.group.specs.Widths.{fieldBytes}
 use Rattle.group.specs.Members.{checksServing, rebuildable}
 use Rattle.model.specs.Layout.{Store, view, unitsIn}
-use Rattle.model.specs.Reads.{homeIn, listedFill, listedRank, missingIn, rebuildableIn, keysLostIn, keyBeyondIn, beyondIn, lostIn}
+use Rattle.model.specs.Reads.{homeIn, listedRank, missingIn, rebuildableIn, keysLostIn, keyBeyondIn, beyondIn, lostIn}
 use Rattle.model.specs.LossLaws.{missing-out, missing-listed, out-missing, first-rank}
 use Rattle.model.specs.Sound.{sound}
 use Rattle.model.specs.SoundSays.{ranged, units-few}
-use Rattle.model.specs.Numbers.{read, list, repair, firstOf, refusalsIn, numberIn}
+use Rattle.model.specs.Numbers.{read, list, repair, refusalsIn, numberIn}
 use Rattle.model.specs.RowLaws.{row-holds, row-fails, lacks-first}
 use Rattle.model.specs.Judged.{KeysLost, TooManyMissing, KeyBeyond, GroupBeyond, Is8Where}
 

@@ -1,5 +1,5 @@
--- The store that a granted call leaves, part by part, of any sound store: read back from the bytes (`left-same`), for a repair (`repair-left`), a raise
--- (`raise-left`) and a grow (`grow-left`); and the units that keep their bytes (`unit-kept`).
+-- The store that a granted call leaves, part by part, of any sound store: read back from the bytes (`left-same`), for a repair (`repair-left`) and a grow
+-- (`grow-left`); and the units that keep their bytes (`unit-kept`). For a raise it is in `Raised`.
 use Prim.Native.Nat.{ℕ, _-_, _<_}
 use mathlib.Core.Path.{_≡_, refl}
 use mathlib.Core.List.{List}
@@ -16,8 +16,8 @@ use Rattle.model.specs.LayoutLaws.{Shaped, Same, view-bytes, view-shaped
 use Rattle.model.specs.Reads.{stateIn, beyondIn}
 use Rattle.model.specs.Sound.{sound}
 use Rattle.model.specs.SoundSays.{ranged, units-some, units-few}
-use Rattle.model.specs.Changes.{repaired, grown, raised}
-use Rattle.model.specs.Numbers.{Call, repair, grow, raise, refusalsIn, numberIn}
+use Rattle.model.specs.Changes.{repaired, grown}
+use Rattle.model.specs.Numbers.{Call, repair, grow, refusalsIn, numberIn}
 use Rattle.model.specs.RowLaws.{Free}
 use Rattle.model.specs.Perform.{grantedIn, afterIn, perform}
 use Rattle.model.specs.PerformLaws.{none-holds}
@@ -25,7 +25,6 @@ use Rattle.model.specs.MadeAnew.{leftBy}
 use Rattle.model.specs.history.Runs.{unitIn}
 use Rattle.model.proofs.history.alike.Alike.{Alike, alike-refl, left-shaped}
 use Rattle.model.proofs.history.alike.Repaired.{repaired-alike}
-use Rattle.model.proofs.history.alike.Raised.{raised-alike}
 use Rattle.model.proofs.history.alike.Numbers.{split-inside}
 use Rattle.model.proofs.history.alike.Dealt.{grown-shaped}
 
@@ -75,19 +74,6 @@ module _ (s : List ℕ) (g : ℕ) (zero : numberIn s (repair g) ≡ 0) where
       let v : Store = view s in
       left-same s (repair g) zero (repaired v g) refl
       (left-shaped (repaired v g) (repaired v g) (repaired-alike v v (itself s repair-sound) g repair-group repair-near))
-
--- ---- a granted raise
-
-module _ (s : List ℕ) (zero : numberIn s raise ≡ 0) where
-  pub raise-sound : sound s ≡ true
-  unfolding refusalsIn
-  raise-sound = not-false (sound s) (free s raise zero .0)
-
-  pub raise-left : Same (leftBy s raise) (raised (view s))
-  unfolding grantedIn
-  raise-left =
-      let v : Store = view s in
-      left-same s raise zero (raised v) refl (left-shaped (raised v) (raised v) (raised-alike v v (itself s raise-sound)))
 
 -- ---- a granted grow
 

@@ -1,9 +1,10 @@
 pub mod Order
+pub mod Left
+pub mod Raised
 pub mod Refusals
 pub mod InPlace
 pub mod history
 pub mod Further
-pub mod Left
 pub mod Level
 pub mod Exactly8
 pub mod Judged

@@ -21,7 +21,8 @@ use Rattle.model.specs.MadeAnew.{HoldsCheckRecords, leftBy, MadeAnew}
 use Rattle.model.proofs.history.alike.Alike.{left-shaped}
 use Rattle.model.proofs.history.alike.Numbers.{split-before}
 use Rattle.model.proofs.history.alike.Dealt.{shrunk-alike}
-use Rattle.model.proofs.Left.{itself, free, left-same, repair-left, raise-left, grow-left}
+use Rattle.model.proofs.Left.{itself, free, left-same, repair-left, grow-left}
+use Rattle.model.proofs.Raised.{raise-left}
 
 -- what check unit c holds, in stores whose parts are the same
 same-holds : (s t : Store) → Same s t → (c : ℕ) → c < 12 → HoldsCheckRecords t c → HoldsCheckRecords s c

@@ -1,12 +1,7 @@
 -- The rows of every call stand in the table's order.
-use Prim.Native.Nat.{ℕ}
-use mathlib.Core.Path.{_≡_, refl}
-use mathlib.Core.List.{List, map}
-use mathlib.Core.Bool.{Bool, true}
+use mathlib.Core.Path.{refl}
 use Rattle.buffer.specs.Choice.{pick}
-use Rattle.model.specs.Layout.{Store}
-use Rattle.model.specs.Numbers.{Call, teach, correct, erase, read, readInPlace, list, unitOut, repair, grow, shrink, raise, refusalsIn}
-use Rattle.model.specs.history.Ledger.{Ledger}
+use Rattle.model.specs.Numbers.{teach, correct, erase, read, readInPlace, list, unitOut, repair, grow, shrink, raise, refusalsIn}
 use Rattle.model.specs.history.Table.{refusals}
 use Rattle.model.specs.history.Further.{plan, commit, planRows, commitRows, furtherRefusalsIn, furtherRefusals}
 use Rattle.model.specs.history.Steps.{Step, call, further}

@@ -7,7 +7,7 @@ use mathlib.Core.Bool.{Bool, true, false, not, _||_}
 use native.Mathlib.Omega.{arith}
 use lib.Dec.{eqb, ltb}
 use lib.ListN.{length, drop}
-use borrow.Author.Tests.{eq-eqb, ne-eqb, lt-ltb, le-ltb, le-leb}
+use borrow.Author.Tests.{eq-eqb, ne-eqb, lt-ltb, le-ltb}
 use Rattle.buffer.specs.ChoiceLaws.{pick-true, pick-false}
 use Rattle.buffer.specs.TestLaws.{and-false-first}
 use Rattle.buffer.specs.Bytes.{zeros, part}
@@ -19,7 +19,7 @@ use Rattle.model.specs.Numbers.{Call, teach, correct, erase, read, readI
 use Rattle.model.specs.RowLaws.{first-low, free-first, numbered-in, row-holds, row-fails, row-pair}
 use Rattle.model.specs.Perform.{refusal, plain, copied, lent, listed, output, reply, placeIn}
 use Rattle.model.specs.Perform.{givenIn, grantedIn, answerIn, afterIn, outcome, perform, laidOut, layOutNumber, layOut}
-use Rattle.model.specs.Demand1.{Refuses, Misused, LaysOut}
+use Rattle.model.specs.Demand1.{Refuses, LaysOut}
 
 -- ---- the numbers are those of the table
 
