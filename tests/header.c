@@ -405,10 +405,14 @@ static void posts_in_sixteens(void)
 static void two_strokes(void)
 {
     static const struct lhrs_move filler = {0xEE, 0xEE, 0xEE, 0xEE};
-    static const struct lhrs_move due[] = {{0, 1, 1, 1}, {0, 2, 0, 1}};
+    static const uint8_t due[] = {0, 1, 1, 1, 0, 2, 0, 1};
     struct lhrs_move moves[4];
     size_t count = 99, i, j;
     expect("bytes of a move", sizeof moves[0], 4);
+    expect("place of old_unit", offsetof(struct lhrs_move, old_unit), 0);
+    expect("place of old_rank", offsetof(struct lhrs_move, old_rank), 1);
+    expect("place of new_unit", offsetof(struct lhrs_move, new_unit), 2);
+    expect("place of new_rank", offsetof(struct lhrs_move, new_rank), 3);
     expect("most moves", LHRS_MOST_MOVES, 64);
     for (i = 0; i < 4; i++)
         moves[i] = filler;
