@@ -217,8 +217,11 @@ static void compare_tests(const struct hall *hall)
     damage_keys(hall);
     for (size_t i = 0; i < sizeof out / sizeof out[0]; i++) {
         losing = *hall;
-        for (size_t j = 0; j < 4; j++)
-            (void)lhrs_out(losing.bytes, losing.length, out[i][j]);
+        for (size_t j = 0; j < 4; j++) {
+            uint8_t number = lhrs_out(losing.bytes, losing.length, out[i][j]);
+            int possible = number == 0 || number == LHRS_NOT_IN_PLACE || number == LHRS_UNIT_OUT;
+            require((uint8_t)possible, 1, "out");
+        }
         require((uint8_t)same_verdict(&losing), 1, "soundness with units out");
         damage_keys(&losing);
     }

@@ -1,7 +1,8 @@
 /*
  * Growing in two strokes: the electrician asks which records a third unit would take over, looks at
  * the moves, and only then puts it in. A position that is taught in between makes the list old: the
- * commit is refused, and the plan is asked for anew. Build and run it with examples/run;
+ * commit is refused, and the plan is asked for anew. The second unit is added in the same way while
+ * the store is empty: that plan has no moves. Build and run it with examples/run;
  * examples/growing.out is what it prints.
  */
 #include "lhrs.h"
@@ -11,7 +12,7 @@
 
 #define SLOTS 8u
 #define FIRST_POSTS 12u
-#define LATE_POST 16u
+#define LATE_POST 32u
 
 static uint8_t store[LHRS_LENGTH(SLOTS)];
 
@@ -35,11 +36,16 @@ static void teach(const char *what, uint32_t post)
     expect(what, lhrs_teach(store, sizeof store, post, field, LHRS_FIELD), LHRS_GRANTED);
 }
 
-/* Asks for the plan and shows it: the records that go to another unit, and how many stay. */
+/* Asks for the plan and shows it: the records that go to another unit, and how many stay. A unit
+   without records is split without a move. */
 static size_t ask(struct lhrs_move *moves, size_t room)
 {
     size_t count, i, staying = 0;
     expect("ask for the plan", lhrs_plan(store, sizeof store, moves, room, &count), LHRS_GRANTED);
+    if (count == 0) {
+        puts("  no moves: the unit that is split has no records");
+        return 0;
+    }
     for (i = 0; i < count; i++) {
         const struct lhrs_move *move = &moves[i];
         if (move->new_unit == move->old_unit) {
@@ -49,7 +55,7 @@ static size_t ask(struct lhrs_move *moves, size_t room)
         printf("  unit %u rank %u goes to unit %u rank %u\n", (unsigned)move->old_unit,
                (unsigned)move->old_rank, (unsigned)move->new_unit, (unsigned)move->new_rank);
     }
-    printf("  %u stay in unit %u\n", (unsigned)staying, count > 0 ? (unsigned)moves[0].old_unit : 0);
+    printf("  %u stay in unit %u\n", (unsigned)staying, (unsigned)moves[0].old_unit);
     return count;
 }
 
@@ -59,11 +65,13 @@ int main(void)
     size_t count;
     uint32_t post;
     expect("lay out", lhrs_lay_out(store, sizeof store, SLOTS), LHRS_GRANTED);
-    expect("grow to two units", lhrs_grow(store, sizeof store), LHRS_GRANTED);
+    count = ask(moves, LHRS_MOST_MOVES);
+    expect("commit to two units", lhrs_commit(store, sizeof store, moves, count, count),
+           LHRS_GRANTED);
     for (post = 1; post <= FIRST_POSTS; post++)
         teach("teach a position", post);
     count = ask(moves, LHRS_MOST_MOVES);
-    teach("teach a position meanwhile", 2 * LATE_POST);
+    teach("teach a position meanwhile", LATE_POST);
     expect("commit the plan as it was", lhrs_commit(store, sizeof store, moves, count, count),
            LHRS_NOT_THE_PLAN);
     count = ask(moves, LHRS_MOST_MOVES);

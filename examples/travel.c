@@ -106,7 +106,7 @@ static void read_positions(void)
    can. */
 static void list_positions(void)
 {
-    static uint8_t records[UNITS * SLOTS * LHRS_RECORD];
+    static uint8_t records[LHRS_LIST_MOST(SLOTS)];
     size_t count;
     expect("list", lhrs_list(store, sizeof store, records, sizeof records, &count), LHRS_GRANTED);
     for (size_t i = 0; i < count; i++) {

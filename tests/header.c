@@ -1,9 +1,10 @@
 /*
  * What include/lhrs.h says and the other tests do not show: a pointer with length 0 may be null,
- * and what its macros read, the check units of each group by the level too; widths; what its inline
- * functions make of a field and of a record, and that a stamp comes back as it was given; which
- * losses are beyond recovery; keys numbered in sixteens lie in different units; a plan and its
- * commit; the limits of a segment, which numbers it is refused with, and how it is made and rebuilt.
+ * and what its macros read, the check units of each group by the level too; widths and versions;
+ * the most bytes of a list; the order of a move's fields; what its inline functions make of a field
+ * and of a record, and that a stamp comes back as it was given; which losses are beyond recovery;
+ * keys numbered in sixteens lie in different units; a plan and its commit; the limits of a segment,
+ * which numbers it is refused with, and how it is made and rebuilt.
  * It is C99 and C++98.
  * Build and run it with tests/header.
  */
@@ -68,6 +69,7 @@ static void list_into_nothing(void)
 /* What the macros read of a store with so many data units, at a level, with unit 0 in a state. */
 static void reads(unsigned units, unsigned level, enum lhrs_state first)
 {
+    expect("slots of a unit", LHRS_SLOTS(store), SLOTS);
     expect("units", LHRS_UNITS(store), units);
     expect("level", LHRS_LEVEL(store), level);
     expect("state of data unit 0", LHRS_STATE(store, 0), (size_t)first);
@@ -127,12 +129,13 @@ static void other_version(void)
 {
     static const uint8_t others[] = {0, 1, 2, 3, 5};
     size_t i;
-    expect("version", store[0], 4);
+    expect("version", LHRS_STORE_VERSION, 4);
+    expect("version of a store", store[0], LHRS_STORE_VERSION);
     for (i = 0; i < sizeof others; i++) {
         store[0] = others[i];
         expect("grow, another version", lhrs_grow(store, sizeof store), LHRS_NOT_SOUND);
     }
-    store[0] = 4;
+    store[0] = LHRS_STORE_VERSION;
     expect("grow, version 4", lhrs_grow(store, sizeof store), LHRS_GRANTED);
 }
 
@@ -151,6 +154,26 @@ static void widths(void)
     expect("a byte when refused", block[0], 0);
     expect("lay out, 852 bytes", lhrs_lay_out(block, 852, 1), LHRS_GRANTED);
     expect("lay out, b = 65", lhrs_lay_out(block, 852, 65), LHRS_BAD_ARGUMENT);
+    expect("slots of a unit", LHRS_SLOTS(block), 1);
+    expect("most bytes of a list", LHRS_LIST_MOST(64), 24576);
+}
+
+/* Sixteen full units are listed into LHRS_LIST_MOST bytes, and not into one less. */
+static void longest_list(void)
+{
+    static uint8_t records[LHRS_LIST_MOST(SLOTS)];
+    size_t count, taught = 0;
+    uint32_t key;
+    expect("lay out", lhrs_lay_out(store, sizeof store, SLOTS), LHRS_GRANTED);
+    while (LHRS_UNITS(store) < 16)
+        expect("grow", lhrs_grow(store, sizeof store), LHRS_GRANTED);
+    for (key = 1; taught < 16 * SLOTS; key++)
+        taught += lhrs_teach(store, sizeof store, key, field, LHRS_FIELD) == LHRS_GRANTED;
+    expect("most bytes", LHRS_LIST_MOST(LHRS_SLOTS(store)), sizeof records);
+    expect("list", lhrs_list(store, sizeof store, records, sizeof records, &count), LHRS_GRANTED);
+    expect("bytes of the list", count * LHRS_RECORD, sizeof records);
+    expect("list, a byte less",
+           lhrs_list(store, sizeof store, records, sizeof records - 1, &count), LHRS_NO_ROOM);
 }
 
 /* Stamps with their bytes. */
@@ -405,10 +428,14 @@ static void posts_in_sixteens(void)
 static void two_strokes(void)
 {
     static const struct lhrs_move filler = {0xEE, 0xEE, 0xEE, 0xEE};
-    static const struct lhrs_move due[] = {{0, 1, 1, 1}, {0, 2, 0, 1}};
+    static const uint8_t due[] = {0, 1, 1, 1, 0, 2, 0, 1};
     struct lhrs_move moves[4];
     size_t count = 99, i, j;
     expect("bytes of a move", sizeof moves[0], 4);
+    expect("place of old_unit", offsetof(struct lhrs_move, old_unit), 0);
+    expect("place of old_rank", offsetof(struct lhrs_move, old_rank), 1);
+    expect("place of new_unit", offsetof(struct lhrs_move, new_unit), 2);
+    expect("place of new_rank", offsetof(struct lhrs_move, new_rank), 3);
     expect("most moves", LHRS_MOST_MOVES, 64);
     for (i = 0; i < 4; i++)
         moves[i] = filler;
@@ -539,6 +566,7 @@ int main(void)
     raise_everywhere();
     other_version();
     widths();
+    longest_list();
     fields_made_and_taken_apart();
     records_taken_apart();
     other_lengths();
