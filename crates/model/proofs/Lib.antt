@@ -9,6 +9,7 @@ pub mod Judged
 pub mod Planning
 pub mod MadeAnew
 pub mod RepairKeeps
+pub mod LeftAlone
 pub mod Hashing
 pub mod RebuiltSlots
 pub mod Recovered
