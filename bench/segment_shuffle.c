@@ -1,8 +1,8 @@
 /*
- * The byte coder by shuffles of 16 bytes, the way of the fastest libraries: SSSE3, so for x86-64 alone,
- * compiled with -O3 -mssse3. A product with a weight is the sum of two entries of 16, one by the low
- * half of a byte and one by its high half, and a shuffle looks up 16 at once. All sources of a block
- * are summed in registers. The bench runs it beside the library's.
+ * The byte coder by shuffles of 16 bytes: SSSE3, so for x86-64 alone, compiled with -O3 -mssse3. The
+ * fastest libraries do the same with wider vectors. A product with a weight is the sum of two entries
+ * of 16, one by the low half of a byte and one by its high half, and a shuffle looks up 16 at once.
+ * All sources of a block are summed in registers. The bench runs it beside the library's.
  */
 #include "segment_coders.h"
 

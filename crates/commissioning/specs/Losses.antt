@@ -1,28 +1,33 @@
 -- Commissioning value 10, worked anew for losses judged rank by rank (document 02, ask 5): the numbers that the ledger gives to some lists of calls,
 -- with two ranks to a unit. With two data units keys 1 and 3 lie in unit 1, keys 2 and 4 in unit 0.
 use Prim.Native.Nat.{ℕ}
-use mathlib.Core.Path.{_≡_, refl}
+use mathlib.Core.Path.{_≡_, refl, _∙_}
 use mathlib.Core.List.{List, [], _∷_}
+use native.Mathlib.Omega.{arith}
 use Rattle.algebra.specs.Polynomial.{All}
 use Rattle.buffer.specs.Choice.{pick}
 use Rattle.buffer.specs.Range.{all, first, count, sum}
 use Rattle.buffer.specs.Bytes.{zeros}
+use Rattle.buffer.specs.ByteLaws.{byte-zeros}
 use Rattle.buffer.specs.Table.{upd}
 use Rattle.group.specs.Widths.{fieldBytes}
 use Rattle.model.specs.Units.{powerBelow, splitPointer, address, digitSum, unitOf}
 use Rattle.model.specs.Numbers.{Call, teach, read, list, unitOut, repair, grow, raise, firstOf}
+use Rattle.model.specs.Perform.{plain, reply, layOutNumber, layOut}
 use Rattle.model.specs.Changes.{filterBy}
 use Rattle.model.specs.history.Ledger.{Ledger, empty, opened, home, rankOf, placed, isOut, state, outsOf, unitsOut, total, withRecords, groupOf}
 use Rattle.model.specs.history.Ledger.{missingOf, checksServingOf, rebuildableOf, keysLostOf, keyBeyondOf, beyondOf, lost, grownLedger, granted}
 use Rattle.model.specs.history.Table.{refusals, number}
-use Rattle.model.specs.history.Answers.{after}
+use Rattle.model.specs.history.Answers.{given, answer, after}
+use Rattle.model.specs.history.Steps.{Step, call, counted, ledgerLeft, stepAnswersIn, stepAnswer, afterStep, stepAnswers}
+use Rattle.model.proofs.history.claims.Demand3.{outlives}
 
 unfoldable pub numbers : Ledger → List Call → List ℕ
 numbers l [] = []
 numbers l (c ∷ cs) = number l c ∷ numbers (after l c) cs
 
 -- any field will do, and a buffer for four records
-abbrev taught : ℕ → Call
+abbrev pub taught : ℕ → Call
 taught k = teach k (zeros fieldBytes)
 
 abbrev readInto : ℕ → Call
@@ -55,3 +60,20 @@ unfolding runs numbers after number refusals firstOf granted grownLedger groupOf
     rebuildableOf checksServingOf missingOf total unitsOut outsOf state isOut placed rankOf home unitOf address digitSum powerBelow splitPointer zeros upd
     all first count sum pick
 value-10 = (refl, (refl, (refl, (refl, (refl, (refl, tt))))))
+
+-- The same of bytes. Level 1, two data units, key 1 taught: with units 0 and 1 out the repair of their group is granted, in every slice in which the store is
+-- laid out. Two units are out, and one check unit is in service.
+abbrev bothOut : List Step
+bothOut = call grow ∷ call (taught 1) ∷ call (unitOut 0) ∷ call (unitOut 1) ∷ call (repair 0) ∷ []
+
+by-ledger : stepAnswers (opened 2) bothOut ≡ plain 0 ∷ plain 0 ∷ plain 0 ∷ plain 0 ∷ plain 0 ∷ []
+unfolding stepAnswers stepAnswer afterStep counted ledgerLeft answer reply given after number refusals firstOf granted grownLedger groupOf withRecords opened
+    empty filterBy beyondOf keysLostOf rebuildableOf checksServingOf missingOf outsOf state isOut placed rankOf home unitOf address digitSum powerBelow
+    splitPointer zeros upd all first count sum pick
+by-ledger = refl
+
+pub both-out : (s : List ℕ) → layOutNumber s 2 ≡ 0
+    → stepAnswersIn (layOut s 2 .store) (call grow ∷ call (taught 1) ∷ call (unitOut 0) ∷ call (unitOut 1) ∷ call (repair 0) ∷ [])
+    ≡ plain 0 ∷ plain 0 ∷ plain 0 ∷ plain 0 ∷ plain 0 ∷ []
+both-out s zero =
+    outlives s 2 zero bothOut (tt, ((omega arith, λ i. omega (arith, byte-zeros fieldBytes i)), (tt, (tt, (tt, tt))))) .histories .answered ∙ by-ledger

@@ -25,16 +25,16 @@ use Rattle.model.specs.history.Ledger.{Rec, Ledger, recordAt, state}
 use Rattle.model.specs.history.Picture.{checkOver, picture}
 use Rattle.model.specs.history.Steps.{Step, StepsTyped}
 use Rattle.model.specs.history.Claims.{calls, left, recorded}
+use Rattle.model.proofs.Hashing.{linear-hashing, units-reached}
+use Rattle.model.proofs.MadeAnew.{made-anew}
+use Rattle.model.proofs.Recovered.{recovered}
+use Rattle.model.proofs.RepairKeeps.{repair-keeps}
 use Rattle.model.proofs.history.ledger.Valid.{Goods, Valid}
 use Rattle.model.proofs.history.picture.Records.{length-keys}
 use Rattle.model.proofs.history.picture.Seen.{size-seen, cstate-is}
 use Rattle.model.proofs.history.picture.Listed.{check-kept}
 use Rattle.model.proofs.history.claims.KeepsTaught.{whole}
 use Rattle.model.proofs.history.claims.Demand3.{typed-calls, same-ledger, outlives}
-use Rattle.model.proofs.Hashing.{linear-hashing, units-reached}
-use Rattle.model.proofs.MadeAnew.{made-anew}
-use Rattle.model.proofs.Recovered.{recovered}
-use Rattle.model.proofs.RepairKeeps.{repair-keeps}
 
 -- the check units in service of a valid ledger's picture
 picture-holds : (l : Ledger) (rest : List ℕ) → Valid l → HoldsLedger (view (picture l rest)) l

@@ -26,6 +26,7 @@ use Rattle.model.specs.Numbers.{read, list, repair, firstOf, refusalsIn,
 use Rattle.model.specs.RowLaws.{free-first, lacks-first}
 use Rattle.model.specs.Judged.{WithinLevel, LossesJudged}
 use Rattle.model.proofs.Level.{level-everywhere}
+use Rattle.model.proofs.Exactly8.{lost-keys, read-exactly, repair-exactly, list-exactly}
 
 -- a group in place that is not beyond recovery is repaired
 pub near-granted : (s : List ℕ) (g : ℕ) → sound s ≡ true → 4 * g < unitsIn (view s) → beyondIn (view s) g ≡ false → numberIn s (repair g) ≡ 0
@@ -106,10 +107,6 @@ module _ (s : List ℕ) (ok : sound s ≡ true) (k : ℕ) where
   read-near x e = lacks-first 8 (λ q. omega arith) _ (refl, (refl, (refl, (e, (refl, tt)))))
 
   module _ (key : k ≢ 0) (x : List ℕ) (fits : length x ≡ fieldBytes) where
-    read-lost : keysLostIn (view s) u ≡ true → numberIn s (read k x) ≡ 8
-    unfolding numberIn refusalsIn keyBeyondIn firstOf pick
-    read-lost e = rw (ne-eqb k 0 key, eq-eqb (length x) fieldBytes fits, ok, e)
-
     read-none : keysLostIn (view s) u ≡ false → listedFill (view s) u ≤ listedRank (view s) u k → numberIn s (read k x) ≡ 6
     unfolding numberIn refusalsIn keyBeyondIn firstOf pick
     read-none e l =
@@ -143,10 +140,12 @@ module _ (s : List ℕ) (ok : sound s ≡ true) (few : (u : ℕ) → u < 16 → 
 -- WHATEVER THE BYTES
 pub losses-judged : (s : List ℕ) → LossesJudged s
 losses-judged s = record {
+  read-exactly = read-exactly s;
+  repair-exactly = repair-exactly s;
+  list-exactly = list-exactly s;
   within-level = λ ok g l few. near-granted s g ok l (group-near s ok g l few);
   read-within-level = λ ok k x few. read-near s ok k x (key-near s ok k few);
   list-within-level = λ ok x few. list-near s ok few x;
   checks-alone = λ ok g l none. near-granted s g ok l (none-beyond (view s) g (λ p m. ne-eqb (view s .dstate (4 * g + p)) 2 (none p m)));
-  none-lists = λ ok k key x fits. read-lost s ok k key x fits;
-  not-listed = λ ok k key x fits. read-none s ok k key x fits;
+  not-listed = λ ok k key x fits kept. read-none s ok k key x fits (by-test (λ t. t ≡ false) _ (λ e. absurd (kept (lost-keys (view s) _ e))) (λ _. refl));
 }

@@ -1,5 +1,5 @@
 -- The store that a granted call leaves, part by part, of any sound store: read back from the bytes (`left-same`), and so for each call (`teach-left` to
--- `shrink-left`); and the units that keep their bytes (`unit-same`, `unit-kept`).
+-- `shrink-left`); and the units that keep their bytes (`unit-same`, `unit-kept`). For a raise it is in `Raised`.
 use Prim.Native.Nat.{ℕ, pred, _-_, _≤_, _<_}
 use mathlib.Core.Path.{_≡_, refl, sym, _∙_}
 use mathlib.Core.List.{List}
@@ -18,9 +18,9 @@ use Rattle.model.specs.Reads.{homeIn, fillIn, rankIn, stateIn, beyondIn}
 use Rattle.model.specs.ReadLaws.{fill-le}
 use Rattle.model.specs.Sound.{sound}
 use Rattle.model.specs.SoundSays.{ranged, units-some, units-few}
-use Rattle.model.specs.Changes.{written, erased, unitLost, repaired, grown, shrunk, raised}
+use Rattle.model.specs.Changes.{written, erased, unitLost, repaired, grown, shrunk}
 use Rattle.model.specs.ChangeLaws.{length-args, written-shaped}
-use Rattle.model.specs.Numbers.{Call, teach, correct, erase, unitOut, repair, grow, shrink, raise, refusalsIn, numberIn}
+use Rattle.model.specs.Numbers.{Call, teach, correct, erase, unitOut, repair, grow, shrink, refusalsIn, numberIn}
 use Rattle.model.specs.RowLaws.{Free}
 use Rattle.model.specs.Perform.{grantedIn, afterIn, perform}
 use Rattle.model.specs.PerformLaws.{none-holds}
@@ -29,7 +29,6 @@ use Rattle.model.specs.history.Runs.{unitIn}
 use Rattle.model.proofs.history.alike.Alike.{Alike, alike-refl, left-shaped}
 use Rattle.model.proofs.history.alike.Written.{erased-alike, lost-alike}
 use Rattle.model.proofs.history.alike.Repaired.{repaired-alike}
-use Rattle.model.proofs.history.alike.Raised.{raised-alike}
 use Rattle.model.proofs.history.alike.Numbers.{home-inside, split-inside, split-before}
 use Rattle.model.proofs.history.alike.Dealt.{grown-shaped, shrunk-alike}
 
@@ -180,19 +179,6 @@ module _ (s : List ℕ) (g : ℕ) (zero : numberIn s (repair g) ≡ 0) where
       let v : Store = view s in
       left-same s (repair g) zero (repaired v g) refl
       (left-shaped (repaired v g) (repaired v g) (repaired-alike v v (itself s repair-sound) g repair-group repair-near))
-
--- ---- a granted raise
-
-module _ (s : List ℕ) (zero : numberIn s raise ≡ 0) where
-  pub raise-sound : sound s ≡ true
-  unfolding refusalsIn
-  raise-sound = not-false (sound s) (free s raise zero .0)
-
-  pub raise-left : Same (leftBy s raise) (raised (view s))
-  unfolding grantedIn
-  raise-left =
-      let v : Store = view s in
-      left-same s raise zero (raised v) refl (left-shaped (raised v) (raised v) (raised-alike v v (itself s raise-sound)))
 
 -- ---- a granted grow
 

@@ -2,31 +2,27 @@
 use Prim.Native.Nat.{ℕ, suc, _+_, _*_, _-_, _/_, _%_, _<_}
 use mathlib.Core.Path.{_≡_, refl, sym, ap, _∙_}
 use mathlib.Core.List.{List, [], _∷_}
-use mathlib.Core.Bool.{Bool, true, false, _&&_}
+use mathlib.Core.Bool.{Bool, true}
 use native.Mathlib.Omega.{arith}
 use lib.Dec.{eqb, ltb}
 use lib.ListN.{drop}
-use lib.Seq.{getD-set-same}
-use borrow.Author.Tests.{eqb-true, ltb-true, ltb-false, lt-ltb, le-ltb}
+use borrow.Author.Tests.{lt-ltb}
 use Rattle.buffer.specs.Choice.{pick}
-use Rattle.buffer.specs.ChoiceLaws.{by-test, by-pick, pick-false}
-use Rattle.buffer.specs.TestLaws.{and-second, and-false-second}
+use Rattle.buffer.specs.ChoiceLaws.{by-test}
 use Rattle.buffer.specs.RangeLaws.{count-ext, count-below}
 use Rattle.model.specs.Layout.{Store, view, storeBytes, unitsIn, levelIn}
-use Rattle.model.specs.LayoutLaws.{Same}
-use Rattle.model.specs.Reads.{stateIn, checksIn}
+use Rattle.model.specs.Reads.{checksIn}
 use Rattle.model.specs.Sound.{checkPlaced, sound}
-use Rattle.model.specs.SoundSays.{units-few, level-few, fits-absent, by-fitting, check-states}
-use Rattle.model.specs.Changes.{added, raised}
-use Rattle.model.specs.Numbers.{Call, teach, correct, erase, read, readInPlace, list, unitOut, repair, grow, shrink, raise, numberIn}
+use Rattle.model.specs.SoundSays.{units-few, level-few, by-fitting, check-states}
+use Rattle.model.specs.Changes.{raised}
+use Rattle.model.specs.Numbers.{Call, teach, correct, erase, read, readInPlace, list, unitOut, repair, grow, shrink, raise}
 use Rattle.model.specs.Perform.{layOutNumber, layOut}
-use Rattle.model.specs.MadeAnew.{leftBy}
 use Rattle.model.specs.Level.{EachGroupHas, LevelEverywhere}
 use Rattle.model.specs.history.Ledger.{Ledger, opened, withRecords, grownLedger, shrunkLedger, granted}
 use Rattle.model.specs.history.Picture.{picture}
 use Rattle.model.specs.history.Table.{number}
 use Rattle.model.specs.history.Answers.{after, final}
-use Rattle.model.specs.history.Runs.{finalIn, raises, raisesIn, unitIn}
+use Rattle.model.specs.history.Runs.{finalIn, raises, raisesIn}
 use Rattle.model.specs.history.Typed.{AllTyped}
 use Rattle.model.specs.history.Steps.{Step, StepsTyped}
 use Rattle.model.specs.history.Claims.{laid, calls, left}
@@ -37,7 +33,7 @@ use Rattle.model.proofs.history.calls.Simulation.{number-agrees, after-
 use Rattle.model.proofs.history.claims.History.{simulated}
 use Rattle.model.proofs.history.claims.KeepsTaught.{start, opened-is, whole, left-is}
 use Rattle.model.proofs.history.claims.Demand3.{typed-calls, same-store}
-use Rattle.model.proofs.Left.{raise-sound, shaped, raise-left, unit-kept}
+use Rattle.model.proofs.Raised.{raise-keeps}
 
 -- ---- a sound store
 
@@ -60,49 +56,6 @@ module _ (s : List ℕ) (ok : sound s ≡ true) where
           let d : (3 * g + j) / 3 ≡ g = omega arith in
           let m : (3 * g + j) % 3 ≡ j = omega arith in
           rw (d, m, lt-ltb (4 * g) (unitsIn v) a)
-
--- ---- a granted raise
-
-module _ (s : List ℕ) (zero : numberIn s raise ≡ 0) where
-  abbrev before : Store
-  before = view s
-
-  abbrev next : Store
-  next = leftBy s raise
-
-  h : Same (leftBy s raise) (raised (view s))
-  h = raise-left s zero
-
-  raise-level : levelIn next ≡ suc (levelIn before)
-  unfolding raised levelIn
-  raise-level = rw (h .front) (getD-set-same (before .front) 7 (suc (levelIn before)) 0 (omega (arith, shaped s (raise-sound s zero) .front)))
-
-  -- a check unit in service was in place, so it is none of those that are added
-  not-added : (c : ℕ) → c < 12 → before .cstate c ≡ 1 → added before c ≡ false
-  unfolding added checkPlaced
-  not-added c l e =
-      by-test (λ (t : Bool). t ≡ false) (ltb (4 * (c / 3)) (unitsIn before) && eqb (c % 3) (levelIn before))
-      (λ q.
-      let at : c % 3 ≡ levelIn before = eqb-true _ _ (and-second (ltb (4 * (c / 3)) (unitsIn before)) _ q) in
-      let off : before .cstate c ≡ 0 = fits-absent (before .cstate c) (check-states s (raise-sound s zero) c l)
-      (and-false-second (ltb (4 * (c / 3)) (unitsIn before)) (le-ltb (c % 3) (levelIn before) (omega arith))) in
-      absurd (omega arith))
-      (λ _. refl)
-
-  raise-serves : (w : ℕ) → w < 28 → stateIn before w ≡ 1 → stateIn next w ≡ 1
-  unfolding stateIn raised pick
-  raise-serves w l =
-      by-test (λ (t : Bool). ltb w 16 ≡ t → pick t (before .dstate w) (before .cstate (w - 16)) ≡ 1 → pick t (next .dstate w) (next .cstate (w - 16)) ≡ 1)
-      (ltb w 16)
-      (λ _ q e. h .dstate w (ltb-true w 16 q) ∙ e)
-      (λ _ q e. h .cstate (w - 16) (omega (arith, ltb-false w 16 q))
-      ∙ by-pick (λ (n : ℕ). n ≡ 1) (added before (w - 16)) 1 (before .cstate (w - 16)) (λ _. refl) (λ _. e))
-      refl
-
-  raise-holds : (w : ℕ) → w < 28 → stateIn before w ≡ 1 → unitIn next w ≡ unitIn before w
-  unfolding raised
-  raise-holds = unit-kept before next (h .size) (λ u r l m e. h .slot u r l m)
-      (λ c r l m e. h .check c r l m ∙ pick-false (not-added c l e) _ (before .check c r))
 
 -- ---- the ledger's level
 
@@ -168,7 +121,7 @@ by-steps s b xs zero typed = rw (same-store s b zero xs typed) (each-group s b (
 pub level-everywhere : LevelEverywhere
 level-everywhere = record {
   in-sound-stores = sound-level;
-  raised = λ s z. record { level = raise-level s z; serves = raise-serves s z; holds = raise-holds s z };
+  raised = raise-keeps;
   in-histories = by-steps;
   equal-raises = λ s t b d xs ys y z p q e g h i j. by-steps s b xs y p g i ∙ ap suc e ∙ sym (by-steps t d ys z q h j);
 }

@@ -15,7 +15,8 @@ use Rattle.model.specs.LayoutLaws.{Same}
 use Rattle.model.specs.Changes.{repaired, grown, shrunk, added, raised}
 use Rattle.model.specs.Numbers.{repair, grow, shrink, raise}
 use Rattle.model.specs.MadeAnew.{HoldsCheckRecords, leftBy, MadeAnew}
-use Rattle.model.proofs.Left.{repair-left, raise-left, grow-left, shrink-left}
+use Rattle.model.proofs.Left.{repair-left, grow-left, shrink-left}
+use Rattle.model.proofs.Raised.{raise-left}
 
 -- what check unit c holds, in stores whose parts are the same
 same-holds : (s t : Store) → Same s t → (c : ℕ) → c < 12 → HoldsCheckRecords t c → HoldsCheckRecords s c

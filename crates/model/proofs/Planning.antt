@@ -1,6 +1,7 @@
 -- Growing in two strokes, on any bytes.
 use Prim.Native.Nat.{ℕ, _≤_, _<_}
 use mathlib.Core.Path.{_≡_, refl, sym, ap, _∙_, subst}
+use mathlib.Core.Logic.{_≢_, inl, inr}
 use mathlib.Core.List.{List, _++_}
 use mathlib.Core.Option.{none, some}
 use mathlib.Core.Bool.{Bool, true, false, not}
@@ -8,8 +9,9 @@ use native.Mathlib.Omega.{arith}
 use lib.Dec.{eqb, ltb}
 use lib.ListN.{length, take, drop, getD, length-append}
 use lib.Seq.{take-at}
-use borrow.Author.Tests.{eq-eqb, ne-eqb, ltb-true, ltb-false, not-true, not-false}
-use Rattle.buffer.specs.ChoiceLaws.{by-pick, pick-true, pick-false, pick-same}
+use borrow.Author.Tests.{eq-eqb, ne-eqb, eqb-true, eqb-false, lt-ltb, le-ltb, ltb-true, ltb-false, not-true, not-false}
+use Rattle.buffer.specs.Choice.{pick}
+use Rattle.buffer.specs.ChoiceLaws.{by-test, by-pick, pick-true, pick-false, pick-same}
 use Rattle.buffer.specs.TestLaws.{not-both}
 use Rattle.buffer.specs.Range.{count}
 use Rattle.buffer.specs.RangeLaws.{count-ext, count-le, length-entries, getD-entries}
@@ -26,13 +28,13 @@ use Rattle.model.specs.ReadLaws.{fill-le}
 use Rattle.model.specs.Sound.{sound}
 use Rattle.model.specs.SoundSays.{units-some}
 use Rattle.model.specs.Numbers.{grow, firstOf, refusalsIn, numberIn}
-use Rattle.model.specs.RowLaws.{free-first, front-free, front-granted, numbered-in}
+use Rattle.model.specs.RowLaws.{lacks-first, free-first, front-holds, front-free, front-granted, numbered-in}
 use Rattle.model.specs.Changes.{filterBy, recordsIn, dealt, grown}
 use Rattle.model.specs.Perform.{planned, output, perform}
 use Rattle.model.specs.MadeAnew.{leftBy}
 use Rattle.model.specs.Planning.{TellsOf, TwoStrokes}
 use Rattle.model.specs.history.Plan.{leaves, moveIn, planIn}
-use Rattle.model.specs.history.Further.{plan, commit, countsAs, commitRows, planReply, furtherRefusalsIn, furtherNumberIn, furtherAnswerIn}
+use Rattle.model.specs.history.Further.{plan, commit, countsAs, planRows, commitRows, planReply, furtherRefusalsIn, furtherNumberIn, furtherAnswerIn}
 use Rattle.model.specs.history.Steps.{further, countedIn, storeLeft, stepAnswerIn, performStep}
 use Rattle.model.proofs.history.ledger.Dealt.{length-rows, getD-rows, filter-place}
 use Rattle.model.proofs.Left.{free, grow-sound, grow-room, grow-left}
@@ -93,8 +95,15 @@ module _ (s : List ℕ) where
   unfolding moveIn
   tells r a =
       by-pick (TellsOf s r) (leaves v r) _ _
-      (λ e. record { old-unit = refl; old-rank = refl; stands = λ z. moved z r a e })
-      (λ e. record { old-unit = refl; old-rank = refl; stands = λ z. stayed z r a e })
+      (λ e. record { old-unit = refl; old-rank = refl; new-unit = inr refl; rank = count r (leaves v); new-rank = refl; stands = λ z. moved z r a e })
+      (λ e. record {
+        old-unit = refl;
+        old-rank = refl;
+        new-unit = inl refl;
+        rank = count r (λ q. not (leaves v q));
+        new-rank = refl;
+        stands = λ z. stayed z r a e;
+      })
 
   entry : (r : ℕ) → r < fill → getD (planIn v) r noMove ≡ moveIn v r
   unfolding planIn
@@ -108,6 +117,37 @@ module _ (s : List ℕ) where
   asked : (lent : List Move) → performStep s (further (plan lent)) .store ≡ s
   unfolding performStep countedIn countsAs storeLeft
   asked lent = ap (storeLeft s) (pick-same (eqb (furtherNumberIn s (plan lent)) 0) none)
+
+  -- where a grow is refused
+  as-grow : (more : List (Bool × ℕ)) → numberIn s grow ≢ 0 → firstOf (rows ++ more) ≡ numberIn s grow
+  unfolding numberIn
+  as-grow more z = front-holds rows more z
+
+  both-as-grow : numberIn s grow ≢ 0 → (lent : List Move) (c : ℕ)
+      → (furtherNumberIn s (plan lent) ≡ numberIn s grow) × (furtherNumberIn s (commit lent c) ≡ numberIn s grow)
+  unfolding furtherNumberIn furtherRefusalsIn
+  both-as-grow z lent c = (as-grow _ z, as-grow _ z)
+
+  -- the number of asking, where a grow is granted
+  asking : numberIn s grow ≡ 0 → (lent : List Move) → furtherNumberIn s (plan lent) ≡ pick (ltb (length lent) (length (planIn v))) 7 0
+  unfolding furtherNumberIn furtherRefusalsIn planRows firstOf
+  asking z lent = front-free rows _ (free s grow z)
+
+  -- a grow gives no 7
+  grow-not-7 : numberIn s grow ≢ 7
+  unfolding numberIn refusalsIn
+  grow-not-7 = lacks-first 7 (λ q. omega arith) _ (refl, (refl, (refl, (refl, tt))))
+
+  short : (lent : List Move) → furtherNumberIn s (plan lent) ≡ 7 → (numberIn s grow ≡ 0) × (length lent < length (planIn (view s)))
+  short lent e =
+      by-test (λ _. (numberIn s grow ≡ 0) × (length lent < length (planIn (view s)))) (eqb (numberIn s grow) 0)
+      (λ q.
+      let z : numberIn s grow ≡ 0 = eqb-true _ 0 q in (
+        z,
+        by-pick (λ (n : ℕ). n ≡ 7 → length lent < length (planIn v)) (ltb (length lent) (length (planIn v))) 7 0
+            (λ f _. ltb-true _ _ f) (λ _ f. absurd (omega (arith, f))) (sym (asking z lent) ∙ e),
+      ))
+      (λ q. absurd (grow-not-7 (sym (both-as-grow (eqb-false _ 0 q) lent 0 .0) ∙ e)))
 
   -- the number of a commit, where a grow is granted
   behind : numberIn s grow ≡ 0 → (lent : List Move) (c : ℕ) → furtherNumberIn s (commit lent c) ≡ firstOf (commitRows lent c (planIn v))
@@ -172,6 +212,10 @@ two-strokes s = record {
   asked = asked s;
   entries = length-entries (fill s) (moveIn (view s));
   tells = λ r a. subst (TellsOf s r) (sym (entry s r a)) (tells s r a);
+  as-grow = both-as-grow s;
+  short = short s;
+  too-short = λ lent z l. asking s z lent ∙ pick-true (lt-ltb _ _ l) 7 0;
+  long-enough = λ lent z l. asking s z lent ∙ pick-false (le-ltb _ _ l) 7 0;
   granted = λ lent c e. (grants-grow s lent c e, is-plan s lent c e .0, is-plan s lent c e .1, grown-store s lent c e);
   the-plan = the-plan s;
   not-the-plan = λ z lent c d. by-commit s z lent c (λ k. k ≡ 11) (λ a q. absurd (d a q)) (λ _. refl);

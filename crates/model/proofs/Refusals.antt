@@ -7,7 +7,7 @@ use mathlib.Core.Bool.{Bool, true, false, not, _||_}
 use native.Mathlib.Omega.{arith}
 use lib.Dec.{eqb, ltb}
 use lib.ListN.{length, drop}
-use borrow.Author.Tests.{eq-eqb, ne-eqb, lt-ltb, le-ltb, le-leb}
+use borrow.Author.Tests.{eq-eqb, ne-eqb, lt-ltb, le-ltb}
 use Rattle.buffer.specs.ChoiceLaws.{pick-true, pick-false}
 use Rattle.buffer.specs.TestLaws.{and-false-first}
 use Rattle.buffer.specs.Bytes.{zeros, part}
@@ -19,7 +19,7 @@ use Rattle.model.specs.Numbers.{Call, teach, correct, erase, read, readI
 use Rattle.model.specs.RowLaws.{first-low, free-first, numbered-in, row-holds, row-fails, row-pair}
 use Rattle.model.specs.Perform.{refusal, plain, copied, lent, listed, output, reply, placeIn}
 use Rattle.model.specs.Perform.{givenIn, grantedIn, answerIn, afterIn, outcome, perform, laidOut, layOutNumber, layOut}
-use Rattle.model.specs.Demand1.{Refuses, Misused, LaysOut}
+use Rattle.model.specs.Demand1.{Refuses, LaysOut}
 
 -- ---- the numbers are those of the table
 
@@ -47,7 +47,7 @@ refused-reply s grow n y m e z = refl
 refused-reply s shrink n y m e z = refl
 refused-reply s raise n y m e z = refl
 
-refused-as : (s : List ℕ) (c : Call) (n : ℕ) → numberIn s c ≡ n → n ≢ 0 → perform s c ≡ outcome (refusal c n) s
+pub refused-as : (s : List ℕ) (c : Call) (n : ℕ) → numberIn s c ≡ n → n ≢ 0 → perform s c ≡ outcome (refusal c n) s
 unfolding perform answerIn afterIn
 refused-as s c n e z =
     ap₂ outcome (ap (λ (k : ℕ). reply c k (givenIn s c) (totalIn (view s))) e ∙ refused-reply s c n (givenIn s c) (totalIn (view s)) e z)
@@ -63,7 +63,7 @@ pub in-place-store : (s : List ℕ) (k : ℕ) → perform s (readInPlace k) .sto
 unfolding perform afterIn numberIn refusalsIn firstOf grantedIn
 in-place-store s k = pick-true refl s s
 
-in-place-none : (s : List ℕ) (k : ℕ) → numberIn s (read k (zeros fieldBytes)) ≢ 0 → (n : ℕ) → perform s (readInPlace k) ≡ outcome (refusal (readInPlace k) n) s
+pub in-place-none : (s : List ℕ) (k : ℕ) → numberIn s (read k (zeros fieldBytes)) ≢ 0 → (n : ℕ) → perform s (readInPlace k) ≡ outcome (refusal (readInPlace k) n) s
 unfolding perform answerIn reply givenIn placeIn refusal
 in-place-none s k z n =
     ap₂ outcome (ap lent (rw (and-false-first (ne-eqb (numberIn s (read k (zeros fieldBytes))) 0 z)) (rw (pick-false refl) (part-none s)))) (in-place-store s k)
@@ -106,41 +106,6 @@ module _ (s : List ℕ) where
 
   pub refuses : (c : Call) → Refuses s c
   refuses c = record { numbered = number-low s c; refused = λ z. refused-as s c (numberIn s c) refl z; damaged = damaged c }
-
-  -- ---- the arguments that demand 1 names
-
-  -- a field or an output of the wrong length: the second of two rows
-  second : (a : Bool) {b : Bool} (n : ℕ) (ts : List (Bool × ℕ)) → b ≡ true → firstOf ((a, n) ∷ (b, n) ∷ ts) ≡ n
-  second true n ts e = row-holds n _ refl
-  second false n ts e = row-fails n _ refl ∙ row-holds n ts e
-
-  by-2 : (c : Call) → numberIn s c ≡ 2 → perform s c ≡ outcome (refusal c 2) s
-  by-2 c e = refused-as s c 2 e (omega arith)
-
-  in-place-0 : perform s (readInPlace 0) ≡ outcome (refusal (readInPlace 0) 2) s
-  in-place-0 = in-place-none s 0 (λ q. absurd (omega (arith, sym q ∙ read-0))) 2
-    where
-      read-0 : numberIn s (read 0 (zeros fieldBytes)) ≡ 2
-      read-0 = unfold numberIn refusalsIn in row-holds _ _ refl
-
-  pub misuses : Misused s
-  unfolding numberIn refusalsIn
-  misuses = record {
-    key-0 = λ x.
-        let t = by-2 (teach 0 x) (row-holds _ _ refl) in
-        let c = by-2 (correct 0 x) (row-holds _ _ refl) in
-        (t, (c, (by-2 (erase 0) (row-holds _ _ refl), (by-2 (read 0 x) (row-holds _ _ refl), (in-place-0, tt)))));
-    wrong-length = λ k x z.
-        let e = ap not (ne-eqb (length x) fieldBytes z) in
-        (by-2 (teach k x) (second (eqb k 0) 2 _ e), (by-2 (correct k x) (second (eqb k 0) 2 _ e), (by-2 (read k x) (second (eqb k 0) 2 _ e), tt)));
-    no-unit = λ w l. (by-2 (unitOut w) (row-holds _ _ (lt-ltb 27 w l)), tt);
-    no-group = λ g l. (by-2 (repair g) (row-holds _ _ (lt-ltb 3 g l)), tt);
-    unit-not-in-place = λ w l d e.
-        (refused-as s (unitOut w) 3 (row-fails _ _ (le-ltb 27 w l) ∙ row-fails _ _ (ap not d) ∙ row-holds _ _ (eq-eqb _ _ e)) (omega arith), tt);
-    group-not-in-place = λ g l d e.
-        (refused-as s (repair g) 3 (row-fails _ _ (le-ltb 3 g l) ∙ row-fails _ _ (ap not d) ∙ row-holds _ _ (le-leb _ _ e)) (omega arith), tt);
-    short = λ x d f l. (refused-as s (list x) 7 (row-fails _ _ (ap not d) ∙ row-fails _ _ f ∙ row-holds _ _ (lt-ltb _ _ l)) (omega arith), tt);
-  }
 
 -- ---- lay out
 

@@ -26,6 +26,7 @@ pub mod ChangeLaws
 pub mod Perform
 pub mod PerformLaws
 pub mod GrantedLayout
+pub mod Order
 pub mod Demand1
 pub mod MadeAnew
 pub mod Recovered

@@ -102,4 +102,7 @@ module _ (v w : Store) (a : Alike v w) (some : 1 ≤ unitsIn v) (few : unitsIn v
 
     pub raise-rows : Agree (refusalsIn o v raise) (refusalsIn p w raise)
     unfolding refusalsIn
-    raise-rows = row (ap not e) (λ _. row (ap (leb 3) (level-alike v w a)) (λ _. row (ap (ltb 0) (units-out-alike v w a)) (λ _. tt)))
+    raise-rows =
+        let level = ap (leb 3) (level-alike v w a) in
+        let outs = ap (ltb 0) (units-out-alike v w a) in
+        row (ap not e) (λ _. row (search (level, outs)) (λ _. row (search (level, outs)) (λ _. tt)))

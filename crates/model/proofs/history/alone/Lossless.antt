@@ -82,7 +82,9 @@ module _ (l : Ledger) where
   free-lossless (repair g) a f = not-both a refl
   free-lossless grow a f = (refl, (f .1 .0, (none-out (l .units / 4), (none-out (splitPointer (l .units) / 4), tt))))
   free-lossless shrink a f = (refl, (f .1 .0, (none-out (pred (l .units) / 4), (none-out (splitPointer (pred (l .units)) / 4), f .1 .1 .1 .1))))
-  free-lossless raise a f = (refl, (f .1 .0, (rw (count-fails 28 (isOut (lossless l)) (λ w b. isOut-lossless w)), tt)))
+  free-lossless raise a f =
+      let none : ltb 0 (unitsOut (lossless l)) ≡ false = rw (count-fails 28 (isOut (lossless l)) (λ w b. isOut-lossless w)) in
+      (refl, (search, (search, tt)))
 
   number-lossless : (c : Call) → lasting c ≡ true → eqb (number l c) 0 ≡ true → eqb (number (lossless l) c) 0 ≡ true
   unfolding number

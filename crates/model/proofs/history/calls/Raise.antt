@@ -5,7 +5,7 @@ use mathlib.Core.List.{List}
 use mathlib.Core.Bool.{Bool, true, false, _&&_}
 use native.Mathlib.Omega.{arith}
 use native.Mathlib.Nat.{le-refl}
-use lib.Dec.{eqb, ltb}
+use lib.Dec.{eqb, ltb, leb}
 use lib.ListN.{set}
 use borrow.Author.Tests.{eq-eqb, eqb-true, eqb-false, ltb-true, le-ltb, lt-ltb, leb-false}
 use Rattle.buffer.specs.Choice.{pick}
@@ -16,6 +16,7 @@ use Rattle.buffer.specs.Bytes.{byte, bytes32}
 use Rattle.group.specs.CheckRecord.{checkRecord}
 use Rattle.model.specs.Layout.{Store, view, bytes, frontOf, levelIn}
 use Rattle.model.specs.LayoutLaws.{Same, bytes-ext}
+use Rattle.model.specs.Reads.{unitsOutIn}
 use Rattle.model.specs.Numbers.{raise, refusalsIn}
 use Rattle.model.specs.RowLaws.{row}
 use Rattle.model.specs.Changes.{added, raised}
@@ -136,12 +137,19 @@ module _ (l : Ledger) (rest : List ℕ) (h : Valid l) where
       rest = s .rest;
     })
 
+  -- its two tests, in whatever order they stand
+  level : leb 3 (levelIn v) ≡ leb 3 (l .level)
+  level = ap (leb 3) (level-seen l rest h)
+
+  outs : ltb 0 (unitsOutIn v) ≡ ltb 0 (unitsOut l)
+  outs = ap (ltb 0) (units-out-seen l rest h)
+
   pub raise-simulated : Simulated l rest raise
   unfolding reply refusalsIn refusals granted grantedIn given givenIn
   raise-simulated = record {
-    tests = row (sound-row l rest h) (λ _. row (rw (level-seen l rest h)) (λ _. row (rw (units-out-seen l rest h)) (λ _. tt)));
+    tests = row (sound-row l rest h) (λ _. row (search (level, outs)) (λ _. row (search (level, outs)) (λ _. tt)));
     hands = λ f. refl;
     counts = λ f n y. refl;
-    bytes = λ f. raise-picture (f .1 .1 .0);
-    valid = λ f. raise-valid (leb-false 3 (l .level) (f .1 .0));
+    bytes = λ f. raise-picture (search);
+    valid = λ f. raise-valid (leb-false 3 (l .level) (search));
   }
