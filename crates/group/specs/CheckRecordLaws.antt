@@ -1,20 +1,24 @@
--- Laws of check records, over bodies of any one length n: following the change of one slot gives the record made anew (`patched-upd`); on a record
--- whose parity is wrong it keeps the error (`patched-error`).
+-- Laws of check records, over bodies of any one length n: the keys and the parity of any record that follows the change of one slot (`patched-listed`,
+-- `patched-parity`); a record made from the slots is then the record made anew (`patched-upd`).
 use mathlib.Core.Path.{_≡_, sym, ap, ap₂, _∙_}
 use mathlib.Core.List.{List, _++_}
 use Prim.Native.Nat.{ℕ, _+_, _*_, _≤_, _<_}
 use native.Mathlib.Omega.{arith}
+use native.Mathlib.Nat.{zero-add}
+use lib.Dec.{eqb}
 use lib.ListN.{length, take, drop, length-append, length-drop}
 use lib.Seq.{take-at, drop-at, length-take-le}
-use Rattle.buffer.specs.Bytes.{zeros, splice}
+use Rattle.buffer.specs.Choice.{pick}
+use Rattle.buffer.specs.ChoiceLaws.{by-pick}
+use Rattle.buffer.specs.Bytes.{zeros, part, splice}
 use Rattle.buffer.specs.ByteLaws.{length-zeros, zeros-append}
-use Rattle.buffer.specs.SpliceLaws.{length-splice}
+use Rattle.buffer.specs.SpliceLaws.{length-part, length-splice, part-part}
 use Rattle.buffer.specs.Table.{tab, upd}
-use Rattle.buffer.specs.TableLaws.{Wide, length-tab, tab-ext, tab-zeros, splice-chunk, upd-map}
+use Rattle.buffer.specs.TableLaws.{Wide, length-tab, tab-ext, tab-parts, tab-zeros, part-chunk, splice-chunk, upd-map}
 use Rattle.group.specs.Widths.{keyBytes, keysBytes}
 use Rattle.group.specs.Body.{addBody}
 use Rattle.group.specs.Parity.{parity, adjusted}
-use Rattle.group.specs.ParityLaws.{parity-ext, length-parity, parity-zeros, length-adjusted, parity-upd, parity-error}
+use Rattle.group.specs.ParityLaws.{parity-ext, length-parity, parity-zeros, length-adjusted, parity-upd}
 use Rattle.group.specs.CheckRecord.{checkRecord, patched}
 
 -- ---- the two parts of a slot
@@ -58,6 +62,11 @@ pub checkRecord-parity : (n j : ℕ) (slots : ℕ → List ℕ) → Wide 4 (keyB
 unfolding checkRecord
 checkRecord-parity n j slots h = drop-at (tab 4 (keys slots)) (parity j (bodies slots)) keysBytes (length-keys n slots h)
 
+-- a key that it lists stands in its first bytes
+pub listed-first : (p : ℕ) (x : List ℕ) → p < 4 → part (keyBytes * p) keyBytes (take keysBytes x) ≡ part (keyBytes * p) keyBytes x
+unfolding part
+listed-first p x a = part-part 0 keysBytes (keyBytes * p) keyBytes x (omega arith) ∙ ap (λ (k : ℕ). part k keyBytes x) (zero-add (keyBytes * p))
+
 -- ---- empty slots: their two parts
 key-zeros : (n : ℕ) → take keyBytes (zeros (keyBytes + n)) ≡ zeros keyBytes
 key-zeros n = ap (take keyBytes) (sym (zeros-append keyBytes n)) ∙ take-at (zeros keyBytes) (zeros n) keyBytes (length-zeros keyBytes)
@@ -90,6 +99,35 @@ length-patched n j p key change old l k c e =
     length-append (splice (keyBytes * p) keyBytes key (take keysBytes old)) (adjusted j p change (drop keysBytes old))
     ∙ ap₂ (λ x y. x + y) (length-keyed p l key old k (omega arith)) (length-adjusted n j p change (drop keysBytes old) c (simp length-drop (omega arith)))
 
+module _ (j p : ℕ) (p4 : p < 4) (key change old : List ℕ) (k : length key ≡ keyBytes) (h : keysBytes ≤ length old) where
+  pub patched-parity : drop keysBytes (patched j p key change old) ≡ adjusted j p change (drop keysBytes old)
+  unfolding patched
+  patched-parity =
+      drop-at (splice (keyBytes * p) keyBytes key (take keysBytes old)) (adjusted j p change (drop keysBytes old)) keysBytes (length-keyed p p4 key old k h)
+
+  pub patched-keys : take keysBytes (patched j p key change old) ≡ splice (keyBytes * p) keyBytes key (take keysBytes old)
+  unfolding patched
+  patched-keys =
+      take-at (splice (keyBytes * p) keyBytes key (take keysBytes old)) (adjusted j p change (drop keysBytes old)) keysBytes (length-keyed p p4 key old k h)
+
+  -- the key that is listed for place q
+  pub patched-listed : (q : ℕ) → q < 4 → part (keyBytes * q) keyBytes (patched j p key change old) ≡ pick (eqb q p) key (part (keyBytes * q) keyBytes old)
+  unfolding upd
+  patched-listed q l =
+      sym (listed-first q (patched j p key change old) l)
+      ∙ ap (part (keyBytes * q) keyBytes)
+      (patched-keys
+      ∙ ap (splice (keyBytes * p) keyBytes key) (sym (tab-parts 4 keyBytes (take keysBytes old) (length-take-le keysBytes old h)))
+      ∙ splice-chunk 4 keyBytes listed wide p key p4)
+      ∙ part-chunk 4 keyBytes (upd listed p key) (λ i m. by-pick (λ x. length x ≡ keyBytes) (eqb i p) key (listed i) (λ _. k) (λ _. wide i m)) q l
+      ∙ ap (pick (eqb q p) key) (listed-first q old l)
+    where
+      listed : ℕ → List ℕ
+      listed i = part (keyBytes * i) keyBytes (take keysBytes old)
+
+      wide : Wide 4 keyBytes listed
+      wide i m = length-part (keyBytes * i) keyBytes (take keysBytes old) (omega (arith, length-take-le keysBytes old h))
+
 module _ (n j p : ℕ) (j3 : j < 3) (p4 : p < 4) (slots : ℕ → List ℕ) (h : Wide 4 (keyBytes + n) slots) (new : List ℕ) (e : length new ≡ keyBytes + n) where
   new-bodies : (q : ℕ) → upd (bodies slots) p (drop keyBytes new) q ≡ drop keyBytes (upd slots p new q)
   new-bodies q = sym (upd-map (drop keyBytes) slots p new q)
@@ -121,20 +159,3 @@ module _ (n j p : ℕ) (j3 : j < 3) (p4 : p < 4) (slots : ℕ → List ℕ) (h :
       (checkRecord-keys n j slots h)
       (checkRecord-parity n j slots h)
       ∙ ap₂ (λ x y. x ++ y) new-keys new-parity
-
-  -- a record whose parity is wrong stays wrong by the same error
-  pub patched-error : (old : List ℕ) → length old ≡ keysBytes + n
-      → addBody (drop keysBytes (patched j p (take keyBytes new) (addBody (drop keyBytes (slots p)) (drop keyBytes new)) old))
-      (parity j (λ q. drop keyBytes (upd slots p new q)))
-      ≡ addBody (drop keysBytes old) (parity j (λ q. drop keyBytes (slots q)))
-  unfolding patched change
-  patched-error old k =
-      ap₂
-      addBody
-      (drop-at
-      (splice (keyBytes * p) keyBytes (take keyBytes new) (take keysBytes old))
-      (adjusted j p change (drop keysBytes old))
-      keysBytes
-      (length-keyed p p4 (take keyBytes new) old (length-key n new e) (omega arith)))
-      (parity-ext j _ _ (λ q l. sym (new-bodies q)))
-      ∙ parity-error n j p j3 p4 (bodies slots) sizes (drop keyBytes new) (length-body n new e) (drop keysBytes old) (simp length-drop (omega arith))

@@ -139,6 +139,10 @@ at-upd n c p hc hp bodies h new e =
         ∙ sym (upd-other terms p (scaleBody (entry p c) new) q (eqb-false q p t)))
 
 -- ---- parity
+pub coefficient-bound : (p j : ℕ) → p < 4 → j < 3 → coefficient p j < 16
+unfolding coefficient
+coefficient-bound p j l k = entry-bound p (4 + j) l (omega arith)
+
 pub parity-ext : (j : ℕ) (f g : ℕ → List ℕ) → ((p : ℕ) → p < 4 → f p ≡ g p) → parity j f ≡ parity j g
 unfolding parity
 parity-ext j f g h = at-ext _ f g h

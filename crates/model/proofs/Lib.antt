@@ -13,6 +13,8 @@ pub mod Misused
 pub mod Demand1
 pub mod MadeAnew
 pub mod RepairKeeps
+pub mod ChecksFollow
+pub mod LeftAlone
 pub mod Hashing
 pub mod RebuiltSlots
 pub mod Recovered

@@ -1,27 +1,21 @@
 -- The check units that grow, shrink, repair and raise make anew hold the check records of the slots that the call leaves, whatever the store.
 use Prim.Native.Nat.{ℕ, pred, _+_, _*_, _/_, _%_, _<_}
-use mathlib.Core.Path.{_≡_, refl, sym, _∙_}
+use mathlib.Core.Path.{_≡_, sym, _∙_}
 use mathlib.Core.List.{List}
 use mathlib.Core.Bool.{true, _&&_}
 use native.Mathlib.Omega.{arith}
 use lib.Dec.{eqb, ltb}
-use borrow.Author.Tests.{eq-eqb, lt-ltb, leb-false, not-false}
+use borrow.Author.Tests.{eq-eqb, lt-ltb}
 use Rattle.buffer.specs.ChoiceLaws.{pick-true}
 use Rattle.buffer.specs.TestLaws.{and-true}
 use Rattle.group.specs.CheckRecordLaws.{checkRecord-ext}
-use Rattle.model.specs.Units.{splitPointer, touched}
+use Rattle.model.specs.Units.{touched}
 use Rattle.model.specs.Layout.{Store, view, unitsIn, levelIn}
 use Rattle.model.specs.LayoutLaws.{Same}
-use Rattle.model.specs.Sound.{sound}
-use Rattle.model.specs.SoundSays.{units-some, units-few}
 use Rattle.model.specs.Changes.{repaired, grown, shrunk, added, raised}
-use Rattle.model.specs.Numbers.{repair, grow, shrink, raise, refusalsIn}
-use Rattle.model.specs.Perform.{grantedIn}
+use Rattle.model.specs.Numbers.{repair, grow, shrink, raise}
 use Rattle.model.specs.MadeAnew.{HoldsCheckRecords, leftBy, MadeAnew}
-use Rattle.model.proofs.history.alike.Alike.{left-shaped}
-use Rattle.model.proofs.history.alike.Numbers.{split-before}
-use Rattle.model.proofs.history.alike.Dealt.{shrunk-alike}
-use Rattle.model.proofs.Left.{itself, free, left-same, repair-left, grow-left}
+use Rattle.model.proofs.Left.{repair-left, grow-left, shrink-left}
 use Rattle.model.proofs.Raised.{raise-left}
 
 -- what check unit c holds, in stores whose parts are the same
@@ -55,7 +49,6 @@ raised-holds v c a e =
 
 -- EVERY CHECK UNIT THAT A CALL MAKES ANEW
 pub made-anew : (s : List ℕ) → MadeAnew s
-unfolding refusalsIn grantedIn
 made-anew s = record {
   by-grow = λ z c l q e.
       let v : Store = view s in
@@ -63,15 +56,9 @@ made-anew s = record {
       let h : Same (leftBy s grow) (grown v m) = grow-left s z in
       same-holds (leftBy s grow) (grown v m) h c l (grown-holds v m c q (sym (h .cstate c l) ∙ e));
   by-shrink = λ z c l q e.
-      let f = free s shrink z in
-      let ok : sound s ≡ true = not-false (sound s) (f .0) in
       let v : Store = view s in
       let m : ℕ = pred (unitsIn (view s)) in
-      let two : 1 < unitsIn (view s) = leb-false (unitsIn v) 1 (f .1 .0) in
-      let before : splitPointer m < 16 = split-before v v (itself s ok) (units-some s ok) (units-few s ok) two in
-      let h : Same (leftBy s shrink) (shrunk v m) =
-      left-same s shrink z (shrunk v m) refl
-      (left-shaped (shrunk v m) (shrunk v m) (shrunk-alike v v (itself s ok) m (omega (arith, units-few s ok)) before)) in
+      let h : Same (leftBy s shrink) (shrunk v m) = shrink-left s z in
       same-holds (leftBy s shrink) (shrunk v m) h c l (shrunk-holds v m c q (sym (h .cstate c l) ∙ e));
   by-repair = λ g z c l d e. same-holds (leftBy s (repair g)) (repaired (view s) g) (repair-left s g z) c l (repaired-holds (view s) g c d e);
   by-raise = λ z c l a e.

@@ -2,17 +2,20 @@
 use Prim.Native.Nat.{ℕ, _/_, _%_, _<_}
 use mathlib.Core.Path.{_≡_, refl, ap, _∙_}
 use mathlib.Core.List.{List}
-use mathlib.Core.Bool.{_&&_}
+use mathlib.Core.Bool.{false, not, _&&_}
 use native.Mathlib.Omega.{arith}
 use lib.Dec.{eqb}
-use lib.ListN.{length, take, drop}
+use lib.ListN.{length, take, drop, length-append}
+use borrow.Author.Tests.{eqb-true, not-false}
 use Rattle.buffer.specs.ChoiceLaws.{by-pick}
+use Rattle.buffer.specs.Bytes.{bytes32}
+use Rattle.buffer.specs.ByteLaws.{length-bytes32}
 use Rattle.group.specs.Widths.{keyBytes, fieldBytes, slotBytes, checkBytes}
 use Rattle.group.specs.Body.{addBody}
 use Rattle.group.specs.BodyLaws.{length-add}
 use Rattle.group.specs.CheckRecord.{patched}
 use Rattle.group.specs.CheckRecordLaws.{length-key, length-body, length-patched}
-use Rattle.model.specs.Layout.{Store, bytes, view}
+use Rattle.model.specs.Layout.{Store, bytes, view, slotOf}
 use Rattle.model.specs.LayoutLaws.{Shaped, Same, bytes-ext, view-bytes}
 use Rattle.model.specs.Changes.{written}
 
@@ -20,6 +23,11 @@ use Rattle.model.specs.Changes.{written}
 pub on-bytes : (f : Store → Store) (t : Store) (s : List ℕ) → Shaped t → s ≡ bytes t → (Same (view (bytes t)) t → Same (f (view (bytes t))) (f t))
     → bytes (f (view s)) ≡ bytes (f t)
 on-bytes f t s h e k = ap (λ x. bytes (f (view x))) e ∙ bytes-ext (f (view (bytes t))) (f t) (k (view-bytes t h))
+
+-- ---- the slot of a call's arguments
+pub length-args : (k : ℕ) (x : List ℕ) → not (eqb (length x) fieldBytes) ≡ false → length (slotOf k x) ≡ slotBytes
+unfolding slotOf
+length-args k x e = length-append (bytes32 k) x ∙ omega (arith, length-bytes32 k, eqb-true (length x) fieldBytes (not-false (eqb (length x) fieldBytes) e))
 
 -- ---- a slot x written over a slot s: the change of its field, and a check record c that follows it
 pub length-change : (s x : List ℕ) → length s ≡ slotBytes → length x ≡ slotBytes → length (addBody (drop keyBytes s) (drop keyBytes x)) ≡ fieldBytes

@@ -55,6 +55,26 @@ pub record Same (s t : Store) : Type 0 where
   pub check : (c r : ℕ) → c < 12 → r < t .size → s .check c r ≡ t .check c r
   pub rest : s .rest ≡ t .rest
 
+pub same-refl : (v : Store) → Same v v
+same-refl v = record {
+  front = refl;
+  size = refl;
+  dstate = λ u l. refl;
+  cstate = λ c l. refl;
+  slot = λ u r l m. refl;
+  check = λ c r l m. refl;
+  rest = refl;
+}
+
+-- parts that are the same have the same sizes
+pub same-shaped : (s t : Store) → Same s t → Shaped t → Shaped s
+same-shaped s t h k = record {
+  front = ap length (h .front) ∙ k .front;
+  size = ap (λ (x : List ℕ). byte x 5) (h .front) ∙ k .size ∙ sym (h .size);
+  slot = λ u r l m. let n : r < t .size = omega (arith, h .size) in ap length (h .slot u r l n) ∙ k .slot u r l n;
+  check = λ c r l m. let n : r < t .size = omega (arith, h .size) in ap length (h .check c r l n) ∙ k .check c r l n;
+}
+
 -- ---- the states of n units, a byte each; one of them read, where they stand behind x and before y
 abbrev pub stateBytes : ℕ → (ℕ → ℕ) → List ℕ
 stateBytes n f = tab n (λ u. f u ∷ [])

@@ -31,6 +31,7 @@ pub mod Demand1
 pub mod MadeAnew
 pub mod Recovered
 pub mod RepairKeeps
+pub mod LeftAlone
 pub mod Judged
 pub mod Planning
 pub mod Demand2

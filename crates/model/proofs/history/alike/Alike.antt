@@ -6,7 +6,6 @@ use mathlib.Core.Path.{_≡_, refl, sym, ap, ap₂, _∙_}
 use mathlib.Core.List.{List}
 use mathlib.Core.Bool.{Bool, true, false}
 use native.Mathlib.Omega.{arith}
-use native.Mathlib.Nat.{zero-add}
 use lib.Dec.{eqb, ltb}
 use lib.ListN.{length, take}
 use borrow.Author.Tests.{ltb-true, ltb-false}
@@ -17,8 +16,8 @@ use Rattle.buffer.specs.Range.{first}
 use Rattle.buffer.specs.RangeLaws.{first-ext, count-ext}
 use Rattle.buffer.specs.Bytes.{byte, zeros, part}
 use Rattle.buffer.specs.ByteLaws.{length-zeros}
-use Rattle.buffer.specs.SpliceLaws.{part-part}
 use Rattle.group.specs.Widths.{keyBytes, keysBytes, slotBytes, checkBytes}
+use Rattle.group.specs.CheckRecordLaws.{listed-first}
 use Rattle.group.specs.Members.{outs}
 use Rattle.model.specs.Units.{unitOf}
 use Rattle.model.specs.Layout.{Store, bytes, view, unitsIn, levelIn, keyOf}
@@ -72,11 +71,7 @@ no-check = record { keys = refl; left = length-zeros checkBytes; right = length-
 pub key-like : {x y : List ℕ} → LikeSlot x y → keyOf x ≡ keyOf y
 key-like {x} {y} h = sym (key-first x) ∙ ap keyOf (h .key) ∙ key-first y
 
--- a key that a check record lists stands in its first bytes
-pub listed-first : (p : ℕ) (x : List ℕ) → p < 4 → part (keyBytes * p) keyBytes (take keysBytes x) ≡ part (keyBytes * p) keyBytes x
-unfolding part
-listed-first p x a = part-part 0 keysBytes (keyBytes * p) keyBytes x (omega arith) ∙ ap (λ (k : ℕ). part k keyBytes x) (zero-add (keyBytes * p))
-
+-- the keys that check records list
 pub listed-like : {x y : List ℕ} → LikeCheck x y → (p : ℕ) → p < 4 → part (keyBytes * p) keyBytes x ≡ part (keyBytes * p) keyBytes y
 listed-like {x} {y} h p a = sym (listed-first p x a) ∙ ap (part (keyBytes * p) keyBytes) (h .keys) ∙ listed-first p y a
 

@@ -18,7 +18,7 @@ use Rattle.buffer.specs.Table.{tab}
 use Rattle.buffer.specs.TableLaws.{tab-ext, tab-parts}
 use Rattle.group.specs.Widths.{keyBytes, fieldBytes, keysBytes, slotBytes, checkBytes}
 use Rattle.group.specs.Parity.{parity}
-use Rattle.group.specs.CheckRecordLaws.{length-key}
+use Rattle.group.specs.CheckRecordLaws.{length-key, listed-first}
 use Rattle.model.specs.Layout.{Store, view, storeBytes, slotAt, checkAt, unitsIn, levelIn, keyOf, frontOf}
 use Rattle.model.specs.LayoutLaws.{Shaped, view-shaped, key-first}
 use Rattle.model.specs.Reads.{fillIn, listedKey, listedFill}
@@ -33,7 +33,7 @@ use Rattle.model.proofs.history.ledger.Valid.{Valid}
 use Rattle.model.proofs.history.picture.Records.{take-record, empty-bytes, length-keys}
 use Rattle.model.proofs.history.picture.Picture.{image-shaped, slot-on, slot-off, check-on, check-off}
 use Rattle.model.proofs.history.picture.Seen.{past}
-use Rattle.model.proofs.history.alike.Alike.{LikeSlot, LikeCheck, Alike, slot-refl, listed-first}
+use Rattle.model.proofs.history.alike.Alike.{LikeSlot, LikeCheck, Alike, slot-refl}
 use Rattle.model.proofs.history.alike.LedgerOf.{keyRecord, listedRecords, readable, ledgerOf, bytes-part, length-listed, listed-record, dstate-shown}
 use Rattle.model.proofs.history.alike.LedgerOf.{cstate-shown, kept, ledger-valid}
 

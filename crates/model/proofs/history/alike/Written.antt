@@ -6,32 +6,21 @@ use mathlib.Core.Bool.{Bool, _&&_}
 use native.Mathlib.Omega.{arith}
 use lib.Dec.{eqb}
 use lib.ListN.{length, take, drop}
-use lib.Seq.{take-at, length-take-le}
 use Rattle.buffer.specs.Choice.{pick}
 use Rattle.buffer.specs.ChoiceLaws.{pick-false, pick-ext}
 use Rattle.buffer.specs.TestLaws.{and-false-second}
 use Rattle.buffer.specs.Bytes.{zeros, splice}
-use Rattle.buffer.specs.SpliceLaws.{length-splice}
 use Rattle.buffer.specs.Table.{upd}
-use Rattle.group.specs.Widths.{keyBytes, fieldBytes, keysBytes, slotBytes, checkBytes}
+use Rattle.group.specs.Widths.{keyBytes, fieldBytes, slotBytes, checkBytes}
 use Rattle.group.specs.Body.{addBody}
-use Rattle.group.specs.Parity.{adjusted}
 use Rattle.group.specs.CheckRecord.{patched}
-use Rattle.group.specs.CheckRecordLaws.{length-key}
+use Rattle.group.specs.CheckRecordLaws.{length-key, patched-keys}
 use Rattle.model.specs.Layout.{Store}
 use Rattle.model.specs.Changes.{written, erased, unitLost}
 use Rattle.model.specs.ChangeLaws.{length-follow}
 use Rattle.model.proofs.history.alike.Alike.{LikeSlot, LikeCheck, Alike, pick-both, no-slot, no-check}
 
 -- ---- a check record that follows a slot
-
-patched-keys : (j p : ℕ) (key change old : List ℕ) → p < 4 → length key ≡ keyBytes → length old ≡ checkBytes
-    → take keysBytes (patched j p key change old) ≡ splice (keyBytes * p) keyBytes key (take keysBytes old)
-unfolding patched
-patched-keys j p key change old l k e =
-    let front : length (take keysBytes old) ≡ keysBytes = length-take-le keysBytes old (omega arith) in
-    take-at (splice (keyBytes * p) keyBytes key (take keysBytes old)) (adjusted j p change (drop keysBytes old)) keysBytes
-    (length-splice (keyBytes * p) keyBytes key (take keysBytes old) (omega arith) k ∙ front)
 
 module _ (j p : ℕ) (p4 : p < 4) where
   -- alike slots written over alike slots
@@ -43,9 +32,9 @@ module _ (j p : ℕ) (p4 : p < 4) where
       let ky : length (take keyBytes y) ≡ keyBytes = length-key fieldBytes y (h .right) in
       record {
         keys =
-            patched-keys j p (take keyBytes x) (addBody (drop keyBytes s) (drop keyBytes x)) old p4 kx (k .left)
+            patched-keys j p p4 (take keyBytes x) (addBody (drop keyBytes s) (drop keyBytes x)) old kx (omega (arith, k .left))
             ∙ ap₂ (splice (keyBytes * p) keyBytes) (h .key) (k .keys)
-            ∙ sym (patched-keys j p (take keyBytes y) (addBody (drop keyBytes t) (drop keyBytes y)) new p4 ky (k .right));
+            ∙ sym (patched-keys j p p4 (take keyBytes y) (addBody (drop keyBytes t) (drop keyBytes y)) new ky (omega (arith, k .right)));
         left = length-follow j p s x old p4 (i .left) (h .left) (k .left);
         right = length-follow j p t y new p4 (i .right) (h .right) (k .right);
       }

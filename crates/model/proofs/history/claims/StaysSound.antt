@@ -7,13 +7,11 @@ use mathlib.Core.Option.{Option, none, some}
 use mathlib.Core.Bool.{true, false, not}
 use native.Mathlib.Omega.{arith}
 use lib.Dec.{eqb, ltb, leb}
-use lib.ListN.{length, length-append}
-use borrow.Author.Tests.{eqb-true, eq-eqb, ltb-false, leb-false, not-false}
+use lib.ListN.{length}
+use borrow.Author.Tests.{eqb-true, eq-eqb, ltb-false, leb-false}
 use Rattle.buffer.specs.ChoiceLaws.{by-pick}
 use Rattle.buffer.specs.TestLaws.{and-second}
-use Rattle.buffer.specs.Bytes.{bytes32}
-use Rattle.buffer.specs.ByteLaws.{length-bytes32}
-use Rattle.group.specs.Widths.{fieldBytes, slotBytes}
+use Rattle.group.specs.Widths.{fieldBytes}
 use Rattle.model.specs.Layout.{Store, view, slotOf, unitsIn, levelIn, bytes}
 use Rattle.model.specs.LayoutLaws.{bytes-view}
 use Rattle.model.specs.Reads.{homeIn, fillIn, rankIn}
@@ -22,6 +20,7 @@ use Rattle.model.specs.SoundSays.{ranged}
 use Rattle.model.specs.Numbers.{Call, teach, correct, erase, read, readInPlace, list, unitOut, repair, grow, shrink, raise, refusalsIn, numberIn}
 use Rattle.model.specs.RowLaws.{Agree, Free, agree-first}
 use Rattle.model.specs.Changes.{written, erased, unitLost, repaired, grown, shrunk, raised}
+use Rattle.model.specs.ChangeLaws.{length-args}
 use Rattle.model.specs.Perform.{grantedIn, afterIn, perform}
 use Rattle.model.specs.history.Ledger.{Ledger, home, rankOf, outsOf, granted}
 use Rattle.model.specs.history.Picture.{picture, image}
@@ -49,11 +48,6 @@ use Rattle.model.proofs.history.alike.LedgerOf.{ledgerOf, ledger-valid}
 use Rattle.model.proofs.history.alike.LedgerAlike.{ledger-alike}
 use Rattle.model.proofs.history.steps.Taken.{counted-typed-in}
 use Rattle.model.proofs.history.claims.History.{simulated}
-
--- the slot of a call's arguments
-length-args : (k : ℕ) (x : List ℕ) → not (eqb (length x) fieldBytes) ≡ false → length (slotOf k x) ≡ slotBytes
-unfolding slotOf
-length-args k x e = length-append (bytes32 k) x ∙ omega (arith, length-bytes32 k, eqb-true (length x) fieldBytes (not-false (eqb (length x) fieldBytes) e))
 
 -- ---- a sound store whose parts are alike to those of a valid ledger's picture
 
