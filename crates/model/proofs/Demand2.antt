@@ -29,6 +29,7 @@ use Rattle.model.proofs.Hashing.{linear-hashing, units-reached}
 use Rattle.model.proofs.MadeAnew.{made-anew}
 use Rattle.model.proofs.Recovered.{recovered}
 use Rattle.model.proofs.RepairKeeps.{repair-keeps}
+use Rattle.model.proofs.LeftAlone.{left-alone}
 use Rattle.model.proofs.history.ledger.Valid.{Goods, Valid}
 use Rattle.model.proofs.history.picture.Records.{length-keys}
 use Rattle.model.proofs.history.picture.Seen.{size-seen, cstate-is}
@@ -100,4 +101,5 @@ demand-2 = record {
   only = only;
   recovered = recovered;
   repair-keeps = repair-keeps;
+  left-alone = left-alone;
 }

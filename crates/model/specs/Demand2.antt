@@ -22,6 +22,7 @@ use Rattle.model.specs.Perform.{layOutNumber}
 use Rattle.model.specs.MadeAnew.{MadeAnew}
 use Rattle.model.specs.Recovered.{Recovered}
 use Rattle.model.specs.RepairKeeps.{RepairKeeps}
+use Rattle.model.specs.LeftAlone.{LeftAlone}
 use Rattle.model.specs.history.Ledger.{Ledger, recordAt}
 use Rattle.model.specs.history.Typed.{Bytes}
 use Rattle.model.specs.history.Steps.{Step, StepsTyped}
@@ -83,6 +84,8 @@ pub record Demand2 : Type 0 where
   -- rebuilding of symbols has an answer for any columns and symbols, and only one
   pub answered : (cs ys : List ℕ) → length cs ≡ 4 → length ys ≡ 4 → (n : ℕ) × (ds : List ℕ) × Rebuilds cs ys n ds
   pub only : (cs ys : List ℕ) → length cs ≡ 4 → (n k : ℕ) (ds es : List ℕ) → Rebuilds cs ys n ds → Rebuilds cs ys k es → (n ≡ k) × (ds ≡ es)
-  -- rebuilding in a store, by repair, read and list; and what repair leaves alone
+  -- rebuilding in a store, by repair, read and list
   pub recovered : (s : List ℕ) → Bytes s → Recovered s
+  -- what repair leaves alone, and the other calls, also where parity was wrong before
   pub repair-keeps : (s : List ℕ) (g : ℕ) → RepairKeeps s g
+  pub left-alone : (s : List ℕ) → LeftAlone s
