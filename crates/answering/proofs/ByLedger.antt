@@ -27,7 +27,7 @@ use Rattle.lines.specs.Text.{linesOf}
 use Rattle.lines.specs.Line.{parsed}
 use Rattle.lines.specs.Output.{numberLine, recordLine}
 use Rattle.answering.specs.Command.{Command, layout, call, unknown, commandOf}
-use Rattle.answering.specs.Said.{executed, printed, recordLines, said, after, saidAll, afterAll, textBytes, blank, joined, hallrun}
+use Rattle.answering.specs.Said.{executed, printed, recordLines, said, after, saidAll, afterAll, textBytes, bufferBytes, blank, joined, hallrun}
 use Rattle.answering.specs.ByLedger.{layoutNumber, historyAfter, answerBy, ledgerLines, linesBy, saidBy, historyOf, LeftBy, ByLedger}
 use Rattle.answering.proofs.TypedLines.{TypedCommand, line-typed}
 use Rattle.answering.proofs.Unlaid.{unsound, no-records, refused-unlaid}
@@ -72,7 +72,7 @@ layout-number : (s : List ℕ) (b : ℕ) → length s ≡ length blank → layOu
 unfolding layOutNumber layoutNumber firstOf blank
 layout-number s b long =
     pick-ext (ltb b 1) 2 _ 2 _ (λ _. refl) (λ _. pick-ext (ltb 64 b) 2 _ 2 _ (λ _. refl) (λ high.
-    pick-false (le-ltb (length s) (storeBytes b) (omega (arith, long, length-zeros (storeBytes 64), ltb-false 64 b high))) 7 0))
+    pick-false (le-ltb (length s) (storeBytes b) (omega (arith, long, length-zeros bufferBytes, ltb-false 64 b high))) 7 0))
 
 -- where it is granted a history starts
 laid-out : (h : Option History) (s : List ℕ) (b : ℕ) → LeftBy h s → LeftBy (historyAfter h (layout b)) (layOut s b .store)

@@ -11,23 +11,23 @@ use Rattle.buffer.specs.ChoiceLaws.{by-test, pick-true, pick-false}
 use Rattle.buffer.specs.Range.{first}
 use Rattle.buffer.specs.ByteLaws.{byte-zeros}
 use Rattle.buffer.specs.Table.{tab}
-use Rattle.model.specs.Layout.{storeBytes, view}
+use Rattle.model.specs.Layout.{view}
 use Rattle.model.specs.Reads.{listedFill}
 use Rattle.model.specs.Sound.{ranges, sound}
 use Rattle.model.specs.Numbers.{Call, teach, correct, erase, read, readInPlace, list, unitOut, repair, grow, shrink, raise, firstOf, refusalsIn, numberIn}
 use Rattle.model.specs.Perform.{refusal, outcome, perform}
 use Rattle.model.specs.Demand1.{Refuses}
 use Rattle.model.proofs.Demand1.{demand-1}
-use Rattle.answering.specs.Said.{recordLines, blank}
+use Rattle.answering.specs.Said.{recordLines, bufferBytes, blank}
 use Rattle.answering.specs.ByLedger.{unlaidNumber}
 
 pub unsound : sound blank ≡ false
 unfolding sound ranges blank
-unsound = rw (byte-zeros (storeBytes 64) 0)
+unsound = rw (byte-zeros bufferBytes 0)
 
 pub no-records : recordLines (view blank) ≡ []
 unfolding recordLines listedFill view blank tab first
-no-records = rw (byte-zeros (storeBytes 64) 5)
+no-records = rw (byte-zeros bufferBytes 5)
 
 -- a call on a store that is not sound
 module _ (s : List ℕ) (e : sound s ≡ false) where

@@ -6,7 +6,7 @@ use lib.ListN.{take}
 use Rattle.buffer.specs.Choice.{pick}
 use Rattle.buffer.specs.Bytes.{zeros}
 use Rattle.buffer.specs.Table.{tab}
-use Rattle.model.specs.Layout.{Store, storeBytes, view}
+use Rattle.model.specs.Layout.{Store, view}
 use Rattle.model.specs.Reads.{listedFill, wholeSlot}
 use Rattle.model.specs.Perform.{Answer, plain, copied, lent, listed, planned, Outcome, outcome, perform, layOut}
 use Rattle.lines.specs.Text.{linesOf}
@@ -49,13 +49,16 @@ unfoldable pub afterAll : List ℕ → List (List ℕ) → List ℕ
 afterAll s [] = s
 afterAll s (l ∷ ls) = afterAll (after s l) ls
 
--- ---- the program: it reads at most 4,096 bytes of lines, and its store buffer, 52,260 bytes for 64 ranks, is all zero at the start
+-- ---- the program: it reads at most 4,096 bytes of lines, and its store buffer, 52,260 bytes, is all zero at the start
 
 abbrev pub textBytes : ℕ
 textBytes = 4096
 
+abbrev pub bufferBytes : ℕ
+bufferBytes = 52260
+
 unfoldable pub blank : List ℕ
-blank = zeros (storeBytes 64)
+blank = zeros bufferBytes
 
 unfoldable pub joined : List (List ℕ) → List ℕ
 joined [] = []

@@ -4,21 +4,17 @@ mod records;
 
 ghost use mathlib.Core.Path.{_≡_};
 ghost use Prim.Native.Nat.{_≤_};
-ghost use lib.ListN.{length};
+ghost use lib.ListN.{length, take};
 ghost use Rattle.lines.specs.Text.{linesOf};
 ghost use Rattle.answering.specs.Command.{listBytes};
-ghost use Rattle.answering.specs.Said.{afterAll};
+ghost use Rattle.answering.specs.Said.{afterAll, textBytes, blank};
 ghost use Rattle.answering.specs.Buffers.{answerBytes, answered, answerOf, listAfter, outAfter};
 use calls::answer_list;
 use calls::answer_read;
 use calls::number_of;
 use libc::STDOUT_FILENO;
 
-// The buffers of a program: the text, the store, for 64 ranks, the list, for 1,024 records, and the longest answer.
-pub const TEXT: usize = 4096;
-
-pub const STORE: usize = lookup::HEADER + 64 * lookup::PER_RANK;
-
+// The buffers that a program lends beside its store and its text: the list, for 1,024 records, and the longest answer.
 pub const LIST: usize = 1024 * group::SLOT;
 
 pub const ANSWER: usize = 2 + 1024 * lines::output::RECORD_LINE;
@@ -52,4 +48,16 @@ pub fn answer_all(store: &mut [u8], list: &mut [u8], out: &mut [u8], text: &[u8]
         io::write_all(STDOUT_FILENO, &out[..size]);
         at = end + 1;
     }
+}
+
+// Answers the lines in the first size bytes of a program's text buffer, from its store buffer of zeros on. It asks for the buffers of the program's
+// definition (`hallrun`, specs/Said), in the length that it says, so that a program cannot lend others.
+pub fn answer_input(store: &mut [u8], list: &mut [u8], out: &mut [u8], text: &[u8], size: usize)
+    requires { ⌜ (now store ≡ blank) × (length (now text) ≡ textBytes) × (size ≤ textBytes) × (length (now list) ≡ listBytes)
+        × (answerBytes ≤ length (now out)) ⌝ }
+    ensures left { λ _. ⌜ now (store .exit) ≡ afterAll blank (linesOf (take size (now (text .entry)))) ⌝ }
+    ensures listed { λ _. ⌜ now (list .exit) ≡ listAfter blank (now (list .entry)) (linesOf (take size (now (text .entry)))) ⌝ }
+    ensures output { λ _. ⌜ now (out .exit) ≡ outAfter blank (now (out .entry)) (linesOf (take size (now (text .entry)))) ⌝ }
+{
+    answer_all(store, list, out, &text[..size]);
 }

@@ -1,3 +1,4 @@
+pub mod Exactly
 pub mod Choice
 pub mod Range
 pub mod Bytes

@@ -2,14 +2,15 @@
 -- missing one is the value of the polynomial that the chosen ones fix. Data have such a polynomial (proofs/Columns), so their segment is given back.
 use mathlib.Core.Path.{_≡_, refl, sym, ap, ap₂, _∙_, subst}
 use mathlib.Core.Bool.{true, false, _&&_}
-use mathlib.Core.List.{List, [], _∷_, _++_, map}
+use mathlib.Core.List.{List, _++_, map}
+use mathlib.Core.Logic.{inl, inr}
 use Prim.Native.Nat.{ℕ, _+_, _*_, _-_, _/_, _≤_, _<_}
 use native.Mathlib.Nat.{mul-div-cancel, mul-add}
 use native.Mathlib.Omega.{arith}
 use lib.Dec.{ltb, leb}
 use lib.ListN.{length, length-append}
 use lib.Seq.{length-take-le}
-use borrow.Author.Tests.{le-leb, lt-ltb, ltb-true, eq-eqb, eqb-true}
+use borrow.Author.Tests.{lt-ltb, ltb-true, eq-eqb, eqb-true}
 use Rattle.algebra.specs.Polynomial.{All}
 use Rattle.buffer.specs.Choice.{pick}
 use Rattle.buffer.specs.ChoiceLaws.{by-pick, pick-true, pick-false}
@@ -18,18 +19,19 @@ use Rattle.buffer.specs.SpliceLaws.{part-left, part-seam}
 use Rattle.buffer.specs.Table.{tab}
 use Rattle.buffer.specs.TableLaws.{Wide, tab-ext, tab-append, part-chunk, length-tab}
 use Rattle.buffer.specs.Loops.{entries}
-use Rattle.buffer.specs.RangeLaws.{all-holds, length-entries, getD-entries, entries-ext, entries-of}
+use Rattle.buffer.specs.RangeLaws.{count-append, count-holds, length-entries, getD-entries, entries-ext, entries-of}
 use Rattle.coder.specs.Interpolated.{Bytes, evaluate, interpolated}
 use Rattle.coder.specs.Segment.{sizesFit, marksFit, present, presents, chosen}
 use Rattle.coder.specs.Segment.{member, memberByte, memberFrom, membersAfter, Ending, ending, rebuildSegment}
 use Rattle.coder.specs.Columns.{column, dataBytes, segmentOf}
-use Rattle.coder.specs.Claims.{Enough, Rebuilds}
+use Rattle.coder.specs.Claims.{Limits, Mark, Inside, presentOf, Enough, Rebuilds}
 use Rattle.coder.specs.ListLaws.{all-map, all-both, all-entries}
 use Rattle.coder.specs.SegmentLaws.{Member, chosen-members, chosen-distinct, chosen-map}
-use Rattle.coder.specs.MemberLaws.{Fitting, fitting, member-in, member-byte, member-long, members-are, after, after-wide, call-granted}
+use Rattle.coder.specs.MemberLaws.{member-in, member-byte, member-long, members-are, after, after-wide, call-granted}
 use Rattle.coder.specs.PointLaws.{byte-low}
 use Rattle.coder.proofs.Columns.{interpolated-only, coefficients, coefficients-long, coefficients-low, interpolated-value, interpolated-takes}
 use Rattle.coder.proofs.Columns.{columns}
+use Rattle.coder.proofs.Numbers.{inside-sizes, inside-marks, present-long}
 
 -- the first m parts of a table, and the others
 tab-split : (m n : ℕ) (f : ℕ → List ℕ) → m ≤ n → tab n f ≡ tab m f ++ tab (n - m) (λ k. f (m + k))
@@ -46,23 +48,26 @@ module _ (len : ℕ) (s : List ℕ) where
 
 -- ---- a call that is granted
 module _ (m n len : ℕ) (s marks : List ℕ) (g : Enough m n len s marks) where
-  fits : Fitting m n (len * n)
-  fits = fitting m n (len * n) (g .sizes)
+  abbrev inside : Inside m n len s marks
+  inside = g .inside
+
+  abbrev fits : Limits m n len
+  fits = inside .limits
 
   length-is : length s / length marks ≡ len
-  length-is = ap₂ (λ (a b : ℕ). a / b) (g .long) (g .count) ∙ mul-div-cancel len (omega (arith, fits .some, fits .within))
+  length-is = ap₂ (λ (a b : ℕ). a / b) (inside .long) (inside .count) ∙ mul-div-cancel len (omega (arith, fits .some, fits .within))
 
   enough : m ≤ length (presents marks (length marks))
-  enough = subst (λ (k : ℕ). m ≤ length (presents marks k)) (sym (g .count)) (g .enough)
+  enough = omega (arith, g .enough, present-long inside)
 
   members-after : membersAfter m marks (length s / length marks) s ≡ tab n (after m marks len s)
   unfolding membersAfter
-  members-after = ap (λ (l : ℕ). membersAfter m marks l s) length-is ∙ ap (λ (k : ℕ). tab k (after m marks len s)) (g .count)
+  members-after = ap (λ (l : ℕ). membersAfter m marks l s) length-is ∙ ap (λ (k : ℕ). tab k (after m marks len s)) (inside .count)
 
   ends : rebuildSegment m s marks ≡ ending 0 (tab n (after m marks len s)) (entries n (λ _. 1))
   ends =
-      call-granted m s marks (ap₂ (λ (a b : ℕ). sizesFit m a b) (g .count) (g .long) ∙ g .sizes) (g .marked) enough
-      ∙ ap₂ (λ (t : List ℕ) (k : ℕ). ending 0 t (entries k (λ _. 1))) members-after (g .count)
+      call-granted m s marks (inside-sizes inside) (inside-marks inside) enough
+      ∙ ap₂ (λ (t : List ℕ) (k : ℕ). ending 0 t (entries k (λ _. 1))) members-after (inside .count)
 
   chosen-long : length (chosen m marks) ≡ m
   unfolding chosen
@@ -70,10 +75,10 @@ module _ (m n len : ℕ) (s marks : List ℕ) (g : Enough m n len s marks) where
 
   chosen-bytes : Bytes (chosen m marks)
   chosen-bytes =
-      all-map (Member marks (length marks)) (λ p. p < 256) (λ p h. omega (arith, h .below, g .count, fits .few)) (chosen m marks) (chosen-members marks m)
+      all-map (Member marks (length marks)) (λ p. p < 256) (λ p h. omega (arith, h .below, inside .count, fits .few)) (chosen m marks) (chosen-members marks m)
 
   kept : (c : ℕ) → c < n → present marks c ≡ true → member len (rebuildSegment m s marks .members) c ≡ member len s c
-  kept c h e = member-chunk len _ n (after m marks len s) (ap (λ (x : Ending). x .members) ends) (after-wide m marks n len s (g .long)) c h ∙ pick-true e _ _
+  kept c h e = member-chunk len _ n (after m marks len s) (ap (λ (x : Ending). x .members) ends) (after-wide m marks n len s (inside .long)) c h ∙ pick-true e _ _
 
   -- a missing member, by the polynomial through the first m present ones
   module _ (b : Bytes s) (j : ℕ) (l : j < len) where
@@ -95,7 +100,7 @@ module _ (m n len : ℕ) (s marks : List ℕ) (g : Enough m n len s marks) where
     lost c h e =
         sym (member-byte len (rebuildSegment m s marks .members) c j l)
         ∙ ap (λ (t : List ℕ). byte t j)
-        (member-chunk len _ n (after m marks len s) (ap (λ (x : Ending). x .members) ends) (after-wide m marks n len s (g .long)) c h ∙ pick-false e _ _)
+        (member-chunk len _ n (after m marks len s) (ap (λ (x : Ending). x .members) ends) (after-wide m marks n len s (inside .long)) c h ∙ pick-false e _ _)
         ∙ getD-entries len (λ j. interpolated (chosen m marks) (map (memberByte len s j) (chosen m marks)) c) j 0 l
         ∙ interpolated-value (chosen m marks) values c (omega (arith, fits .few))
 
@@ -110,7 +115,7 @@ module _ (m n len : ℕ) (s marks : List ℕ) (g : Enough m n len s marks) where
     wanted c = entries len (λ j. evaluate (f j) c)
 
     chosen-values : (j : ℕ) → j < len → map (memberByte len s j) (chosen m marks) ≡ map (evaluate (f j)) (chosen m marks)
-    chosen-values j l = chosen-map marks m (memberByte len s j) (evaluate (f j)) (λ p h. are p j (omega (arith, h .below, g .count)) l (h .is))
+    chosen-values j l = chosen-map marks m (memberByte len s j) (evaluate (f j)) (λ p h. are p j (omega (arith, h .below, inside .count)) l (h .is))
 
     missing : (c : ℕ) → c < n → memberFrom (chosen m marks) len s c ≡ wanted c
     unfolding memberFrom
@@ -123,7 +128,7 @@ module _ (m n len : ℕ) (s marks : List ℕ) (g : Enough m n len s marks) where
     each : (c : ℕ) → c < n → after m marks len s c ≡ wanted c
     each c h =
         by-pick (λ l. l ≡ wanted c) (present marks c) (member len s c) (memberFrom (chosen m marks) len s c)
-        (λ e. member-is len s n c (λ j. evaluate (f j) c) (g .long) h (λ j l. are c j h l e)) (λ e. missing c h)
+        (λ e. member-is len s n c (λ j. evaluate (f j) c) (inside .long) h (λ j l. are c j h l e)) (λ e. missing c h)
 
     rebuilt : rebuildSegment m s marks ≡ ending 0 (tab n wanted) (entries n (λ _. 1))
     rebuilt = ends ∙ ap (λ (t : List ℕ). ending 0 t (entries n (λ _. 1))) (tab-ext n (after m marks len s) wanted each)
@@ -131,10 +136,10 @@ module _ (m n len : ℕ) (s marks : List ℕ) (g : Enough m n len s marks) where
   -- none missing
   module _ (every : (c : ℕ) → c < n → present marks c ≡ true) where
     same-members : tab n (after m marks len s) ≡ s
-    same-members = tab-ext n (after m marks len s) (member len s) (λ c h. pick-true (every c h) _ _) ∙ members-are len s n (g .long)
+    same-members = tab-ext n (after m marks len s) (member len s) (λ c h. pick-true (every c h) _ _) ∙ members-are len s n (inside .long)
 
     same-marks : entries n (λ _. 1) ≡ marks
-    same-marks = sym (entries-of marks n (λ _. 1) (g .count) (λ c h. eqb-true (byte marks c) 1 (every c h)))
+    same-marks = sym (entries-of marks n (λ _. 1) (inside .count) (λ c h. eqb-true (byte marks c) 1 (every c h)))
 
     whole : rebuildSegment m s marks ≡ ending 0 s marks
     whole = ends ∙ ap₂ (ending 0) same-members same-marks
@@ -208,7 +213,7 @@ returned m n len s marks g d b e h =
     rebuilt m n len s marks g (polynomialOf m len d few b) (λ j l. polynomial-low m len d few b j) are
     ∙ ap (λ (t : List ℕ). ending 0 t (entries n (λ _. 1))) (segment-is m len d few b n (omega (arith, f .few)))
   where
-    f : Fitting m n (len * n)
+    f : Limits m n len
     f = fits m n len s marks g
 
     few : m ≤ 256
@@ -229,12 +234,8 @@ module _ (m n : ℕ) (inside : m ≤ n) where
   mark-is : (c : ℕ) → c < n → byte (firstMarks m n) c ≡ pick (ltb c m) 1 0
   mark-is c h = getD-entries n (λ c. pick (ltb c m) 1 0) c 0 h
 
-  marks-fit : marksFit (firstMarks m n) ≡ true
-  unfolding marksFit
-  marks-fit =
-      all-holds (length (firstMarks m n)) _ (λ c h. le-leb (byte (firstMarks m n) c) 1
-      (subst (λ (x : ℕ). x ≤ 1) (sym (mark-is c (subst (λ (k : ℕ). c < k) (length-entries n _) h)))
-      (by-pick (λ x. x ≤ 1) (ltb c m) 1 0 (λ _. omega arith) (λ _. omega arith))))
+  first-marked : (c : ℕ) → c < n → Mark (byte (firstMarks m n) c)
+  first-marked c h = subst Mark (sym (mark-is c h)) (by-pick Mark (ltb c m) 1 0 (λ _. inr refl) (λ _. inl refl))
 
   mark-first : (c : ℕ) → c < m → present (firstMarks m n) c ≡ true
   mark-first c h = eq-eqb (byte (firstMarks m n) c) 1 (mark-is c (omega arith) ∙ pick-true (lt-ltb c m h) 1 0)
@@ -244,33 +245,30 @@ module _ (m n : ℕ) (inside : m ≤ n) where
       by-pick (λ x. _≡_ {A = ℕ} x 1 → c < m) (ltb c m) 1 0 (λ l _. ltb-true c m l) (λ _ z. absurd (omega arith))
       (sym (mark-is c h) ∙ eqb-true (byte (firstMarks m n) c) 1 e)
 
-  firsts-present : length (presents (firstMarks m n) m) ≡ m
-  unfolding presents
-  firsts-present =
-      let e : 1 * m ≡ m = omega arith in
-      ap length (tab-ext m _ (λ c. c ∷ []) (λ c h. pick-true (mark-first c h) _ _)) ∙ length-tab m 1 (λ c. c ∷ []) (λ c h. refl) ∙ e
-
-  marks-enough : m ≤ length (presents (firstMarks m n) n)
-  unfolding presents
-  marks-enough =
-      let own : ℕ → List ℕ = λ c. pick (present (firstMarks m n) c) (c ∷ []) [] in
-      omega (arith, ap length (tab-split m n own inside), length-append (presents (firstMarks m n) m) (tab (n - m) (λ k. own (m + k))), firsts-present)
+  first-enough : m ≤ presentOf n (firstMarks m n)
+  first-enough =
+      let d : m + (n - m) ≡ n = omega arith in
+      omega (
+        arith,
+        count-append m (n - m) (present (firstMarks m n)),
+        count-holds m (present (firstMarks m n)) mark-first,
+        ap (λ (k : ℕ). presentOf k (firstMarks m n)) d,
+      )
 
 both-long : (m n len : ℕ) → m ≤ n → len * m + len * (n - m) ≡ len * n
 both-long m n len h = let e : m + (n - m) ≡ n = omega arith in sym (mul-add len m (n - m)) ∙ ap (λ (k : ℕ). len * k) e
 
-module _ (m n len : ℕ) (sizes : sizesFit m n (len * n) ≡ true) (d rest : List ℕ) (b : Bytes d) (e : length d ≡ len * m)
+module _ (m n len : ℕ) (l : Limits m n len) (d rest : List ℕ) (b : Bytes d) (e : length d ≡ len * m)
     (r : length rest ≡ len * (n - m)) where
-  abbrev sized : Fitting m n (len * n)
-  sized = fitting m n (len * n) sizes
-
   encoding : Enough m n len (d ++ rest) (firstMarks m n)
   encoding = record {
-    sizes = sizes;
-    long = length-append d rest ∙ ap₂ (λ (x y : ℕ). x + y) e r ∙ both-long m n len (sized .within);
-    count = length-entries n _;
-    marked = marks-fit m n (sized .within);
-    enough = marks-enough m n (sized .within);
+    inside = record {
+      limits = l;
+      long = length-append d rest ∙ ap₂ (λ (x y : ℕ). x + y) e r ∙ both-long m n len (l .within);
+      count = length-entries n _;
+      marked = first-marked m n (l .within);
+    };
+    enough = first-enough m n (l .within);
   }
 
   member-left : (c : ℕ) → c < m → member len (d ++ rest) c ≡ member len d c
@@ -279,10 +277,10 @@ module _ (m n len : ℕ) (sizes : sizesFit m n (len * n) ≡ true) (d rest : Lis
 
   encoded : rebuildSegment m (d ++ rest) (firstMarks m n) ≡ ending 0 (segmentOf m n len d) (entries n (λ _. 1))
   encoded =
-      let few : m ≤ 256 = omega (arith, sized .group) in
+      let few : m ≤ 256 = omega (arith, l .group) in
       returned m n len (d ++ rest) (firstMarks m n) encoding d b e
-      (λ c h p. let l : c < m = first-mark m n (sized .within) c h p in
-      member-left c l ∙ sym (column-member m len d few b e c l) ∙ sym (segment-member m len d few b n c h))
+      (λ c h p. let f : c < m = first-mark m n (l .within) c h p in
+      member-left c f ∙ sym (column-member m len d few b e c f) ∙ sym (segment-member m len d few b n c h))
 
 -- ---- a call that is refused
 refused : (m : ℕ) (s marks : List ℕ) → (rebuildSegment m s marks .number ≡ 0 → ⊥)

@@ -7,5 +7,6 @@ pub mod Members
 pub mod Rebuilding
 pub mod Verdicts
 pub mod Columns
+pub mod Numbers
 pub mod Claims
 pub mod Examples

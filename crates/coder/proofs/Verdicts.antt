@@ -6,31 +6,24 @@ use mathlib.Core.List.{List}
 use Prim.Native.Nat.{ℕ, _/_, _≤_, _<_}
 use native.Mathlib.Omega.{arith}
 use lib.ListN.{length}
-use borrow.Author.Tests.{lt-leb}
-use Rattle.buffer.specs.ChoiceLaws.{pick-true, pick-false}
-use Rattle.buffer.specs.TestLaws.{and-true, and-false-first, and-false-second}
+use Rattle.buffer.specs.TestLaws.{and-false-first, and-false-second}
 use Rattle.buffer.specs.Loops.{entries}
-use Rattle.coder.specs.Segment.{sizesFit, marksFit, presents, membersAfter, ending, rebuildSegment}
-use Rattle.coder.specs.MemberLaws.{fitting, call-granted}
+use Rattle.coder.specs.Segment.{sizesFit, marksFit, membersAfter, ending, rebuildSegment}
+use Rattle.coder.specs.MemberLaws.{fitting, call-outside, call-few, call-granted}
 use Rattle.coder.specs.Choosing.{Chosen}
 use Rattle.coder.specs.Granted.{Granted}
 
 module _ (m : ℕ) (s marks : List ℕ) where
   pub refused-sizes : sizesFit m (length marks) (length s) ≡ false → ending 2 s marks ≡ rebuildSegment m s marks
-  unfolding rebuildSegment
-  refused-sizes e = sym (pick-false (and-false-first e (marksFit marks)) _ (ending 2 s marks))
+  refused-sizes e = sym (call-outside m s marks (and-false-first e (marksFit marks)))
 
   pub refused-marks : marksFit marks ≡ false → ending 2 s marks ≡ rebuildSegment m s marks
-  unfolding rebuildSegment
-  refused-marks e = sym (pick-false (and-false-second (sizesFit m (length marks) (length s)) e) _ (ending 2 s marks))
+  refused-marks e = sym (call-outside m s marks (and-false-second (sizesFit m (length marks) (length s)) e))
 
   module _ (sizes : sizesFit m (length marks) (length s) ≡ true) (fit : marksFit marks ≡ true) {points : List ℕ} {seen : ℕ}
       (g : Chosen marks points m seen) where
     pub refused-few : seen < m → ending 8 s marks ≡ rebuildSegment m s marks
-    unfolding rebuildSegment
-    refused-few h =
-        sym (pick-true (and-true sizes fit) _ (ending 2 s marks)
-        ∙ pick-false (lt-leb m (length (presents marks (length marks))) (omega (arith, g .count))) _ (ending 8 s marks))
+    refused-few h = sym (call-few m s marks sizes fit (omega (arith, g .count)))
 
     pub granted : m ≤ seen → Granted s marks points m
     granted h =

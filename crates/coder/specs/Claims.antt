@@ -1,18 +1,22 @@
--- What is claimed of the byte coder, by the value of polynomials (`evaluate`) alone: the columns' rule, that any m different columns fix the data, and
--- that rebuilding returns just what was lost. proofs/Claims has the proofs.
+-- What is claimed of the byte coder: the columns' rule, that any m different columns fix the data, that rebuilding returns just what was lost, all by the
+-- value of polynomials (`evaluate`) alone, and which number a call returns, by the limits of document 02. proofs/Columns, proofs/Claims and
+-- proofs/Numbers have the proofs.
 use mathlib.Core.Path.{_≡_}
 use mathlib.Core.Bool.{true, false}
 use mathlib.Core.List.{List, _++_}
+use mathlib.Core.Logic.{_⊎_}
 use Prim.Native.Nat.{ℕ, _*_, _-_, _≤_, _<_}
-use lib.Dec.{ltb}
+use lib.Dec.{eqb, ltb}
 use lib.ListN.{length, getD}
 use Rattle.algebra.specs.Polynomial.{All, Distinct}
+use Rattle.buffer.specs.Exactly.{Exactly}
 use Rattle.buffer.specs.Choice.{pick}
-use Rattle.buffer.specs.Bytes.{part}
+use Rattle.buffer.specs.Range.{count}
+use Rattle.buffer.specs.Bytes.{byte, part}
 use Rattle.buffer.specs.Table.{tab}
 use Rattle.buffer.specs.Loops.{entries}
 use Rattle.coder.specs.Interpolated.{Bytes, evaluate}
-use Rattle.coder.specs.Segment.{sizesFit, marksFit, present, presents, chosen, member, memberByte, ending, rebuildSegment}
+use Rattle.coder.specs.Segment.{present, chosen, member, memberByte, ending, rebuildSegment}
 use Rattle.coder.specs.Columns.{column, segmentOf}
 
 -- ---- the columns
@@ -29,13 +33,45 @@ pub record Columns : Type 0 where
       → All (λ c. column ds c ≡ column es c) cs → ds ≡ es
 
 -- ---- the call
--- n marks and n members of len bytes each that fit, m or more of them present
-pub record Enough (m n len : ℕ) (s marks : List ℕ) : Type 0 where
-  pub sizes : sizesFit m n (len * n) ≡ true
+-- document 02's limits: "Group size m is 1 to 32, and a segment has m to 64 members", n here; members are len bytes, "each 1 to 1,024 bytes"
+pub record Limits (m n len : ℕ) : Type 0 where
+  pub some : 1 ≤ m
+  pub group : m ≤ 32
+  pub within : m ≤ n
+  pub few : n ≤ 64
+  pub filled : 1 ≤ len
+  pub short : len ≤ 1024
+
+-- "one mark byte a member: 1 present, 0 missing"
+abbrev pub Mark : ℕ → Type 0
+Mark x = (x ≡ 0) ⊎ (x ≡ 1)
+
+-- all is inside the limits: s is n members, "equal stretches of one lent slice", and there are n marks
+pub record Inside (m n len : ℕ) (s marks : List ℕ) : Type 0 where
+  pub limits : Limits m n len
   pub long : length s ≡ len * n
   pub count : length marks ≡ n
-  pub marked : marksFit marks ≡ true
-  pub enough : m ≤ length (presents marks n)
+  pub marked : (c : ℕ) → c < n → Mark (byte marks c)
+
+-- how many of n members are present
+abbrev pub presentOf : ℕ → List ℕ → ℕ
+presentOf n marks = count n (λ c. eqb (byte marks c) 1)
+
+-- all is inside, and fewer than m members are present, or m or more
+pub record Few (m n len : ℕ) (s marks : List ℕ) : Type 0 where
+  pub inside : Inside m n len s marks
+  pub few : presentOf n marks < m
+
+pub record Enough (m n len : ℕ) (s marks : List ℕ) : Type 0 where
+  pub inside : Inside m n len s marks
+  pub enough : m ≤ presentOf n marks
+
+-- "It refuses with 2 for lengths, marks, member counts or m outside these and with 8 when fewer than m are present; 2 comes first." So of every m and all
+-- bytes: 2 exactly where there are no n and len with which all is inside, 8 exactly where there are and too few are present, 0 exactly where enough are
+pub record Numbers (m : ℕ) (s marks : List ℕ) : Type 0 where
+  pub two : Exactly (rebuildSegment m s marks .number ≡ 2) ((n len : ℕ) → Inside m n len s marks → ⊥)
+  pub eight : Exactly (rebuildSegment m s marks .number ≡ 8) ((n : ℕ) × (len : ℕ) × Few m n len s marks)
+  pub zero : Exactly (rebuildSegment m s marks .number ≡ 0) ((n : ℕ) × (len : ℕ) × Enough m n len s marks)
 
 pub record Rebuilds : Type 0 where
   -- members of one polynomial a byte: rebuilding returns just them, whichever are missing and whatever stands there
@@ -52,7 +88,7 @@ pub record Rebuilds : Type 0 where
       → ((c : ℕ) → c < n → present marks c ≡ true → member len s c ≡ member len (segmentOf m n len d) c)
       → rebuildSegment m s marks ≡ ending 0 (segmentOf m n len d) (entries n (λ _. 1))
   -- encoding: the data, and behind them members that are marked missing
-  pub encoded : (m n len : ℕ) → sizesFit m n (len * n) ≡ true → (d rest : List ℕ) → Bytes d → length d ≡ len * m → length rest ≡ len * (n - m)
+  pub encoded : (m n len : ℕ) → Limits m n len → (d rest : List ℕ) → Bytes d → length d ≡ len * m → length rest ≡ len * (n - m)
       → rebuildSegment m (d ++ rest) (entries n (λ c. pick (ltb c m) 1 0)) ≡ ending 0 (segmentOf m n len d) (entries n (λ _. 1))
   -- a segment begins with its data
   pub begins : (m n len : ℕ) (d : List ℕ) → m ≤ n → m ≤ 256 → Bytes d → length d ≡ len * m → part 0 (len * m) (segmentOf m n len d) ≡ d

@@ -1,16 +1,17 @@
 -- The members of a segment as parts of one list: where they lie, their lengths and bytes, and those after a call. A reader wants `fitting` (what fitting
--- sizes say), `over` (members do not overlap), `member-in`, `member-byte`, `members-are`, `after`, `after-wide` and `call-granted`.
+-- sizes say), `over` (members do not overlap), `member-in`, `member-byte`, `members-are`, `after`, `after-wide` and how a call
+-- ends, `call-outside`, `call-few` and `call-granted`.
 use mathlib.Core.Path.{_≡_, sym, _∙_, subst}
-use mathlib.Core.Bool.{true}
+use mathlib.Core.Bool.{true, false, _&&_}
 use mathlib.Core.List.{List}
 use Prim.Native.Nat.{ℕ, _+_, _*_, _/_, _%_, _≤_, _<_}
 use native.Mathlib.Nat.{mul-suc, mul-le-mul-left, div-add-mod'}
 use native.Mathlib.Omega.{arith}
 use lib.Dec.{leb}
 use lib.ListN.{length}
-use borrow.Author.Tests.{le-leb, leb-true, eqb-true}
+use borrow.Author.Tests.{le-leb, lt-leb, leb-true, eqb-true}
 use Rattle.buffer.specs.Choice.{pick}
-use Rattle.buffer.specs.ChoiceLaws.{by-pick, pick-true}
+use Rattle.buffer.specs.ChoiceLaws.{by-pick, pick-true, pick-false}
 use Rattle.buffer.specs.TestLaws.{and-true, and-first, and-second}
 use Rattle.buffer.specs.Bytes.{byte}
 use Rattle.buffer.specs.ByteLaws.{byte-part}
@@ -28,6 +29,7 @@ pub record Fitting (m n bytes : ℕ) : Type 0 where
   pub group : m ≤ largestGroup
   pub within : m ≤ n
   pub few : n ≤ mostMembers
+  pub filled : 1 ≤ bytes / n
   pub short : bytes / n ≤ longestMember
   pub whole : bytes ≡ bytes / n * n
 
@@ -44,6 +46,7 @@ fitting m n bytes e =
       group = leb-true m largestGroup (and-first (leb m largestGroup) _ e₁);
       within = leb-true m n (and-first (leb m n) _ e₂);
       few = leb-true n mostMembers (and-first (leb n mostMembers) _ e₃);
+      filled = leb-true 1 (bytes / n) (and-first (leb 1 (bytes / n)) _ e₄);
       short = leb-true (bytes / n) longestMember (and-first (leb (bytes / n) longestMember) _ e₅);
       whole = omega (arith, div-add-mod' bytes n, eqb-true (bytes % n) 0 (and-second (leb (bytes / n) longestMember) _ e₅));
     }
@@ -78,10 +81,18 @@ after-wide m marks n len s e c h =
     by-pick (λ l. length l ≡ len) (present marks c) (member len s c) (memberFrom (chosen m marks) len s c) (λ _. member-long len s n c e h)
     (λ _. length-entries len _)
 
--- ---- how a call ends whose tests hold
-pub call-granted : (m : ℕ) (s marks : List ℕ) → sizesFit m (length marks) (length s) ≡ true → marksFit marks ≡ true
-    → m ≤ length (presents marks (length marks))
-    → rebuildSegment m s marks ≡ ending 0 (membersAfter m marks (length s / length marks) s) (entries (length marks) (λ _. 1))
-unfolding rebuildSegment
-call-granted m s marks e f h =
-    pick-true (and-true e f) _ _ ∙ pick-true (le-leb m (length (presents marks (length marks))) h) _ _
+-- ---- how a call ends, by its tests
+module _ (m : ℕ) (s marks : List ℕ) where
+  pub call-outside : (sizesFit m (length marks) (length s) && marksFit marks) ≡ false → rebuildSegment m s marks ≡ ending 2 s marks
+  unfolding rebuildSegment
+  call-outside e = pick-false e _ (ending 2 s marks)
+
+  module _ (e : sizesFit m (length marks) (length s) ≡ true) (f : marksFit marks ≡ true) where
+    pub call-few : length (presents marks (length marks)) < m → rebuildSegment m s marks ≡ ending 8 s marks
+    unfolding rebuildSegment
+    call-few h = pick-true (and-true e f) _ _ ∙ pick-false (lt-leb m (length (presents marks (length marks))) h) _ (ending 8 s marks)
+
+    pub call-granted : m ≤ length (presents marks (length marks))
+        → rebuildSegment m s marks ≡ ending 0 (membersAfter m marks (length s / length marks) s) (entries (length marks) (λ _. 1))
+    unfolding rebuildSegment
+    call-granted h = pick-true (and-true e f) _ _ ∙ pick-true (le-leb m (length (presents marks (length marks))) h) _ _

@@ -1,13 +1,15 @@
--- The present members of a segment: each is in it and present, and no two are the same. A user wants `chosen-members`, `chosen-distinct` and `chosen-map`.
-use mathlib.Core.Path.{_≡_, refl, sym, ap, _∙_, subst}
+-- The present members of a segment: each is in it and present, no two are the same, and they are as many as a count says. A user wants `chosen-members`,
+-- `chosen-distinct`, `chosen-map` and `presents-long`.
+use mathlib.Core.Path.{_≡_, refl, sym, ap, ap₂, _∙_, subst}
 use mathlib.Core.Bool.{true, false}
 use mathlib.Core.List.{List, [], _∷_, _++_, append-nil, map}
 use Prim.Native.Nat.{ℕ, zero, suc, _+_, _<_}
 use native.Mathlib.Omega.{arith}
-use lib.ListN.{length}
+use lib.ListN.{length, length-append}
 use Rattle.algebra.specs.Polynomial.{All, Distinct}
 use Rattle.buffer.specs.Choice.{pick}
-use Rattle.buffer.specs.ChoiceLaws.{pick-true, pick-false, by-pick}
+use Rattle.buffer.specs.ChoiceLaws.{pick-true, pick-false, by-test, by-pick}
+use Rattle.buffer.specs.Range.{count}
 use Rattle.buffer.specs.Table.{tab}
 use Rattle.buffer.specs.TableLaws.{tab-more}
 use Rattle.coder.specs.ListLaws.{all-map, map-all, all-append, all-take, distinct-snoc, distinct-take}
@@ -35,6 +37,15 @@ module _ (marks : List ℕ) where
   pub presents-same : (c : ℕ) → present marks c ≡ false → presents marks (c + 1) ≡ presents marks c
   unfolding presents
   presents-same c e = tab-more c (own marks) ∙ ap (λ l. tab c (own marks) ++ l) (pick-false e (c ∷ []) []) ∙ append-nil (tab c (own marks))
+
+  -- as many as are counted
+  pub presents-long : (c : ℕ) → length (presents marks c) ≡ count c (present marks)
+  unfolding presents tab count
+  presents-long zero = refl
+  presents-long (suc c) =
+      length-append (presents marks c) (own marks c)
+      ∙ ap₂ (λ (x y : ℕ). x + y) (presents-long c)
+      (by-test (λ t. length (pick t (c ∷ []) []) ≡ pick t 1 0) (present marks c) (λ _. unfold pick in refl) (λ _. unfold pick in refl))
 
   presents-members : (c : ℕ) → All (Member marks c) (presents marks c)
   unfolding presents tab

@@ -2,10 +2,12 @@
 use libc::STDIN_FILENO;
 
 fn main() {
-    let mut store = [0u8; answering::STORE];
+    // The store, all zero at the start, with room for 64 ranks: it is lent to every store call.
+    let mut store = [0u8; 52260];
     let mut list = [0u8; answering::LIST];
     let mut out = [0u8; answering::ANSWER];
-    let mut text = [0u8; answering::TEXT];
+    // At most 4,096 bytes of lines are read.
+    let mut text = [0u8; 4096];
     let size = io::read_full(STDIN_FILENO, &mut text);
-    answering::answer_all(&mut store, &mut list, &mut out, &text[..size]);
+    answering::answer_input(&mut store, &mut list, &mut out, &text, size);
 }

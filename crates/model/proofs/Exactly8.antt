@@ -8,6 +8,7 @@ use native.Mathlib.Omega.{arith}
 use lib.Dec.{eqb, ltb}
 use lib.ListN.{length}
 use borrow.Author.Tests.{eq-eqb, ne-eqb, eqb-true, eqb-false, ltb-true, lt-ltb, le-ltb, lt-leb, leb-false, not-true}
+use Rattle.buffer.specs.Exactly.{Exactly}
 use Rattle.buffer.specs.ChoiceLaws.{by-test}
 use Rattle.buffer.specs.TestLaws.{and-true, and-first, and-second, or-else, or-other}
 use Rattle.buffer.specs.Range.{all, count, first}
@@ -21,7 +22,7 @@ use Rattle.model.specs.Sound.{sound}
 use Rattle.model.specs.SoundSays.{ranged, units-few}
 use Rattle.model.specs.Numbers.{read, list, repair, refusalsIn, numberIn}
 use Rattle.model.specs.RowLaws.{row-holds, row-fails, lacks-first}
-use Rattle.model.specs.Judged.{KeysLost, TooManyMissing, KeyBeyond, GroupBeyond, Is8Where}
+use Rattle.model.specs.Judged.{KeysLost, TooManyMissing, KeyBeyond, GroupBeyond}
 
 -- ---- the tests, and what they say
 
@@ -95,7 +96,7 @@ module _ (v : Store) where
 -- ---- the numbers
 
 -- the number is 8 where a test holds, and otherwise another
-is-8 : (n : ℕ) (t : Bool) (A : Type 0) → (t ≡ true → n ≡ 8) → (t ≡ false → n ≢ 8) → (t ≡ true → A) → (A → t ≡ true) → Is8Where n A
+is-8 : (n : ℕ) (t : Bool) (A : Type 0) → (t ≡ true → n ≡ 8) → (t ≡ false → n ≢ 8) → (t ≡ true → A) → (A → t ≡ true) → Exactly (n ≡ 8) A
 is-8 n t A holds fails says said = (λ e. by-test (λ _. A) t says (λ f. absurd (fails f e)), λ a. holds (said a))
 
 module _ (s : List ℕ) (ok : sound s ≡ true) where
@@ -103,7 +104,7 @@ module _ (s : List ℕ) (ok : sound s ≡ true) where
   unfolding view
   some = ranged s ok .least
 
-  pub read-exactly : (k : ℕ) → k ≢ 0 → (out : List ℕ) → length out ≡ fieldBytes → Is8Where (numberIn s (read k out)) (KeyBeyond (view s) k)
+  pub read-exactly : (k : ℕ) → k ≢ 0 → (out : List ℕ) → length out ≡ fieldBytes → Exactly (numberIn s (read k out) ≡ 8) (KeyBeyond (view s) k)
   unfolding numberIn refusalsIn
   read-exactly k key out fits =
       is-8 _ (keyBeyondIn (view s) k) _
@@ -111,7 +112,7 @@ module _ (s : List ℕ) (ok : sound s ≡ true) where
       (λ t. lacks-first 8 (λ q. omega arith) _ (refl, (refl, (refl, (t, (refl, tt))))))
       (key-beyond (view s) k) (beyond-key (view s) k)
 
-  pub repair-exactly : (g : ℕ) → 4 * g < unitsIn (view s) → Is8Where (numberIn s (repair g)) (GroupBeyond (view s) g)
+  pub repair-exactly : (g : ℕ) → 4 * g < unitsIn (view s) → Exactly (numberIn s (repair g) ≡ 8) (GroupBeyond (view s) g)
   unfolding numberIn refusalsIn
   repair-exactly g l =
       is-8 _ (beyondIn (view s) g) _
@@ -120,7 +121,7 @@ module _ (s : List ℕ) (ok : sound s ≡ true) where
       (λ t. lacks-first 8 (λ q. omega arith) _ (refl, (refl, (refl, (t, tt)))))
       (group-beyond (view s) some g) (beyond-group (view s) some g)
 
-  pub list-exactly : (out : List ℕ) → Is8Where (numberIn s (list out)) ((g : ℕ) × (g < 4) × GroupBeyond (view s) g)
+  pub list-exactly : (out : List ℕ) → Exactly (numberIn s (list out) ≡ 8) ((g : ℕ) × (g < 4) × GroupBeyond (view s) g)
   unfolding numberIn refusalsIn lostIn
   list-exactly out =
       let beyond : ℕ → Bool = beyondIn (view s) in

@@ -50,6 +50,6 @@ module _ (s : List ℕ) where
     group-not-in-place = λ g l d e.
         (refused-as s (repair g) 3 (row-fails _ _ (le-ltb 3 g l) ∙ row-fails _ _ (ap not d) ∙ row-holds _ _ (le-leb _ _ e)) (omega arith), tt);
     short = λ x d f l. (refused-as s (list x) 7 (row-fails _ _ (ap not d) ∙ row-fails _ _ f ∙ row-holds _ _ (lt-ltb _ _ l)) (omega arith), tt);
-    short-for-the-plan = λ lent z l. step-as s (plan lent) 7 (two-strokes s .too-short lent z l) (omega arith);
+    short-for-the-plan = λ lent z l. step-as s (plan lent) 7 (two-strokes s .short lent .1 (z, l)) (omega arith);
     count-above-the-list = λ lent n z l. step-as s (commit lent n) 11 (two-strokes s .not-the-plan z lent n (λ a _. omega (arith, a, l))) (omega arith);
   }

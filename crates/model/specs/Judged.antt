@@ -6,6 +6,7 @@ use mathlib.Core.List.{List}
 use mathlib.Core.Bool.{true, _&&_}
 use lib.Dec.{eqb, ltb}
 use lib.ListN.{length}
+use Rattle.buffer.specs.Exactly.{Exactly}
 use Rattle.buffer.specs.Range.{count}
 use Rattle.group.specs.Widths.{fieldBytes}
 use Rattle.model.specs.Layout.{Store, view, unitsIn, levelIn}
@@ -39,14 +40,10 @@ KeyBeyond v k =
 abbrev pub GroupBeyond : Store → ℕ → Type 0
 GroupBeyond v g = ((p : ℕ) × (p < 4) × KeysLost v (4 * g + p)) ⊎ ((r : ℕ) × (r < v .size) × TooManyMissing v g r)
 
--- the number is 8 exactly where this holds
-abbrev pub Is8Where : ℕ → Type 0 → Type 0
-Is8Where n A = (n ≡ 8 → A) × (A → n ≡ 8)
-
 pub record LossesJudged (s : List ℕ) : Type 0 where
-  pub read-exactly : sound s ≡ true → (k : ℕ) → k ≢ 0 → (out : List ℕ) → length out ≡ fieldBytes → Is8Where (numberIn s (read k out)) (KeyBeyond (view s) k)
-  pub repair-exactly : sound s ≡ true → (g : ℕ) → 4 * g < unitsIn (view s) → Is8Where (numberIn s (repair g)) (GroupBeyond (view s) g)
-  pub list-exactly : sound s ≡ true → (out : List ℕ) → Is8Where (numberIn s (list out)) ((g : ℕ) × (g < 4) × GroupBeyond (view s) g)
+  pub read-exactly : sound s ≡ true → (k : ℕ) → k ≢ 0 → (out : List ℕ) → length out ≡ fieldBytes → Exactly (numberIn s (read k out) ≡ 8) (KeyBeyond (view s) k)
+  pub repair-exactly : sound s ≡ true → (g : ℕ) → 4 * g < unitsIn (view s) → Exactly (numberIn s (repair g) ≡ 8) (GroupBeyond (view s) g)
+  pub list-exactly : sound s ≡ true → (out : List ℕ) → Exactly (numberIn s (list out) ≡ 8) ((g : ℕ) × (g < 4) × GroupBeyond (view s) g)
   -- what the number of units out does not rule out is granted: a group in place with no more of them than the level says is repaired; a key is not
   -- refused as beyond recovery where its unit is not out or is in such a group, and neither is a list where this holds of all data units
   pub within-level : sound s ≡ true → (g : ℕ) → 4 * g < unitsIn (view s) → outsIn (view s) g ≤ levelIn (view s) → numberIn s (repair g) ≡ 0

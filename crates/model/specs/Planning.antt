@@ -4,6 +4,7 @@ use mathlib.Core.Path.{_≡_}
 use mathlib.Core.Logic.{_≢_, _⊎_}
 use mathlib.Core.List.{List}
 use lib.ListN.{length, take, getD}
+use Rattle.buffer.specs.Exactly.{Exactly}
 use Rattle.moves.specs.declared.Move.{Move}
 use Rattle.moves.specs.Moves.{noMove}
 use Rattle.model.specs.Units.{splitPointer}
@@ -40,8 +41,7 @@ pub record TwoStrokes (s : List ℕ) : Type 0 where
   pub as-grow : numberIn s grow ≢ 0 → (lent : List Move) (n : ℕ)
       → (furtherNumberIn s (plan lent) ≡ numberIn s grow) × (furtherNumberIn s (commit lent n) ≡ numberIn s grow)
   -- asking is refused with 7 exactly where a grow is granted and the list is shorter than the plan; where it is not shorter, asking is granted
-  pub short : (lent : List Move) → furtherNumberIn s (plan lent) ≡ 7 → (numberIn s grow ≡ 0) × (length lent < length (planIn (view s)))
-  pub too-short : (lent : List Move) → numberIn s grow ≡ 0 → length lent < length (planIn (view s)) → furtherNumberIn s (plan lent) ≡ 7
+  pub short : (lent : List Move) → Exactly (furtherNumberIn s (plan lent) ≡ 7) ((numberIn s grow ≡ 0) × (length lent < length (planIn (view s))))
   pub long-enough : (lent : List Move) → numberIn s grow ≡ 0 → length (planIn (view s)) ≤ length lent → furtherNumberIn s (plan lent) ≡ 0
   -- a granted commit: a grow would have been granted, the list is the plan, and the store is left as a grow leaves it
   pub granted : (lent : List Move) (n : ℕ) → furtherNumberIn s (commit lent n) ≡ 0
