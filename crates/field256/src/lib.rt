@@ -321,7 +321,8 @@ pub fn log_in(logs: &[u8; ORDER], a: u8) -> usize
     buffer::wide(logs[buffer::wide(a) - 1])
 }
 
-// The product of two bytes, by the tables lent. A product with 0 is 0, which has no logarithm.
+// The product of two bytes, by the tables lent. A product with 0 is 0, which has no logarithm. Only the comparisons of tests/ call it (crate comparing):
+// the coder makes weights from logarithms, and weighs bytes by doublings.
 pub fn mul_in(table: &[u8; ORDER], logs: &[u8; ORDER], a: u8, b: u8) -> u8
     requires { ⌜ (now table ≡ powers) × (now logs ≡ logarithms) ⌝ }
     ensures { λ r. ⌜ r ≡ product a b ⌝ }

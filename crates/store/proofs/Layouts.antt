@@ -1,6 +1,6 @@
 -- Lay out on a slice: its two ways out, and the bytes that clearing and a header leave.
 use Prim.Native.Nat.{ℕ, _+_, _*_, _-_, _≤_}
-use mathlib.Core.Path.{_≡_, ap, _∙_}
+use mathlib.Core.Path.{_≡_}
 use mathlib.Core.Bool.{true, false, not}
 use mathlib.Core.List.{List, [], _∷_, _++_, append-assoc}
 use native.Mathlib.Omega.{arith}
@@ -10,8 +10,6 @@ use lib.Seq.{drop-drop, drop-at, length-take-le}
 use borrow.Author.Tests.{eqb-true, not-true, not-false}
 use Rattle.buffer.specs.Choice.{pick}
 use Rattle.buffer.specs.Bytes.{zeros, splice}
-use Rattle.buffer.specs.ByteLaws.{length-zeros}
-use Rattle.buffer.specs.SpliceLaws.{length-splice}
 use Rattle.group.specs.Widths.{slotBytes, checkBytes}
 use Rattle.model.specs.Layout.{headerBytes, storeBytes, frontOf}
 use Rattle.model.specs.Perform.{outcome, plain, layOut, layOutNumber, laidOut}
@@ -39,7 +37,3 @@ laid s head new b n long en ez eh =
     let whole : length (take headerBytes s) ≡ headerBytes = length-take-le headerBytes s (omega arith) in
     rw (drop-at (take headerBytes s) (new ++ drop n (drop headerBytes s)) headerBytes whole, eh, ez, drop-drop n headerBytes s, behind, size)
     (simp append-assoc)
-
--- the slice keeps its length while it is cleared
-pub kept : (s new : List ℕ) (at n : ℕ) → at + n ≤ length s → new ≡ zeros n → length (splice at n new s) ≡ length s
-kept s new at n h e = length-splice at n new s h (ap length e ∙ length-zeros n)

@@ -7,7 +7,7 @@ use Rattle.buffer.specs.Bytes.{zeros, part, splice}
 use Rattle.buffer.specs.SpliceLaws.{length-part}
 use Rattle.model.specs.Layout.{headerBytes, storeBytes}
 use Rattle.model.specs.GrantedLayout.{layout-granted}
-use Rattle.store.proofs.Layouts.{refused, granted, is-zero, laid, kept}
+use Rattle.store.proofs.Layouts.{refused, granted, is-zero, laid}
 use Rattle.store.proofs.lay_out.lay_out.Statement.{statement}
 use Rattle.store.proofs.lay_out.lay_out.Tie as tie
 use Rattle.store.proofs.lay_out.lay_out.Reads as reads
@@ -34,20 +34,12 @@ header-requires c κs =
     layout-granted (a .s .now) (a .b) (sym (i .before .layout-number .ensures) ∙ is-zero _ (i .if1 .left)) .most
 
 part-copy-end : tie.Need-part-copy-end
-unfolding part splice
 part-copy-end c =
     let w = c .before .before .before .before .before in
     let i = w .before in
     let a = i .before .before .before .before .args in
     let g = layout-granted (a .s .now) (a .b) (sym (i .before .layout-number .ensures) ∙ is-zero _ (i .if1 .left)) in
-    let n : ℕ = storeBytes (w .index .result) - headerBytes in
-    omega (
-      arith,
-      g .long,
-      w .index .ensures,
-      kept (a .s .now) _ headerBytes n (omega (arith, g .long, w .index .ensures))
-          (c .before .before .before .clear .ensures ∙ ap zeros (length-part headerBytes n (a .s .now) (omega (arith, g .long, w .index .ensures)))),
-    )
+    omega (arith, g .long, w .index .ensures, c .before .before .s .given)
 
 returns-2 : tie.Need-returns-2
 unfolding part splice
