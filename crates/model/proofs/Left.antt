@@ -74,7 +74,13 @@ module _ (v : Store) (k : ℕ) (present : leb (fillIn v (homeIn v k)) (rankIn v 
   last-in : pred (fillIn v (homeIn v k)) < v .size
   last-in = omega (arith, below, fill-le v (homeIn v k))
 
--- ---- a granted teach
+-- ---- a granted teach or correct writes one slot of the key's unit
+
+module _ (s : List ℕ) (c : Call) (zero : numberIn s c ≡ 0) (ok : sound s ≡ true) (k r : ℕ) (y : List ℕ) where
+  write-left : grantedIn s c ≡ bytes (written (view s) (homeIn (view s) k) r y) → r < view s .size → length y ≡ slotBytes
+      → Same (leftBy s c) (written (view s) (homeIn (view s) k) r y)
+  write-left e m l =
+      left-same s c zero (written (view s) (homeIn (view s) k) r y) e (written-shaped (view s) (homeIn (view s) k) r y (shaped s ok) (home-in s ok k) m l)
 
 module _ (s : List ℕ) (k : ℕ) (x : List ℕ) (zero : numberIn s (teach k x) ≡ 0) where
   pub teach-sound : sound s ≡ true
@@ -91,12 +97,7 @@ module _ (s : List ℕ) (k : ℕ) (x : List ℕ) (zero : numberIn s (teach k x) 
 
   pub teach-left : Same (leftBy s (teach k x)) (written (view s) (homeIn (view s) k) (fillIn (view s) (homeIn (view s) k)) (slotOf k x))
   unfolding grantedIn
-  teach-left =
-      let v : Store = view s in
-      left-same s (teach k x) zero (written v (homeIn v k) (fillIn v (homeIn v k)) (slotOf k x)) refl
-      (written-shaped v (homeIn v k) (fillIn v (homeIn v k)) (slotOf k x) (shaped s teach-sound) (home-in s teach-sound k) teach-room teach-slot)
-
--- ---- a granted correct
+  teach-left = write-left s (teach k x) zero teach-sound k (fillIn (view s) (homeIn (view s) k)) (slotOf k x) refl teach-room teach-slot
 
 module _ (s : List ℕ) (k : ℕ) (x : List ℕ) (zero : numberIn s (correct k x) ≡ 0) where
   pub correct-sound : sound s ≡ true
@@ -113,10 +114,7 @@ module _ (s : List ℕ) (k : ℕ) (x : List ℕ) (zero : numberIn s (correct k x
 
   pub correct-left : Same (leftBy s (correct k x)) (written (view s) (homeIn (view s) k) (rankIn (view s) (homeIn (view s) k) k) (slotOf k x))
   unfolding grantedIn
-  correct-left =
-      let v : Store = view s in
-      left-same s (correct k x) zero (written v (homeIn v k) (rankIn v (homeIn v k) k) (slotOf k x)) refl
-      (written-shaped v (homeIn v k) (rankIn v (homeIn v k) k) (slotOf k x) (shaped s correct-sound) (home-in s correct-sound k) correct-rank correct-slot)
+  correct-left = write-left s (correct k x) zero correct-sound k (rankIn (view s) (homeIn (view s) k) k) (slotOf k x) refl correct-rank correct-slot
 
 -- ---- a granted erase
 
