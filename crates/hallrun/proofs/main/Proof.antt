@@ -1,6 +1,5 @@
 -- `main` lends the buffers that the program's definition names: the store's, all zero, and the text's.
 use mathlib.Core.Path.{refl}
-use native.Mathlib.Omega.{arith}
 use borrow.Author.Needs.{needs}
 use Rattle.buffer.specs.Bytes.{zeros}
 use Rattle.answering.specs.Said.{blank}
