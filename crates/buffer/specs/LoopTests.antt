@@ -1,18 +1,18 @@
 -- What holds at each turn of a loop that tests, gathers, looks for, counts or adds up something over 0 to n - 1: a record for each kind, which holds
 -- at the start, is handed on by a turn, and gives the loop's result at the end.
 use mathlib.Core.Path.{_≡_, sym, ap, _∙_}
-use mathlib.Core.Bool.{Bool, true, false}
+use mathlib.Core.Bool.{Bool, true, false, _||_}
 use Prim.Native.Nat.{ℕ, _+_, _≤_, _<_}
 use native.Mathlib.Nat.{not-suc-le-zero}
 use native.Mathlib.Omega.{arith}
 use lib.Bits.{bitOr}
 use lib.Dec.{eqb, ltb}
 use borrow.Author.Count.{below-more}
-use borrow.Author.Tests.{eqb-true, eqb-false, ltb-true, ltb-false}
+use borrow.Author.Tests.{eqb-true, eqb-false, ltb-true, ltb-false, lt-ltb, le-ltb}
 use Rattle.buffer.specs.ChoiceLaws.{pick-true, pick-false, by-test}
 use Rattle.buffer.specs.TestLaws.{and-true, or-zero}
 use Rattle.buffer.specs.Range.{all, count, first, sum}
-use Rattle.buffer.specs.RangeLaws.{all-none, all-more, all-fails, count-none, count-more, first-at, first-none, sum-none, sum-more}
+use Rattle.buffer.specs.RangeLaws.{all-none, all-more, all-holds, all-fails, count-none, count-more, first-at, first-none, sum-none, sum-more}
 
 -- ---- a loop that tests 0 to n - 1 and stops where the test fails
 pub record Passing (p : ℕ → Bool) (n i : ℕ) : Type 0 where
@@ -49,6 +49,23 @@ pub gathering-end : {p : ℕ → Bool} {n i any : ℕ} → Gathering p n i any �
 gathering-end {p} {n} {i} {any} g h =
     let same : i ≡ n = omega arith in
     g .gathered ∙ ap (λ m. all m p) same
+
+-- the same from n on
+pub record GatheringBehind (p : ℕ → Bool) (n b i any : ℕ) : Type 0 where
+  pub behind : n ≤ i
+  pub gathering : Gathering (λ k. ltb k n || p k) b i any
+
+pub gathering-behind : {p : ℕ → Bool} {n b : ℕ} → n ≤ b → GatheringBehind p n b n 0
+gathering-behind {p} {n} {b} h =
+    record {
+      behind = omega arith;
+      gathering = record { within = h; gathered = sym (all-holds n (λ k. ltb k n || p k) (λ k l. ap (λ t. t || p k) (lt-ltb k n l))) };
+    }
+
+pub gathering-behind-turn : {p : ℕ → Bool} {n b i any : ℕ} (v : ℕ) → GatheringBehind p n b i any → i < b → eqb v 0 ≡ p i
+    → GatheringBehind p n b (i + 1) (bitOr any v)
+gathering-behind-turn {p} {n} {b} {i} v g h e =
+    record { behind = omega (arith, g .behind); gathering = gathering-turn v (g .gathering) h (rw (le-ltb i n (g .behind)) e) }
 
 -- ---- a loop that looks for the first of 0 to n - 1 at which the test holds
 pub record Missing (p : ℕ → Bool) (n i : ℕ) : Type 0 where

@@ -13,7 +13,7 @@ use lib.Seq.{ext-getD}
 use borrow.Author.Tests.{ltb-true, ltb-false, lt-ltb, le-ltb}
 use Rattle.buffer.specs.Choice.{pick}
 use Rattle.buffer.specs.ChoiceLaws.{by-test, by-pick, pick-true, pick-false}
-use Rattle.buffer.specs.TestLaws.{and-true, and-first, and-second, not-both}
+use Rattle.buffer.specs.TestLaws.{and-true, and-first, and-second, not-both, same-test}
 use Rattle.buffer.specs.Range.{all, count, first, sum}
 use Rattle.buffer.specs.Loops.{entries}
 
@@ -322,3 +322,31 @@ entries-ext (suc n) f g h =
 pub entries-of : (l : List ℕ) (n : ℕ) (f : ℕ → ℕ) → length l ≡ n → ((k : ℕ) → k < n → getD l k 0 ≡ f k) → l ≡ entries n f
 entries-of l n f e h =
     ext-getD 0 l (entries n f) (e ∙ sym (length-entries n f)) (λ k q. h k (rw (sym e) q) ∙ sym (getD-entries n f k 0 (rw (sym e) q)))
+
+-- ---- two tests of each number are one
+pub all-both : (n : ℕ) (p q : ℕ → Bool) → all n (λ i. p i && q i) ≡ (all n p && all n q)
+all-both n p q =
+    same-test (all n (λ i. p i && q i)) (all n p && all n q)
+    (λ h.
+    let both = all-true n (λ i. p i && q i) h in
+    and-true (all-holds n p (λ k l. and-first (p k) (q k) (both k l))) (all-holds n q (λ k l. and-second (p k) (q k) (both k l))))
+    (λ h.
+    all-holds n (λ i. p i && q i)
+    (λ k l. and-true (all-true n p (and-first (all n p) (all n q) h) k l) (all-true n q (and-second (all n p) (all n q) h) k l)))
+
+-- two halves tested together, the second from e on
+pub all-halves : (e h n : ℕ) (p : ℕ → Bool) → e + h ≡ n → e ≤ h → (all h p && all h (λ k. p (e + k))) ≡ all n p
+all-halves e h n p total least =
+    same-test (all h p && all h (λ k. p (e + k))) (all n p)
+    (λ t.
+    all-holds n p (λ k l.
+    by-test (λ _. p k ≡ true) (ltb k h)
+    (λ q. all-true h p (and-first (all h p) _ t) k (ltb-true k h q))
+    (λ q.
+    let past : h ≤ k = ltb-false k h q in
+    let back : e + (k - e) ≡ k = omega arith in
+    let low : k - e < h = omega arith in
+    ap p (sym back) ∙ all-true h (λ k. p (e + k)) (and-second (all h p) _ t) (k - e) low)))
+    (λ t.
+    let each = all-true n p t in
+    and-true (all-holds h p (λ k l. each k (omega arith))) (all-holds h (λ k. p (e + k)) (λ k l. each (e + k) (omega arith))))

@@ -1,7 +1,5 @@
 pub mod Below
 pub mod UnitLaws
-pub mod Spread
-pub mod SpreadLaws
 pub mod Sized
 pub mod SizedLaws
 pub mod States

@@ -19,7 +19,7 @@ use Rattle.buffer.specs.Strided.{strided32}
 use Rattle.group.specs.Widths.{checkBytes}
 use Rattle.soundness.specs.Keys.{samePair, sameLists}
 use Rattle.soundness.specs.Pieces.{Ranged, sameAsFirst, checkZero, checkGood}
-use Rattle.soundness.proofs.Places.{row-within}
+use Rattle.soundness.proofs.Located.{row-within}
 use Rattle.soundness.proofs.Zeros.{zero-range, range-zero, check-zero, zero-checks}
 
 -- the key at rank r that check unit c lists for place p of its group

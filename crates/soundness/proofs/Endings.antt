@@ -7,7 +7,6 @@ use native.Mathlib.Omega.{arith}
 use lib.Dec.{eqb}
 use lib.ListN.{getD}
 use borrow.Author.Tests.{eq-eqb, ne-eqb}
-use Rattle.buffer.specs.ChoiceLaws.{by-pick}
 use Rattle.buffer.specs.Range.{first, count}
 use Rattle.buffer.specs.Loops.{entries}
 use Rattle.buffer.specs.RangeLaws.{getD-entries, first-le, first-le-at, count-ext}
@@ -18,15 +17,10 @@ use Rattle.model.specs.Reads.{firstCheck, outsIn}
 use Rattle.lookup.specs.Keys.{keysAt}
 use Rattle.buffer.specs.Strided.{strided32}
 use Rattle.group.specs.Widths.{slotBytes, checkBytes}
-use Rattle.soundness.specs.Keys.{fillOf, reached, sameKeys, noKeys, sameLists}
-use Rattle.soundness.specs.Pieces.{Kept, zeroBetween, dataKeys, columnKeys, unkept, dataFill, columnFill, unitZero, restZero, checkZero}
-use Rattle.soundness.proofs.Places.{data-list, column-list}
-
--- where the keys are good they reach no further than the list
-pub reached-le : (b m u : ℕ) (key : ℕ → ℕ) {n : ℕ} → n ≡ reached b m u key → n ≤ 64 → n ≤ b
-unfolding reached fillOf
-reached-le b m u key e l =
-    rw e (by-pick (λ x. x ≤ 64 → x ≤ b) _ (first b (λ r. eqb (key r) 0)) 65 (λ _ _. first-le b (λ r. eqb (key r) 0)) (λ _ k. absurd (omega arith)) (rw e at l))
+use Rattle.soundness.specs.Keys.{matched, noKeys, sameLists}
+use Rattle.soundness.specs.Pieces.{Kept, Beside, zeroBetween, dataKeys, columnKeys, besideKeys, unkept, dataFill, unitZero, restZero, checkZero}
+use Rattle.soundness.proofs.Counting.{good-count, data-fill-most}
+use Rattle.soundness.proofs.Located.{data-list, column-list}
 
 -- ---- the first check unit in service of a group, as the code reads it at an index i of all four
 pub kept-at : {s firstChecks : List ℕ} {i : ℕ} (g : ℕ) → firstChecks ≡ entries 4 (firstCheck (view s)) → i ≡ g → g < 4 → Kept s g (getD firstChecks i 0)
@@ -64,15 +58,25 @@ first-check-before s c e =
     first-le-at 3 (λ j. eqb (byte s (24 + (3 * (c / 3) + j))) 1) (c % 3) (omega arith) (eq-eqb _ _ (ap (λ i. byte s (24 + i)) q ∙ e)) in
     omega arith
 
+-- ---- a count that is not 65 is that of the unit's keys
+pub data-fill : (s : List ℕ) (u : ℕ) {n : ℕ} → n ≡ matched (byte s 5) (dataKeys s u) (besideKeys s u) → n ≤ 64 → n ≡ dataFill s u
+unfolding dataFill matched
+data-fill s u f l = good-count f l .1
+
 -- ---- what the callees found at the places that the code computed: unit u's slots at `at`, its b ranks as `w`, its column at `to`
 module _ (s : List ℕ) (u : ℕ) {w : ℕ} (width : w ≡ byte s 5) where
-  pub data-fill : {at n : ℕ} → at ≡ slotAt (byte s 5) u 0 → n ≡ reached w (byte s 6) u (strided32 s at slotBytes) → n ≡ dataFill s u
-  unfolding dataFill
-  data-fill e f = f ∙ ap₂ (λ b key. reached b (byte s 6) u key) width (data-list s u e)
+  pub served-matched : {at to step n : ℕ} → at ≡ slotAt (byte s 5) u 0 → Beside s u to step
+      → n ≡ matched w (strided32 s at slotBytes) (strided32 s to step)
+      → n ≡ matched (byte s 5) (dataKeys s u) (besideKeys s u)
+  served-matched e b f =
+      f ∙ ap₂ (matched w) (data-list s u e) (b .keys) ∙ ap (λ n. matched n (dataKeys s u) (besideKeys s u)) width
 
-  pub column-fill : {to n : ℕ} → to ≡ keysAt s u → n ≡ reached w (byte s 6) u (strided32 s to checkBytes) → n ≡ columnFill s u
-  unfolding columnFill
-  column-fill e f = f ∙ ap₂ (λ b key. reached b (byte s 6) u key) width (column-list s u e)
+  pub lost-matched : {to n : ℕ} → to ≡ keysAt s u → n ≡ matched w (strided32 s to checkBytes) (strided32 s to checkBytes)
+      → n ≡ matched (byte s 5) (columnKeys s u) (columnKeys s u)
+  lost-matched e f = f ∙ ap₂ (λ b key. matched b key key) width (column-list s u e)
+
+  pub data-fill-le : {n : ℕ} → n ≡ dataFill s u → n ≤ w
+  data-fill-le f = omega (arith, f, width, data-fill-most s u)
 
   -- the end of its slots
   end : {at : ℕ} → at ≡ slotAt (byte s 5) u 0 → at + slotBytes * w ≡ slotAt (byte s 5) u 0 + slotBytes * byte s 5
@@ -86,11 +90,6 @@ module _ (s : List ℕ) (u : ℕ) {w : ℕ} (width : w ≡ byte s 5) where
       → r ≡ restZero s u
   unfolding restZero
   rest-zero e f h = h ∙ ap₂ (zeroBetween s) (ap₂ (λ a k. a + slotBytes * k) e f) (end e)
-
-  pub column-same : {at to : ℕ} {r : Bool} → at ≡ slotAt (byte s 5) u 0 → to ≡ keysAt s u
-      → r ≡ sameKeys w (strided32 s at slotBytes) (strided32 s to checkBytes)
-      → r ≡ sameKeys (byte s 5) (dataKeys s u) (columnKeys s u)
-  column-same e f h = h ∙ ap₂ (sameKeys w) (data-list s u e) (column-list s u f) ∙ ap (λ b. sameKeys b (dataKeys s u) (columnKeys s u)) width
 
   pub column-none : {to n k : ℕ} {r : Bool} → to ≡ keysAt s u → n ≡ k → r ≡ noKeys n w (strided32 s to checkBytes) → r ≡ noKeys k (byte s 5) (columnKeys s u)
   column-none {to} {k = k} e f h = h ∙ ap₂ (λ i b. noKeys i b (strided32 s to checkBytes)) f width ∙ ap (noKeys k (byte s 5)) (column-list s u e)

@@ -1,50 +1,86 @@
 -- What is asked of the keys of one list, as one test of each rank, is what the loop over the keys and the test behind them find.
 use mathlib.Core.Path.{_≡_, refl, sym, ap, _∙_}
-use mathlib.Core.Bool.{Bool, true, _||_}
+use mathlib.Core.Bool.{Bool, true, _&&_, _||_}
 use Prim.Native.Nat.{ℕ, _≤_, _<_}
 use native.Mathlib.Omega.{arith}
 use lib.Dec.{eqb, ltb, leb}
 use borrow.Author.Tests.{eqb-true, eq-eqb, lt-ltb, le-ltb, le-leb, ltb-true, ltb-false}
 use Rattle.buffer.specs.Choice.{pick}
 use Rattle.buffer.specs.ChoiceLaws.{by-test, by-pick, pick-true, pick-false}
-use Rattle.buffer.specs.TestLaws.{not-both}
+use Rattle.buffer.specs.TestLaws.{not-both, and-true, and-first, and-second}
 use Rattle.buffer.specs.Range.{all, first}
-use Rattle.buffer.specs.RangeLaws.{all-true, all-holds, first-le, first-le-at}
-use Rattle.soundness.specs.Keys.{fillOf, ownAndNew, reached, noKeys}
+use Rattle.buffer.specs.RangeLaws.{all-none, all-true, all-holds, first-le, first-le-at}
+use Rattle.model.specs.Units.{unitOf}
+use Rattle.soundness.specs.Keys.{fillOf, isNew, newAndSame, matched, ownKeys, noKeys}
+
+-- the key at a rank belongs to unit u of m, and is none of those before it
+unfoldable pub ownAndNew : ℕ → ℕ → (ℕ → ℕ) → ℕ → Bool
+ownAndNew m u key r = eqb (unitOf m (key r)) u && isNew r key (key r)
 
 -- keys are dense, different and in their own unit: the test of each rank
 unfoldable pub keysGood : ℕ → ℕ → ℕ → (ℕ → ℕ) → Bool
 keysGood b m u key = all b (λ r. pick (ltb r (fillOf b key)) (ownAndNew m u key r) (eqb (key r) 0))
 
-module _ (b m u : ℕ) (key : ℕ → ℕ) where
-  pub fill-le : fillOf b key ≤ b
-  unfolding fillOf
-  fill-le = first-le b (λ r. eqb (key r) 0)
+pub fill-le : (b : ℕ) (key : ℕ → ℕ) → fillOf b key ≤ b
+unfolding fillOf
+fill-le b key = first-le b (λ r. eqb (key r) 0)
 
-  -- where the keys before the first 0 are good the loop reaches them all, and nowhere else
-  pub reached-fill : all (fillOf b key) (ownAndNew m u key) ≡ true → reached b m u key ≡ fillOf b key
-  unfolding reached
-  reached-fill h = pick-true h (fillOf b key) 65
-
-  pub reached-front : leb (reached b m u key) 64 ≡ true → all (fillOf b key) (ownAndNew m u key) ≡ true
-  unfolding reached
-  reached-front h =
+-- ---- keys beside those of another list
+module _ (b : ℕ) (key other : ℕ → ℕ) where
+  -- the loop reaches the first 0 where the keys before it differ and are the other list's, and nowhere else
+  pub matched-front : leb (matched b key other) 64 ≡ true → all (fillOf b key) (newAndSame key other) ≡ true
+  unfolding matched
+  matched-front h =
       by-test
       (λ t. t ≡ true)
-      (all (fillOf b key) (ownAndNew m u key))
+      (all (fillOf b key) (newAndSame key other))
       (λ _. refl)
       (λ e. not-both (ap (λ n. leb n 64) (sym (pick-false e (fillOf b key) 65)) ∙ h) refl)
 
-  pub front-reached : b ≤ 64 → all (fillOf b key) (ownAndNew m u key) ≡ true → leb (reached b m u key) 64 ≡ true
-  front-reached few h = let l : fillOf b key ≤ b = fill-le in rw (reached-fill h) (le-leb (fillOf b key) 64 (omega arith))
+  pub front-matched : b ≤ 64 → all (fillOf b key) (newAndSame key other) ≡ true → leb (matched b key other) 64 ≡ true
+  unfolding matched
+  front-matched few h = let l : fillOf b key ≤ b = fill-le b key in rw (pick-true h (fillOf b key) 65) (le-leb (fillOf b key) 64 (omega arith))
 
-  -- the keys behind are 0
+pub new-same : (n : ℕ) (key other : ℕ → ℕ) → all n (newAndSame key other) ≡ true → (r : ℕ) → r < n → key r ≡ other r
+unfolding newAndSame
+new-same n key other h r l = eqb-true _ _ (and-second (isNew r key (key r)) _ (all-true n (newAndSame key other) h r l))
+
+-- keys that are the other list's are good where those are in their own unit
+module _ (n m u : ℕ) (key other : ℕ → ℕ) where
+  pub own-front : all n (newAndSame key other) ≡ true → ownKeys m u n other ≡ true → all n (ownAndNew m u key) ≡ true
+  unfolding newAndSame ownKeys ownAndNew
+  own-front h o =
+      all-holds n (ownAndNew m u key) (λ r l.
+      and-true
+      (ap (λ k. eqb (unitOf m k) u) (new-same n key other h r l) ∙ all-true n (λ r. eqb (unitOf m (other r)) u) o r l)
+      (and-first (isNew r key (key r)) _ (all-true n (newAndSame key other) h r l)))
+
+  -- and the other way
+  module _ (h : all n (ownAndNew m u key) ≡ true) (same : (r : ℕ) → r < n → key r ≡ other r) where
+    pub front-new : all n (newAndSame key other) ≡ true
+    unfolding newAndSame ownAndNew
+    front-new =
+        all-holds n (newAndSame key other) (λ r l.
+        and-true (and-second (eqb (unitOf m (key r)) u) _ (all-true n (ownAndNew m u key) h r l)) (eq-eqb _ _ (same r l)))
+
+    pub front-own : ownKeys m u n other ≡ true
+    unfolding ownKeys ownAndNew
+    front-own =
+        all-holds n (λ r. eqb (unitOf m (other r)) u) (λ r l.
+        ap (λ k. eqb (unitOf m k) u) (sym (same r l)) ∙ and-first (eqb (unitOf m (key r)) u) _ (all-true n (ownAndNew m u key) h r l))
+
+pub none-own : (m u : ℕ) (key : ℕ → ℕ) → ownKeys m u 0 key ≡ true
+unfolding ownKeys
+none-own m u key = all-none (λ r. eqb (unitOf m (key r)) u)
+
+-- ---- the keys before the first 0 are good, and those behind are 0
+module _ (b m u : ℕ) (key : ℕ → ℕ) where
   pub good-parts : keysGood b m u key ≡ true → (all (fillOf b key) (ownAndNew m u key) ≡ true) × ((r : ℕ) → fillOf b key ≤ r → r < b → key r ≡ 0)
   unfolding keysGood
   good-parts h =
       let at = all-true b (λ r. pick (ltb r (fillOf b key)) (ownAndNew m u key r) (eqb (key r) 0)) h in (
         all-holds (fillOf b key) (ownAndNew m u key) (λ r l.
-            sym (pick-true (lt-ltb r (fillOf b key) l) _ _) ∙ at r (let w : fillOf b key ≤ b = fill-le in omega arith)),
+            sym (pick-true (lt-ltb r (fillOf b key) l) _ _) ∙ at r (let w : fillOf b key ≤ b = fill-le b key in omega arith)),
         λ r l k. eqb-true (key r) 0 (sym (pick-false (le-ltb r (fillOf b key) l) _ _) ∙ at r k),
       )
 

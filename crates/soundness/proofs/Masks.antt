@@ -1,12 +1,12 @@
--- Linear hashing's rule by a mask: whether a number belongs to unit u of m is told by its low bits alone, and so by these bits where a spread key has
--- its digit sum.
+-- Linear hashing's rule by a mask: whether a key belongs to unit u of m is told by low bits of its digit sum alone, and so by those of a number that has
+-- the sum as its lowest byte.
 use mathlib.Core.Path.{_≡_, refl, sym, ap, _∙_}
 use mathlib.Core.Bool.{Bool, false}
 use Prim.Native.Nat.{ℕ, suc, _+_, _*_, _-_, _/_, _%_, _^_, _≤_, _<_}
 use native.Mathlib.Omega.{arith}
-use native.Mathlib.Nat.{mod-lt, mod-mod, pow-succ', one-le-pow}
+use native.Mathlib.Nat.{mod-lt, mod-mod, mod-eq-of-lt, lt-of-le-of-lt, pow-succ', one-le-pow}
 use lib.Arith.{mod-mul, digits-mod}
-use lib.Bits.{bitAnd, and-mask}
+use lib.Bits.{bitAnd, and-mask, and-mod, and-le-r}
 use lib.Dec.{eqb, ltb}
 use borrow.Author.Tests.{eqb-true, eqb-false, ne-eqb}
 use Rattle.buffer.specs.Choice.{pick}
@@ -14,8 +14,6 @@ use Rattle.buffer.specs.ChoiceLaws.{by-test, by-pick, pick-map}
 use Rattle.model.specs.Units.{powerBelow, splitPointer, address, digitSum, unitOf}
 use Rattle.model.specs.UnitLaws.{power-least, power-most}
 use Rattle.lookup.specs.Below.{TellsBelow, by-bit}
-use Rattle.lookup.specs.Spread.{sumIn, sumAt}
-use Rattle.lookup.specs.SpreadLaws.{sum-test}
 use Rattle.soundness.specs.Keys.{maskOf}
 
 -- what holds of every power of two holds of 2^j
@@ -56,9 +54,9 @@ tells n u k j =
     ap (λ z. eqb z u) (pick-map (bitAnd k) (ltb (u % p) n) (2 * p - 1) (p - 1) ∙ rw (and-mask k j, twice) refl)
     ∙ by-own-test n u k p (one-le-pow j 2 (omega arith))
 
-mask-tells : (m u k : ℕ) → eqb (bitAnd k (maskOf m u)) u ≡ eqb (address m k) u
-unfolding maskOf address
-mask-tells m u k = by-power (Tells (splitPointer m) u k) m (tells (splitPointer m) u k)
+mask-tells : (m u k : ℕ) → eqb (bitAnd (digitSum k) (maskOf m u)) u ≡ eqb (unitOf m k) u
+unfolding maskOf unitOf address
+mask-tells m u k = by-power (Tells (splitPointer m) u (digitSum k)) m (tells (splitPointer m) u (digitSum k))
 
 -- the mask by a 0 or 1 that tells whether the unit's first remainder is below n
 pub mask-by-bit : (m u x p n bit : ℕ) → p ≡ powerBelow m → n ≡ splitPointer m → x ≡ u → TellsBelow bit (x % p) n → p - 1 + bit * p ≡ maskOf m u
@@ -68,14 +66,21 @@ mask-by-bit m u x p n bit power split unit tells =
     let twice : p - 1 + p ≡ 2 * p - 1 = omega arith in
     by-bit bit (x % p) n (p - 1) p tells ∙ rw (twice, power, split, unit)
 
--- a key's unit, by its spread
-mask-small : (m u : ℕ) → 1 ≤ m → m ≤ 16 → maskOf m u < 256
+pub mask-small : (m u : ℕ) → 1 ≤ m → m ≤ 16 → maskOf m u < 256
 unfolding maskOf
 mask-small m u some most =
     let few : powerBelow m ≤ m = power-most m some in
     by-pick (λ w. w < 256) (ltb (u % powerBelow m) (splitPointer m)) (2 * powerBelow m - 1) (powerBelow m - 1) (λ _. omega arith) (λ _. omega arith)
 
-pub spread-tells : (m u k p : ℕ) → 1 ≤ m → m ≤ 16 → sumIn p ≡ digitSum k → eqb (bitAnd p (maskOf m u * sumAt)) (u * sumAt) ≡ eqb (unitOf m k) u
-unfolding unitOf
-spread-tells m u k p some most e =
-    sum-test p (digitSum k) (maskOf m u) u e (mask-small m u some most) ∙ mask-tells m u (digitSum k)
+-- a mask of one byte sees the lowest byte alone
+low-bits : (q w : ℕ) → w < 256 → bitAnd q w ≡ bitAnd (q % 256) w
+low-bits q w h =
+    sym (mod-eq-of-lt (lt-of-le-of-lt (and-le-r q w) h)) ∙ and-mod q w 8 ∙ ap (λ (v : ℕ). bitAnd (q % 256) v) (mod-eq-of-lt h)
+
+pub kept-bits : (q w k : ℕ) → w < 256 → q % 256 ≡ digitSum k → bitAnd q w ≡ bitAnd (digitSum k) w
+kept-bits q w k h e = low-bits q w h ∙ ap (λ (v : ℕ). bitAnd v w) e
+
+-- so a test by the mask is one of the unit
+pub own-test : (m u : ℕ) {mask unit key k : ℕ} {t : Bool} → mask ≡ maskOf m u → unit ≡ u → key ≡ k → t ≡ eqb (bitAnd (digitSum key) mask) unit
+    → t ≡ eqb (unitOf m k) u
+own-test m u {k = k} masks is same e = e ∙ rw (masks, is, same) (mask-tells m u k)

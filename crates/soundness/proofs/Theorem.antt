@@ -1,4 +1,4 @@
--- The pieces of the test together say what document 01 calls sound.
+-- The pieces of the test together say what document 01 calls sound, and what is handed on of them is what the store holds.
 use mathlib.Core.Path.{_≡_, refl, sym, ap, ap₂, _∙_}
 use mathlib.Core.Bool.{Bool, true, false, not, _&&_, _||_}
 use mathlib.Core.List.{List}
@@ -7,25 +7,31 @@ use native.Mathlib.Omega.{arith}
 use lib.Dec.{eqb, ltb}
 use lib.Seq.{getD-take}
 use borrow.Author.Tests.{eqb-true, eqb-false, eq-eqb, ne-eqb, ltb-true, ltb-false, not-false}
+use Rattle.buffer.specs.Choice.{pick}
 use Rattle.buffer.specs.ChoiceLaws.{by-test}
 use Rattle.buffer.specs.TestLaws.{and-true, and-first, and-second, and-ext, or-else, or-other, same-test}
 use Rattle.buffer.specs.Range.{all, first}
-use Rattle.buffer.specs.RangeLaws.{all-true, all-holds, first-le, first-holds}
+use Rattle.buffer.specs.Loops.{entries}
+use Rattle.buffer.specs.RangeLaws.{all-true, all-holds, first-le, first-holds, entries-ext}
 use Rattle.buffer.specs.Bytes.{byte, part, zeros}
 use Rattle.model.specs.Layout.{view, keyOf, unitsIn, levelIn, checkAt}
-use Rattle.model.specs.Reads.{fillIn, firstCheck, listedKey, listedFill, keysLostIn}
+use Rattle.model.specs.Reads.{fillIn, firstCheck, outsIn, listedKey, listedFill, keysLostIn}
 use Rattle.model.specs.SoundSays.{in-range}
 use Rattle.model.specs.Sound.{same, ranges, unitsPlaced, checksPlaced, zeroed, keysPlaced, listsAgree, sound}
 use Rattle.buffer.specs.Strided.{strided32}
 use Rattle.group.specs.Widths.{slotBytes, checkBytes}
-use Rattle.soundness.specs.Keys.{fillOf, isNew, ownAndNew}
-use Rattle.soundness.specs.Pieces.{Ranged, dataFits, checkFits, columnKeys, unkept, unitGood, checkGood, pieces}
-use Rattle.soundness.proofs.Joined.{and-assoc}
+use Rattle.soundness.specs.Keys.{fillOf, isNew}
+use Rattle.soundness.specs.Pieces.{Ranged, dataFits, checkFits, columnKeys, unkept, unitFill, unitGood}
+use Rattle.soundness.specs.Pieces.{groupsIn, columnsEmpty, behindZero, checkGood, pieces}
+use Rattle.soundness.specs.Survey.{knownFill, Counted, Nothing, Surveyed}
+use Rattle.soundness.proofs.Joined.{and-assoc, and-three, and-four}
 use Rattle.soundness.proofs.Endings.{first-check-before}
 use Rattle.soundness.proofs.Listed.{check-key}
-use Rattle.soundness.proofs.Good.{keysGood}
-use Rattle.soundness.proofs.UnitClauses.{Unit, good-unit, unit-good}
+use Rattle.soundness.proofs.Good.{ownAndNew, keysGood}
+use Rattle.soundness.proofs.UnitClauses.{Unit, unitAsked, good-unit, good-fill, unit-good}
 use Rattle.soundness.proofs.CheckClauses.{checkKey, Check, good-check, check-good}
+use Rattle.soundness.proofs.Stretches.{stretches}
+use Rattle.soundness.proofs.Surveys.{all-known, none-known}
 
 -- ---- M and K, and the states
 module _ (s : List ℕ) where
@@ -141,11 +147,11 @@ module _ (s : List ℕ) where
     state : (u : ℕ) → u < 16 → dataFits s u ≡ true
     state = all-true 16 (dataFits s) states
 
-    from-pieces : (all 16 (unitGood s) && all 12 (checkGood s)) ≡ true → (zeroed (view s) && keysPlaced (view s) && listsAgree (view s)) ≡ true
+    from-pieces : (all 16 (unitAsked s) && all 12 (checkGood s)) ≡ true → (zeroed (view s) && keysPlaced (view s) && listsAgree (view s)) ≡ true
     unfolding slotsZero checksZero
     from-pieces h =
-        let us : (u : ℕ) → u < 16 → Unit s u = λ u l. good-unit s ok u l (state u l) (all-true 16 (unitGood s) (and-first (all 16 (unitGood s)) _ h) u l) in
-        let cs : (c : ℕ) → c < 12 → Check s c = λ c l. good-check s ok c l (all-true 12 (checkGood s) (and-second (all 16 (unitGood s)) _ h) c l) in
+        let us : (u : ℕ) → u < 16 → Unit s u = λ u l. good-unit s ok u l (state u l) (all-true 16 (unitAsked s) (and-first (all 16 (unitAsked s)) _ h) u l) in
+        let cs : (c : ℕ) → c < 12 → Check s c = λ c l. good-check s ok c l (all-true 12 (checkGood s) (and-second (all 16 (unitAsked s)) _ h) c l) in
         and-true
         (and-true
         (zeroing ∙ and-true (all-holds 16 slotsZero (λ u l. all-holds (byte s 5) _ (us u l .zero)))
@@ -153,7 +159,7 @@ module _ (s : List ℕ) where
         (sym keys-placed ∙ all-holds 16 _ (λ u l. us u l .keys)))
         (agree-holds (agree-from us cs))
 
-    to-pieces : (zeroed (view s) && keysPlaced (view s) && listsAgree (view s)) ≡ true → (all 16 (unitGood s) && all 12 (checkGood s)) ≡ true
+    to-pieces : (zeroed (view s) && keysPlaced (view s) && listsAgree (view s)) ≡ true → (all 16 (unitAsked s) && all 12 (checkGood s)) ≡ true
     unfolding slotsZero checksZero
     to-pieces h =
         let zk = and-first (zeroed (view s) && keysPlaced (view s)) _ h in
@@ -162,7 +168,7 @@ module _ (s : List ℕ) where
         (keys-placed ∙ and-second (zeroed (view s)) _ zk) in
         let a = agree-true (and-second (zeroed (view s) && keysPlaced (view s)) _ h) in
         and-true
-        (all-holds 16 (unitGood s) (λ u l.
+        (all-holds 16 (unitAsked s) (λ u l.
         unit-good s ok u l (state u l) (record {
           zero = all-true (byte s 5) _ (all-true 16 slotsZero (and-first (all 16 slotsZero) _ z) u l);
           keys = k u l;
@@ -179,19 +185,57 @@ module _ (s : List ℕ) where
           lists = λ e r w p q. a c l e r w p q ∙ sym (first-check-agrees a (c / 3) (omega arith) (kept c e) r w p q);
         })))
 
-    pieces-clauses : (all 16 (unitGood s) && all 12 (checkGood s)) ≡ (zeroed (view s) && keysPlaced (view s) && listsAgree (view s))
+    pieces-clauses : (all 16 (unitAsked s) && all 12 (checkGood s)) ≡ (zeroed (view s) && keysPlaced (view s) && listsAgree (view s))
     pieces-clauses = same-test _ _ from-pieces to-pieces
 
 pub pieces-sound : (s : List ℕ) → pieces s ≡ sound s
 unfolding pieces sound
 pieces-sound s =
-    rw (units-placed s, checks-placed s)
-    (and-assoc front (all 16 (unitGood s)) (all 12 (checkGood s))
-    ∙ and-ext front _ _ (λ h.
+    and-four (ranges s && (all 16 (dataFits s) && all 12 (checkFits s)))
+    (all (byte s 6) (unitGood s)) (columnsEmpty s) (all (3 * groupsIn s) (checkGood s)) (behindZero s)
+    ∙ ap (λ t. t && tests) (sym (and-assoc (ranges s) (all 16 (dataFits s)) (all 12 (checkFits s)))
+    ∙ ap₂ (λ u c. ranges s && u && c) (units-placed s) (checks-placed s))
+    ∙ and-ext front tests (zeroed (view s) && keysPlaced (view s) && listsAgree (view s)) (λ h.
     let both = and-first (ranges s && unitsPlaced (view s)) _ h in
-    pieces-clauses s (ranged s (and-first (ranges s) _ both)) (units-placed s ∙ and-second (ranges s) _ both))
-    ∙ sym (and-assoc front (zeroed (view s) && keysPlaced (view s)) (listsAgree (view s)))
-    ∙ ap (λ t. t && listsAgree (view s)) (sym (and-assoc front (zeroed (view s)) (keysPlaced (view s)))))
+    let ok = ranged s (and-first (ranges s) _ both) in
+    stretches s ok (checks-placed s ∙ and-second (ranges s && unitsPlaced (view s)) _ h)
+    ∙ pieces-clauses s ok (units-placed s ∙ and-second (ranges s) _ both))
+    ∙ sym (and-three front (zeroed (view s)) (keysPlaced (view s)) (listsAgree (view s)))
   where
     front : Bool
     front = ranges s && unitsPlaced (view s) && checksPlaced (view s)
+
+    tests : Bool
+    tests = all (byte s 6) (unitGood s) && columnsEmpty s && all (3 * groupsIn s) (checkGood s) && behindZero s
+
+-- ---- the whole test
+module _ {s fills firstChecks outs : List ℕ} where
+  pub not-sound : {ok : Bool} → Nothing ok fills firstChecks outs → false ≡ pieces s → Surveyed s ok fills firstChecks outs
+  not-sound n h =
+      record {
+        tested = n .unsound ∙ h ∙ pieces-sound s;
+        filled = none-known 16 (knownFill (view s)) (n .unsound) (n .uncounted);
+        kept = none-known 4 (firstCheck (view s)) (n .unsound) (n .unkept);
+        out = none-known 4 (outsIn (view s)) (n .unsound) (n .unknown);
+      }
+
+  pub surveyed : {good : Bool} → ranges s ≡ true → (all 16 (dataFits s) && all 12 (checkFits s)) ≡ true
+      → firstChecks ≡ entries 4 (firstCheck (view s)) → outs ≡ entries 4 (outsIn (view s))
+      → Counted s good fills → good ≡ true → columnsEmpty s ≡ true → all (3 * groupsIn s) (checkGood s) ≡ true → behindZero s ≡ true
+      → Surveyed s true fills firstChecks outs
+  unfolding pieces
+  surveyed {good} range states kept out found e columns checks zeros =
+      let units : all (byte s 6) (unitGood s) ≡ true = sym (found .tested) ∙ e in
+      let whole : true ≡ pieces s = rw (range, states, units, columns, checks, zeros) in
+      let fit = and-first (all 16 (dataFits s)) _ states in
+      let ok = ranged s range in
+      let asked = and-first (all 16 (unitAsked s)) _ (sym (stretches s ok (and-second (all 16 (dataFits s)) _ states)) ∙ rw (units, columns, checks, zeros)) in
+      record {
+        tested = whole ∙ pieces-sound s;
+        filled =
+            found .filled
+            ∙ entries-ext 16 (λ u. pick good (unitFill s u) 0) (λ u. pick true (knownFill (view s) u) 0) (λ u l.
+            ap₂ (λ t n. pick t n 0) e (good-fill s ok u l (all-true 16 (dataFits s) fit u l) (all-true 16 (unitAsked s) asked u l)));
+        kept = all-known 4 (firstCheck (view s)) refl kept;
+        out = all-known 4 (outsIn (view s)) refl out;
+      }

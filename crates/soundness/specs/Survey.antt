@@ -1,8 +1,10 @@
 -- What the soundness test hands on of a store.
-use Prim.Native.Nat.{ℕ}
+use Prim.Native.Nat.{ℕ, _+_, _*_, _≤_, _<_}
 use mathlib.Core.Path.{_≡_}
 use mathlib.Core.List.{List}
 use mathlib.Core.Bool.{Bool, false}
+use lib.ListN.{getD}
+use Rattle.buffer.specs.Bytes.{byte}
 use Rattle.buffer.specs.Choice.{pick}
 use Rattle.buffer.specs.Range.{all}
 use Rattle.buffer.specs.Loops.{entries}
@@ -15,9 +17,14 @@ use Rattle.soundness.specs.Pieces.{unitGood, unitFill}
 unfoldable pub knownFill : Store → ℕ → ℕ
 knownFill v u = pick (keysLostIn v u) 0 (listedFill v u)
 
--- the data units are good, and the keys of each are counted; where one is not good, nothing is
+-- r ranks that all four units of group g have, by the counts; none where check unit k is behind the group's last
+pub record Common (fills : List ℕ) (g k r : ℕ) : Type 0 where
+  pub least : (p : ℕ) → p < 4 → r ≤ getD fills (4 * g + p) 0
+  pub alone : k ≡ 3 * g + 3 → r ≡ 0
+
+-- the data units in place are good, and the keys of each are counted; where one is not good, nothing is
 pub record Counted (s : List ℕ) (good : Bool) (fills : List ℕ) : Type 0 where
-  pub tested : good ≡ all 16 (unitGood s)
+  pub tested : good ≡ all (byte s 6) (unitGood s)
   pub filled : fills ≡ entries 16 (λ u. pick good (unitFill s u) 0)
 
 -- what is handed on of a store that is not sound

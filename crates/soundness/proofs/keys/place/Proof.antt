@@ -9,7 +9,7 @@ use Rattle.soundness.proofs.keys.place.Tie as tie
 
 returns : tie.Need-returns
 unfolding placeOf
-returns c = (ap (λ (x : ℕ). x * 2654435761 / 2097152 % 2048) (c .wide64 .ensures .0), mod-lt (c .wide64 .result * 2654435761 / 2097152) (search needs))
+returns c = (ap (λ (x : ℕ). x * 1640531527 / 2097152 % 2048) (c .wide64 .ensures .0), mod-lt (c .wide64 .result * 1640531527 / 2097152) (search needs))
 
 pub place-spec : {M : Type 1} → statement M
 place-spec = tie.close (tie.spec (λ c κs. search needs) (λ c. search needs) returns)

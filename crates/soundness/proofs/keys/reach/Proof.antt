@@ -1,122 +1,139 @@
--- `soundness::keys::reach` meets its contract. The loop runs over the turned keys; what is known of the key that a turn has read is said once, and the
--- needs behind it use it.
-use Prim.Native.Nat.{ℕ, _*_, _-_}
-use mathlib.Core.Bool.{false}
-use mathlib.Core.List.{List}
+-- `soundness::keys::reach` meets its contract. What is known of the key that a turn has read is said once.
+use Prim.Native.Nat.{ℕ, _+_, _-_, _≤_}
+use mathlib.Core.Bool.{true, false}
 use mathlib.Core.Logic.{⊎-elim}
-use mathlib.Core.Path.{_≡_, refl, sym, ap, ap₂, _∙_}
-use lib.Bits.{bitAnd}
-use lib.Dec.{eqb}
+use mathlib.Core.Path.{_≡_, refl, ap, ap₂, _∙_}
 use native.Mathlib.Omega.{arith}
+use lib.Bits.{bitXor}
+use lib.Dec.{eqb}
+use lib.ListN.{length}
 use borrow.Author.Needs.{needs}
-use borrow.Author.Tests.{eq-eqb, ne-eqb}
 use Rattle.buffer.specs.TestLaws.{is-eq, is-ne, is-no, is-yes}
+use Rattle.buffer.specs.ByteOrder.{le32}
 use Rattle.buffer.specs.Strided.{strided32, within-fewer}
-use Rattle.model.specs.Units.{digitSum, unitOf}
-use Rattle.lookup.specs.Spread.{sumAt}
-use Rattle.soundness.specs.Keys.{turnedKeys, placeOf, isNew, reached}
-use Rattle.soundness.proofs.Turned.{reached-turned}
-use Rattle.soundness.proofs.Masks.{spread-tells}
-use Rattle.soundness.proofs.Reaching.{Reaching, reaching-start, reaching-turn, reaching-new, reaching-stop, reaching-full, reaching-fail}
-use Rattle.soundness.proofs.Reaching.{own-new, not-own, not-new}
+use Rattle.soundness.specs.Keys.{turnedKeys, placeOf, isNew, matched}
+use Rattle.soundness.proofs.Turned.{matched-turned}
+use Rattle.soundness.proofs.Joined.{xor-same}
+use Rattle.soundness.proofs.Stepping.{still-fits}
+use Rattle.soundness.proofs.Matching.{Running, running-start, running-turn, matching-turn, matching-new, matching-some}
+use Rattle.soundness.proofs.Matching.{matching-stop, matching-full, matching-twice}
 use Rattle.soundness.proofs.keys.reach.Statement.{statement}
 use Rattle.soundness.proofs.keys.reach.Tie as tie
 
 abbrev Inv-loop : tie.InvT-loop
-Inv-loop t₀ s base step b m u mask own mark r₀ t r = Reaching (turnedKeys s base step) b m u mark t r
+Inv-loop t₀ s base step other apart b mark differ₀ p₀ q₀ r₀ t differ p q r =
+    Running (turnedKeys s base step) (turnedKeys s other apart) b mark base step other apart t differ p q r
 
 abbrev μ-loop : tie.MeasureT-loop
-μ-loop t₀ s base step b m u mask own mark r₀ t r = b - r
+μ-loop t₀ s base step other apart b mark differ₀ p₀ q₀ r₀ t differ p q r = b - r
 
--- ---- the list of keys, and the key at the turn's rank: not 0, of the unit, new
-abbrev start : tie.After-turned-key Inv-loop μ-loop → tie.Start Inv-loop μ-loop
-start c = c .before .before .before .before .before .before .before .before
+-- ---- where a turn has read its key
+abbrev start : tie.After-low32 Inv-loop μ-loop → tie.Start Inv-loop μ-loop
+start c = c .before .before .before .before
 
-abbrev keys : tie.After-turned-key Inv-loop μ-loop → ℕ → ℕ
+abbrev keys : tie.After-low32 Inv-loop μ-loop → ℕ → ℕ
 keys c = turnedKeys (start c .args .s .now) (start c .args .base) (start c .args .step)
 
-abbrev rank : tie.After-turned-key Inv-loop μ-loop → ℕ
+abbrev rank : tie.After-low32 Inv-loop μ-loop → ℕ
 rank c = c .before .before .loop .r
 
-abbrev masked : tie.After-turned-key Inv-loop μ-loop → tie.After-at-sum Inv-loop μ-loop
-masked c = c .before .before .before .before .before
-
-some : (c : tie.Else1 Inv-loop μ-loop) → eqb (keys (c .before) (rank (c .before))) 0 ≡ false
-some c = is-ne (c .before .turned-key .ensures) refl (c .if1 .left)
-
-own-test : (c : tie.After-spread Inv-loop μ-loop)
-    → eqb (bitAnd (c .spread .result) (masked (c .before .before) .at-sum .result)) (c .before .before .before .before .before .at-sum2 .result)
-    ≡ eqb (unitOf (start (c .before .before) .args .m) (keys (c .before .before) (rank (c .before .before)))) (start (c .before .before) .args .u)
-own-test c =
-    let read = c .before .before in
-    let asked = start read .pre in
-    let mask = masked read in
-    ap₂ eqb (ap (bitAnd (c .spread .result)) (mask .at-sum .ensures ∙ ap (λ (w : ℕ). w * sumAt) (mask .before .mask-of .ensures)))
-    (read .before .before .before .at-sum2 .ensures ∙ ap (λ (w : ℕ). w * sumAt) (read .before .before .before .before .wide32 .ensures .0))
-    ∙ spread-tells _ _ _ _ (asked .1) (asked .2) (c .spread .ensures ∙ ap digitSum (read .turned-key .ensures))
-
-new-test : (c : tie.After-turned-key Inv-loop μ-loop) → isNew (rank c) (keys c) (c .turned-key .result) ≡ isNew (rank c) (keys c) (keys c (rank c))
-new-test c = ap (isNew (rank c) (keys c)) (c .turned-key .ensures)
+read : (c : tie.After-low32 Inv-loop μ-loop) → c .low32 .result ≡ keys c (rank c)
+unfolding turnedKeys
+read c = c .low32 .ensures ∙ ap (le32 (start c .args .s .now)) (c .before .before .loop .inv .at)
 
 -- what the loop finds of the turned keys is so of the keys
-abbrev found : tie.Start Inv-loop μ-loop → (List ℕ → ℕ → ℕ → ℕ → ℕ) → ℕ
-found c list = reached (c .args .b) (c .args .m) (c .args .u) (list (c .args .s .now) (c .args .base) (c .args .step))
-
-turned : (c : tie.After-mask-of Inv-loop μ-loop) → found (c .before .before) turnedKeys ≡ found (c .before .before) strided32
-turned c = reached-turned _ (λ i. omega (arith, c .before .shared-slice-known .given i)) _ _ _ _ _
+turned : (c : tie.After-shared-slice-known Inv-loop μ-loop)
+    → let a = c .before .args in
+    matched (a .b) (turnedKeys (a .s .now) (a .base) (a .step)) (turnedKeys (a .s .now) (a .other) (a .apart))
+    ≡ matched (a .b) (strided32 (a .s .now) (a .base) (a .step)) (strided32 (a .s .now) (a .other) (a .apart))
+turned c = matched-turned _ (λ i. omega (arith, c .shared-slice-known .given i)) _ _ _ _ _
 
 -- ---- the needs
 loop-holds : tie.Need-loop-holds Inv-loop μ-loop
-loop-holds c = reaching-start (c .before .before .before .before .before .pre .4)
+loop-holds c = running-start (c .before .args .t .now) (c .before .pre .2)
 
-turned-key-requires : tie.Need-turned-key-requires Inv-loop μ-loop
-turned-key-requires c κs = c .before .before .before .before .before .before .before .pre .0 .fits (c .before .loop .r) (c .loop-test .taken)
+low32-requires : tie.Need-low32-requires Inv-loop μ-loop
+low32-requires c κs = rw (c .before .loop .inv .at) (c .before .before .before .pre .0 .fits (c .before .loop .r) (c .loop-test .taken))
 
 returns : tie.Need-returns Inv-loop μ-loop
 returns c =
-    let turn = c .before .before in
-    let inv = turn .before .loop .inv in
-    (reaching-stop inv (turn .loop-test .taken) (is-eq (c .before .turned-key .ensures) refl (c .if1 .taken)) ∙ turned (masked (c .before) .before), inv .sized)
+    let read-at = c .before .before .before .before .before in
+    let inv = read-at .before .before .loop .inv in (
+      c .counted .ensures ∙ matching-stop (inv .matching) (read-at .before .loop-test .taken) (is-eq (read read-at) refl (c .before .if2 .taken))
+          ∙ turned (read-at .before .before .before),
+      inv .matching .sized,
+    )
+
+is-new-requires : tie.Need-is-new-requires Inv-loop μ-loop
+is-new-requires c κs =
+    let read-at = c .before .before .before .before in
+    let asked = start read-at .pre in
+    (within-fewer (asked .0) (omega arith), read-at .before .before .loop .inv .at, asked .3, asked .4)
 
 returns-2 : tie.Need-returns-2 Inv-loop μ-loop
 returns-2 c =
-    let passed = c .before .before in
-    let read = passed .before in
-    let inv = read .before .before .loop .inv in
-    let other = not-own _ _ (keys read) (rank read) (sym (own-test (c .before)) ∙ ne-eqb _ _ (c .if2 .taken)) in
-    (reaching-fail inv (read .before .loop-test .taken) (some passed) other ∙ turned (masked read .before), inv .sized)
+    let some = c .before .before in
+    let read-at = some .before .before .before .before in
+    let inv = read-at .before .before .loop .inv in
+    let twice = is-no (c .before .is-new .ensures ∙ ap (isNew (rank read-at) (keys read-at)) (read read-at)) (c .if3 .taken) in (
+      matching-twice (inv .matching) (read-at .before .loop-test .taken) (is-ne (read read-at) refl (some .if2 .left)) twice
+          ∙ turned (read-at .before .before .before),
+      inv .matching .sized,
+    )
 
-is-new-requires : tie.Need-is-new-requires Inv-loop μ-loop
-is-new-requires c κs = within-fewer (start (c .before .before .before .before .before .before) .pre .0) (omega arith)
+low32-requires-2 : tie.Need-low32-requires-2 Inv-loop μ-loop
+low32-requires-2 c κs =
+    let turn = c .before .before .before .before in
+    rw (turn .before .loop .inv .beside) (turn .before .before .before .pre .1 .fits (turn .before .loop .r) (turn .loop-test .taken))
+
+-- a place that is read, and its step, are small
+first-fits : (c : tie.After-low32 Inv-loop μ-loop) → c .before .before .loop .p + 4 ≤ length (start c .args .s .now)
+first-fits c = still-fits (c .before .before .loop .inv .at) (start c .pre .0 .fits (rank c) (c .before .loop-test .taken))
+
+second-fits : (c : tie.After-low32 Inv-loop μ-loop) → c .before .before .loop .q + 4 ≤ length (start c .args .s .now)
+second-fits c = still-fits (c .before .before .loop .inv .beside) (start c .pre .1 .fits (rank c) (c .before .loop-test .taken))
+
+add-p : tie.Need-add-p Inv-loop μ-loop
+add-p c =
+    let read-at = c .before .before .before .before in
+    let low = first-fits read-at in
+    let small = start read-at .pre .4 in
+    omega (arith, low, small)
+
+add-q : tie.Need-add-q Inv-loop μ-loop
+add-q c =
+    let read-at = c .before .before .before .before in
+    let low = second-fits read-at in
+    let small = start read-at .pre .5 in
+    omega (arith, low, small)
+
+loop-again : tie.Need-loop-again Inv-loop μ-loop
+unfolding turnedKeys
+loop-again c =
+    let place = c .before .before .before in
+    let read-at = place .before in
+    let inv = read-at .before .before .loop .inv in
+    let s = start read-at .args .s .now in
+    let k = read-at .low32 .result in
+    let at = place .place .ensures .0 ∙ ap placeOf (read read-at) in
+    let some : eqb (keys read-at (rank read-at)) 0 ≡ false =
+    ⊎-elim (λ w. is-ne (read read-at) refl (w .1 .left)) (λ w. matching-some (inv .matching) at (w .left)) (c .before .if1 .came) in
+    let fresh : isNew (rank read-at) (keys read-at) (keys read-at (rank read-at)) ≡ true =
+    ⊎-elim (λ w. is-yes (w .2 .ensures ∙ ap (isNew (rank read-at) (keys read-at)) (read read-at)) (w .3 .left))
+    (λ w. matching-new (inv .matching) at (w .left)) (c .before .if1 .came) in
+    let beside = c .low322 .ensures ∙ ap (le32 s) (inv .beside) in
+    running-turn inv
+    (matching-turn (inv .matching) (bitXor k (c .low322 .result)) (read-at .before .loop-test .taken) some fresh at (place .place .ensures .1)
+    (xor-same k (c .low322 .result) ∙ ap₂ eqb (read read-at) beside))
 
 returns-3 : tie.Need-returns-3 Inv-loop μ-loop
 returns-3 c =
-    let passed = c .before .before .before .before .before .before .before in
-    let read = passed .before in
-    let inv = read .before .before .loop .inv in
-    let twice =
-    not-new (start read .args .m) (start read .args .u) (keys read) (rank read) (is-no (c .before .is-new .ensures ∙ new-test read) (c .if4 .taken)) in
-    (reaching-fail inv (read .before .loop-test .taken) (some passed) twice ∙ turned (masked read .before), inv .sized)
-
-loop-again : tie.Need-loop-again Inv-loop μ-loop
-loop-again c =
-    let place = c .before .before in
-    let told = place .before .before in
-    let read = told .before .before in
-    let inv = read .before .before .loop .inv in
-    let at = place .place .ensures .0 ∙ ap placeOf (read .turned-key .ensures) in
-    let own = sym (own-test told) ∙ eq-eqb _ _ (place .before .if2 .left) in
-    let fresh = ⊎-elim (λ w. is-yes (w .1 .ensures ∙ new-test read) (w .2 .left)) (λ w. reaching-new inv at (w .left)) (c .if3 .came) in
-    reaching-turn inv (read .before .loop-test .taken) (some (told .before)) (own-new _ _ (keys read) (rank read) own fresh) at (place .place .ensures .1)
-
-returns-4 : tie.Need-returns-4 Inv-loop μ-loop
-returns-4 c =
-    let inv = c .before .loop .inv in
-    (reaching-full inv (c .loop-test .left) ∙ turned (c .before .before .before .before .before), inv .sized)
+    let inv = c .before .before .loop .inv in
+    (c .counted2 .ensures ∙ matching-full (inv .matching) (c .before .loop-test .left) ∙ turned (c .before .before .before), inv .matching .sized)
 
 pub reach-spec : {M : Type 1} → statement M
 reach-spec =
     tie.close
-    (tie.spec Inv-loop μ-loop (λ c κs. search needs) (λ c κs. search needs) (λ c κs. search needs) (λ c κs. search needs) (λ c. search needs) loop-holds
-    turned-key-requires returns (λ c κs. search needs) returns-2 (λ c κs. search needs) (λ c. search needs) is-new-requires returns-3 (λ c. search needs)
-    (λ c. search needs) (λ c. search needs) loop-again returns-4)
+    (tie.spec Inv-loop μ-loop (λ c. search needs) loop-holds low32-requires (λ c κs. search needs) (λ c. search needs) (λ c κs. search needs) returns
+    is-new-requires returns-2 (λ c. search needs) low32-requires-2 add-p add-q (λ c. search needs) (λ c. search needs) loop-again (λ c κs. search needs)
+    returns-3)
