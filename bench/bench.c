@@ -1,8 +1,9 @@
 /*
  * Times the store's calls over the static library, a copy of the store's bytes, and two soundness
- * tests in C beside the library's, all in one run; prints a table with a row for each size of store,
- * a second one with raise beside grow, a third one with one unit and with two out in a hall that is
- * half full, and a fourth one with growing in two strokes beside grow. Read in place is a read without the copy. Build and run it with bench/run.
+ * tests in C beside the library's, all in one run. Prints a line for each time, with tabs between its
+ * parts: the table that it belongs to, b, M, K, what was timed, and the nanoseconds of one run, the
+ * least of several batches. With the word "compare" it prints nothing, and holds the two tests in C to
+ * the library's verdicts, on sound stores and on damaged ones. Build and run it with bench/run.
  */
 #define _POSIX_C_SOURCE 199309L
 #include "lhrs.h"
@@ -20,7 +21,7 @@
 #define MAX_LEVEL 3u
 #define HEADER 36u
 #define CHECK_RECORD (4u * LHRS_KEY + LHRS_FIELD)
-#define ROUNDS 60
+#define ROUNDS 8
 #define BATCH_NANOSECONDS 1000000.0
 
 /* A laid out store with all units about three quarters full. */
@@ -37,6 +38,7 @@ struct hall {
 };
 
 static struct hall whole;   /* every unit in service */
+static struct hall scattered; /* the same with keys and counts without a pattern */
 static struct hall lost;    /* unit 0 is out */
 static struct hall growing; /* at most 15 units, so that it can grow */
 static struct hall raising; /* at most level 2, so that it can be raised */
@@ -75,35 +77,66 @@ static void fill_field(uint8_t field[LHRS_FIELD], uint32_t seed)
     }
 }
 
-/* Teaches the keys 1, 1 + step, .. until each unit has so many; with a step other than 1 some units
-   get up to two less. */
-static void fill(struct hall *hall, uint32_t records, uint32_t step)
+/* Teaches a key, and keeps it where it is one of unit 0. */
+static void teach(struct hall *hall, uint32_t unit, uint32_t key)
 {
-    uint32_t counts[MAX_UNITS] = {0};
-    uint32_t left = records * hall->units;
-    uint32_t key = 1;
-    for (; left > 0; key += step) {
-        uint8_t field[LHRS_FIELD];
+    uint8_t field[LHRS_FIELD];
+    fill_field(field, key);
+    require(lhrs_teach(hall->bytes, hall->length, key, field, sizeof field), 0, "teach");
+    if (unit == 0)
+        hall->keys[hall->count++] = key;
+}
+
+/* Teaches the keys 1, 2, .. until each unit has so many. */
+static void fill(struct hall *hall, uint32_t records)
+{
+    uint32_t counts[MAX_UNITS] = {0}, left = records * hall->units, key = 1;
+    hall->count = 0;
+    for (; left > 0; key++) {
         uint32_t unit = plain_unit(hall->units, key);
         if (counts[unit] == records)
             continue;
-        if (step != 1 && counts[unit] == records - unit % 3) {
-            counts[unit] = records;
-            left -= unit % 3;
-            continue;
-        }
-        fill_field(field, key);
-        require(lhrs_teach(hall->bytes, hall->length, key, field, sizeof field), 0, "teach");
-        if (unit == 0)
-            hall->keys[counts[0]] = key;
+        teach(hall, unit, key);
         counts[unit]++;
         left--;
     }
-    hall->count = records;
     for (uint32_t i = 0; i < records; i++)
         fill_field(hall->fields[i], ~i);
     while (plain_unit(hall->units, key) != 0)
-        key += step;
+        key++;
+    hall->absent = key;
+}
+
+/* The next of a sequence of numbers without a pattern (xorshift), none of them twice and none 0. */
+static uint32_t next_number(uint32_t *state)
+{
+    *state ^= *state << 13;
+    *state ^= *state >> 17;
+    *state ^= *state << 5;
+    return *state;
+}
+
+/* Keys and counts without a pattern: each unit from half full to full. */
+static void scatter(struct hall *hall)
+{
+    uint32_t state = 12345, counts[MAX_UNITS], left = 0, key;
+    for (uint32_t unit = 0; unit < hall->units; unit++) {
+        counts[unit] = hall->slots / 2 + next_number(&state) % (hall->slots / 2 + 1);
+        left += counts[unit];
+    }
+    hall->count = 0;
+    while (left > 0) {
+        key = next_number(&state);
+        uint32_t unit = plain_unit(hall->units, key);
+        if (counts[unit] == 0)
+            continue;
+        teach(hall, unit, key);
+        counts[unit]--;
+        left--;
+    }
+    do
+        key = next_number(&state);
+    while (plain_unit(hall->units, key) != 0);
     hall->absent = key;
 }
 
@@ -229,21 +262,17 @@ static void compare_tests(const struct hall *hall)
 
 static void prepare(uint32_t slots, uint32_t units, uint32_t level)
 {
-    static struct hall scattered; /* keys and counts without a pattern */
     uint32_t records = slots * 3 / 4;
     build(&scattered, slots, units, level);
-    fill(&scattered, records, 2654435761u);
-    compare_tests(&scattered);
+    scatter(&scattered);
     build(&whole, slots, units, level);
-    fill(&whole, records, 1);
-    compare_tests(&whole);
+    fill(&whole, records);
     lost = whole;
     require(lhrs_out(lost.bytes, lost.length, 0), 0, "out");
-    damage_bytes(&lost);
     build(&growing, slots, units < MAX_UNITS ? units : MAX_UNITS - 1, level);
-    fill(&growing, records, 1);
+    fill(&growing, records);
     build(&raising, slots, units, level < MAX_LEVEL ? level : MAX_LEVEL - 1);
-    fill(&raising, records, 1);
+    fill(&raising, records);
 }
 
 /* The keys of unit 0 in turn: the place of the next one. */
@@ -264,10 +293,21 @@ static void copy_store(void)
     copy(copied, whole.bytes, whole.length);
 }
 
-static void read_absent(void)
+/* The library's soundness test: a read of a key that is not there. */
+static void test_one(const struct hall *hall)
 {
     uint8_t out[LHRS_FIELD];
-    require(lhrs_read(whole.bytes, whole.length, whole.absent, out, sizeof out), 6, "read");
+    require(lhrs_read(hall->bytes, hall->length, hall->absent, out, sizeof out), 6, "read");
+}
+
+static void test_whole(void)
+{
+    test_one(&whole);
+}
+
+static void test_scattered(void)
+{
+    test_one(&scattered);
 }
 
 static void test_plainly(void)
@@ -275,9 +315,19 @@ static void test_plainly(void)
     require((uint8_t)plain_sound(whole.bytes, whole.length), 1, "plain test");
 }
 
-static void test_tuned(void)
+static void tuned_one(const struct hall *hall)
 {
-    require((uint8_t)tuned_sound(whole.bytes, whole.length), 1, "tuned test");
+    require((uint8_t)tuned_sound(hall->bytes, hall->length), 1, "tuned test");
+}
+
+static void tuned_whole(void)
+{
+    tuned_one(&whole);
+}
+
+static void tuned_scattered(void)
+{
+    tuned_one(&scattered);
 }
 
 static void erase_and_teach(void)
@@ -369,10 +419,14 @@ static void copy_and_grow(void)
     require(lhrs_grow(copied, raising.length), 0, "grow");
 }
 
-static void read_half(void)
+static void tuned_half(void)
 {
-    uint8_t out[LHRS_FIELD];
-    require(lhrs_read(half.bytes, half.length, half.absent, out, sizeof out), 6, "read");
+    tuned_one(&half);
+}
+
+static void test_half(void)
+{
+    test_one(&half);
 }
 
 static void read_one_out(void)
@@ -412,10 +466,9 @@ static void two_out_and_repair(void)
 static struct lhrs_move moves[LHRS_MOST_MOVES];
 static size_t move_count;
 
-static void read_growing(void)
+static void tuned_growing(void)
 {
-    uint8_t out[LHRS_FIELD];
-    require(lhrs_read(growing.bytes, growing.length, growing.absent, out, sizeof out), 6, "read");
+    tuned_one(&growing);
 }
 
 static void ask_for_plan(void)
@@ -441,13 +494,20 @@ struct operation {
     void (*run)(void);
 };
 
-/* The soundness test is timed by a read of a key that is not there. */
-enum { COPY, TUNED, TEST, FIRST_OTHER };
+/* A table: its name, and what it compares. T is bench/tuned.c's test. */
+#define MOST_OPERATIONS 16
 
-static const struct operation operations[] = {
-    [COPY] = {"memcpy", copy_store},
-    [TUNED] = {"tuned C", test_tuned},
-    [TEST] = {"test", read_absent},
+struct table {
+    const char *name;
+    struct operation operations[MOST_OPERATIONS]; /* those behind the last have no name */
+};
+
+static const struct table store_table = {"store", {
+    {"T", tuned_whole},
+    {"test", test_whole},
+    {"T, no pattern", tuned_scattered},
+    {"test, no pattern", test_scattered},
+    {"memcpy", copy_store},
     {"plain C", test_plainly},
     {"correct", correct_one},
     {"erase + teach", erase_and_teach},
@@ -457,42 +517,31 @@ static const struct operation operations[] = {
     {"list, unit out", list_lost},
     {"unit out + repair", out_and_repair},
     {"grow + shrink", grow_and_shrink},
+}};
+
+static const struct table raise_table = {"raise", {
+    {"memcpy", copy_to_raise},
+    {"memcpy + grow", copy_and_grow},
     {"memcpy + raise", copy_and_raise},
-};
+}};
 
-#define OPERATIONS (sizeof operations / sizeof operations[0])
-
-/* What the second table compares. */
-enum { RAISE_COPY, GROW, RAISE, RAISE_OPERATIONS };
-
-static const struct operation raise_operations[RAISE_OPERATIONS] = {
-    [RAISE_COPY] = {"memcpy", copy_to_raise},
-    [GROW] = {"memcpy + grow", copy_and_grow},
-    [RAISE] = {"memcpy + raise", copy_and_raise},
-};
-
-/* What the third table compares: the test first. */
-static const struct operation half_operations[] = {
-    {"test", read_half},
+static const struct table half_table = {"half", {
+    {"T", tuned_half},
+    {"test", test_half},
     {"read, one out", read_one_out},
     {"read, two out", read_two_out},
     {"list, one out", list_one_out},
     {"list, two out", list_two_out},
     {"one out + repair", one_out_and_repair},
     {"two out + repair", two_out_and_repair},
-};
+}};
 
-#define HALF_OPERATIONS (sizeof half_operations / sizeof half_operations[0])
-
-/* What the fourth table compares. */
-enum { STROKES_TEST, PLAN, GROW_AT_ONCE, COMMIT, STROKES_OPERATIONS };
-
-static const struct operation strokes_operations[STROKES_OPERATIONS] = {
-    [STROKES_TEST] = {"test", read_growing},
-    [PLAN] = {"plan", ask_for_plan},
-    [GROW_AT_ONCE] = {"memcpy + grow", copy_and_grow_at_once},
-    [COMMIT] = {"memcpy + commit", copy_and_commit},
-};
+static const struct table strokes_table = {"strokes", {
+    {"T", tuned_growing},
+    {"plan", ask_for_plan},
+    {"memcpy + grow", copy_and_grow_at_once},
+    {"memcpy + commit", copy_and_commit},
+}};
 
 /* Nanoseconds of one run, over so many. */
 static double batch(const struct operation *operation, unsigned long runs)
@@ -516,90 +565,27 @@ static unsigned long runs_of_batch(const struct operation *operation)
     return runs;
 }
 
-/* The least time of each of so many operations over rounds that take all of them in turn. */
-static void measure(const struct operation *measured, size_t count, double *least)
+/* Prints the least time of each operation of a table over rounds that take all of them in turn. */
+static void print_row(const struct table *table, uint32_t slots, uint32_t units, uint32_t level)
 {
-    unsigned long runs[OPERATIONS];
-    for (size_t i = 0; i < count; i++) {
-        runs[i] = runs_of_batch(&measured[i]);
-        least[i] = batch(&measured[i], runs[i]);
+    const struct operation *operations = table->operations;
+    unsigned long runs[MOST_OPERATIONS];
+    double least[MOST_OPERATIONS];
+    size_t count = 0;
+    for (; count < MOST_OPERATIONS && operations[count].name != NULL; count++) {
+        runs[count] = runs_of_batch(&operations[count]);
+        least[count] = batch(&operations[count], runs[count]);
     }
     for (int round = 1; round < ROUNDS; round++) {
         for (size_t i = 0; i < count; i++) {
-            double time = batch(&measured[i], runs[i]);
+            double time = batch(&operations[i], runs[i]);
             if (time < least[i])
                 least[i] = time;
         }
     }
-}
-
-static void print_head(void)
-{
-    printf("|  b |  M | K | memcpy, ns | tuned C, ns | test, ns | test / memcpy | test / tuned C |");
-    for (size_t i = FIRST_OTHER; i < OPERATIONS; i++)
-        printf(" %s |", operations[i].name);
-    printf("\n|");
-    for (size_t i = 0; i < 8 + OPERATIONS - FIRST_OTHER; i++)
-        printf("---|");
-    putchar('\n');
-}
-
-static void print_row(uint32_t slots, uint32_t units, uint32_t level)
-{
-    double least[OPERATIONS];
-    prepare(slots, units, level);
-    measure(operations, OPERATIONS, least);
-    printf("| %2u | %2u | %u |", (unsigned)slots, (unsigned)units, (unsigned)level);
-    printf(" %10.0f | %11.0f | %8.0f |", least[COPY], least[TUNED], least[TEST]);
-    printf(" %13.2f | %14.2f |", least[TEST] / least[COPY], least[TEST] / least[TUNED]);
-    for (size_t i = FIRST_OTHER; i < OPERATIONS; i++)
-        printf(" %*.2f |", (int)strlen(operations[i].name), least[i] / least[TEST]);
-    putchar('\n');
-    fflush(stdout);
-}
-
-static void print_table(void)
-{
-    static const uint32_t slots[] = {4, 64}, units[] = {1, 4, 16}, levels[] = {1, 3};
-    puts("Least of 60 interleaved batches. The test is the library's soundness test; the columns "
-         "from plain C on\nare ratios to it. A column with + is two calls together. At M = 16, "
-         "grow + shrink goes from 15 units\nto 16 and back. memcpy + raise copies the store and "
-         "raises the copy, at K = 3 from 2 to 3.\n");
-    print_head();
-    for (int s = 0; s < 2; s++)
-        for (int u = 0; u < 3; u++)
-            for (int l = 0; l < 2; l++)
-                print_row(slots[s], units[u], levels[l]);
-}
-
-static const char raise_ratio[] = "(memcpy + raise) / (memcpy + grow)";
-
-static void print_raise_row(uint32_t slots, uint32_t units, uint32_t level)
-{
-    double least[RAISE_OPERATIONS];
-    build(&raising, slots, units, level);
-    fill(&raising, slots * 3 / 4, 1);
-    measure(raise_operations, RAISE_OPERATIONS, least);
-    printf("| %2u | %2u | %u |", (unsigned)slots, (unsigned)units, (unsigned)level);
-    for (size_t i = 0; i < RAISE_OPERATIONS; i++)
-        printf(" %*.0f |", (int)strlen(raise_operations[i].name) + 4, least[i]);
-    printf(" %*.2f |\n", (int)strlen(raise_ratio), least[RAISE] / least[GROW]);
-    fflush(stdout);
-}
-
-/* Raise with three groups and with four beside grow, at the levels that can be raised. */
-static void print_raise_table(void)
-{
-    static const uint32_t slots[] = {4, 64}, units[] = {12, 15};
-    puts("\nRaise and grow of the same store, each of a copy of its bytes. K is the level before.\n");
-    printf("|  b |  M | K |");
-    for (size_t i = 0; i < RAISE_OPERATIONS; i++)
-        printf(" %s, ns |", raise_operations[i].name);
-    printf(" %s |\n|---|---|---|---|---|---|---|\n", raise_ratio);
-    for (int s = 0; s < 2; s++)
-        for (int u = 0; u < 2; u++)
-            for (uint32_t level = 1; level < MAX_LEVEL; level++)
-                print_raise_row(slots[s], units[u], level);
+    for (size_t i = 0; i < count; i++)
+        printf("%s\t%u\t%u\t%u\t%s\t%.1f\n", table->name, (unsigned)slots, (unsigned)units,
+               (unsigned)level, operations[i].name, least[i]);
 }
 
 /* Each unit half full, but for unit 1: with one check unit it is empty, since two units can then be
@@ -637,73 +623,65 @@ static void prepare_half(uint32_t slots, uint32_t units, uint32_t level)
     require(list_from(&half) == list_from(&two_out), 1, "list's count with two units out");
 }
 
+/* Calls a function for stores of 4 and of 64 slots, of so many units each. */
+static void each_size(const uint32_t *units, int count, uint32_t highest,
+                      void (*call)(uint32_t, uint32_t, uint32_t))
+{
+    static const uint32_t slots[] = {4, 64};
+    for (int s = 0; s < 2; s++)
+        for (int u = 0; u < count; u++)
+            for (uint32_t level = 1; level <= highest; level += highest - 1)
+                call(slots[s], units[u], level);
+}
+
+static void print_store_row(uint32_t slots, uint32_t units, uint32_t level)
+{
+    prepare(slots, units, level);
+    print_row(&store_table, slots, units, level);
+}
+
+/* Raise beside grow, at the levels that can be raised. */
+static void print_raise_row(uint32_t slots, uint32_t units, uint32_t level)
+{
+    build(&raising, slots, units, level);
+    fill(&raising, slots * 3 / 4);
+    print_row(&raise_table, slots, units, level);
+}
+
 static void print_half_row(uint32_t slots, uint32_t units, uint32_t level)
 {
-    double least[HALF_OPERATIONS];
     prepare_half(slots, units, level);
-    measure(half_operations, HALF_OPERATIONS, least);
-    printf("| %2u | %2u | %u | %8.0f |", (unsigned)slots, (unsigned)units, (unsigned)level, least[0]);
-    for (size_t i = 1; i < HALF_OPERATIONS; i++)
-        printf(" %*.2f |", (int)strlen(half_operations[i].name), least[i] / least[0]);
-    putchar('\n');
-    fflush(stdout);
+    print_row(&half_table, slots, units, level);
 }
-
-static void print_half_table(void)
-{
-    static const uint32_t slots[] = {4, 64}, units[] = {4, 16}, levels[] = {1, 3};
-    puts("\nA hall that is half full, with one unit and with two of a group out; the columns behind "
-         "the test are\nratios to it. At K = 1 the second unit is empty, at K = 3 a quarter full.\n");
-    printf("|  b |  M | K | test, ns |");
-    for (size_t i = 1; i < HALF_OPERATIONS; i++)
-        printf(" %s |", half_operations[i].name);
-    printf("\n|---|---|---|---|---|---|---|---|---|---|\n");
-    for (int s = 0; s < 2; s++)
-        for (int u = 0; u < 2; u++)
-            for (int l = 0; l < 2; l++)
-                print_half_row(slots[s], units[u], levels[l]);
-}
-
-static const char plan_ratio[] = "plan / test";
-static const char commit_ratio[] = "(commit - grow) / test";
 
 static void print_strokes_row(uint32_t slots, uint32_t units, uint32_t level)
 {
-    double least[STROKES_OPERATIONS];
     build(&growing, slots, units, level);
-    fill(&growing, slots * 3 / 4, 1);
+    fill(&growing, slots * 3 / 4);
     ask_for_plan();
     require(move_count == growing.count, 1, "count of the plan");
-    measure(strokes_operations, STROKES_OPERATIONS, least);
-    printf("| %2u | %2u | %u |", (unsigned)slots, (unsigned)units, (unsigned)level);
-    for (size_t i = 0; i < STROKES_OPERATIONS; i++)
-        printf(" %*.0f |", (int)strlen(strokes_operations[i].name) + 4, least[i]);
-    printf(" %*.2f |", (int)strlen(plan_ratio), least[PLAN] / least[STROKES_TEST]);
-    printf(" %*.2f |\n", (int)strlen(commit_ratio),
-           (least[COMMIT] - least[GROW_AT_ONCE]) / least[STROKES_TEST]);
-    fflush(stdout);
+    print_row(&strokes_table, slots, units, level);
 }
 
-static void print_strokes_table(void)
+static void compare_size(uint32_t slots, uint32_t units, uint32_t level)
 {
-    static const uint32_t slots[] = {4, 64}, units[] = {1, 4, 15}, levels[] = {1, 3};
-    puts("\nGrowing in two strokes: the plan of a store, and a commit of it beside a grow, both of a "
-         "copy of its bytes.\n");
-    printf("|  b |  M | K |");
-    for (size_t i = 0; i < STROKES_OPERATIONS; i++)
-        printf(" %s, ns |", strokes_operations[i].name);
-    printf(" %s | %s |\n|---|---|---|---|---|---|---|---|---|\n", plan_ratio, commit_ratio);
-    for (int s = 0; s < 2; s++)
-        for (int u = 0; u < 3; u++)
-            for (int l = 0; l < 2; l++)
-                print_strokes_row(slots[s], units[u], levels[l]);
+    prepare(slots, units, level);
+    compare_tests(&scattered);
+    compare_tests(&whole);
+    damage_bytes(&lost);
 }
 
-int main(void)
+int main(int argc, char **argv)
 {
-    print_table();
-    print_raise_table();
-    print_half_table();
-    print_strokes_table();
+    static const uint32_t units[] = {1, 4, 16}, raised[] = {12, 15}, halves[] = {4, 16},
+                          grown[] = {1, 4, 15};
+    if (argc > 1 && strcmp(argv[1], "compare") == 0) {
+        each_size(units, 3, MAX_LEVEL, compare_size);
+        return EXIT_SUCCESS;
+    }
+    each_size(units, 3, MAX_LEVEL, print_store_row);
+    each_size(raised, 2, MAX_LEVEL - 1, print_raise_row);
+    each_size(halves, 2, MAX_LEVEL, print_half_row);
+    each_size(grown, 3, MAX_LEVEL, print_strokes_row);
     return EXIT_SUCCESS;
 }

@@ -2,7 +2,8 @@
  * The soundness test written for speed, in portable C99; compiled with -O3. Differences are or-ed and
  * tested once: keys against their own unit by masks of their digit sums, two sums at a time, lists and
  * zeros in words of 64 bits. Ranks that all four units of a group have are tested together. A key that
- * is there twice is found by a table of marks, with an exact look back where a mark is met. The bench
+ * is there twice is found by a table of marks, with an exact look back where a mark is met; 0 has its
+ * mark from the start, so that one test finds the end as well. The bench
  * runs it beside the library's.
  */
 #include "tuned.h"
@@ -136,19 +137,6 @@ static int is_twice(const uint8_t *keys, size_t step, uint32_t rank)
     return 0;
 }
 
-/* Leaves a mark for a key of a unit, where there are marks; false where the key is there twice. */
-static inline int is_new(uint8_t *marks, uint32_t unit, uint32_t key, const uint8_t *keys,
-                         size_t step, uint32_t rank)
-{
-    if (marks == NULL)
-        return !is_twice(keys, step, rank);
-    uint8_t mark = (uint8_t)(unit / PLACES + 1), *place = marks + mark_at(unit, key);
-    if (*place == mark && is_twice(keys, step, rank))
-        return 0;
-    *place = mark;
-    return 1;
-}
-
 /* The low bits of a digit sum that tell whether a key belongs to a unit: one bit more where the unit was split
    or made by a split. */
 static uint32_t mask_of(const struct group *group, uint32_t unit)
@@ -158,8 +146,8 @@ static uint32_t mask_of(const struct group *group, uint32_t unit)
 }
 
 /* Four units in service with a list beside them: tests the ranks that all of them have, and returns
-   their number, or FAILED. */
-static uint32_t common_ranks(const struct group *group, uint8_t *marks)
+   their number, or FAILED. For few slots: without marks. */
+static uint32_t common_few(const struct group *group)
 {
     const uint8_t *list = group->list, *data = group->data;
     size_t size = group->size;
@@ -176,10 +164,8 @@ static uint32_t common_ranks(const struct group *group, uint8_t *marks)
                   | (d ^ load32(slot + 3 * size));
         other |= spread_pair(load64(keys)) ^ own;
         next_other |= spread_pair(load64(keys + 8)) ^ next_own;
-        if (!is_new(marks, unit, a, list, CHECK_RECORD, rank)
-            || !is_new(marks, unit + 1, b, list + 4, CHECK_RECORD, rank)
-            || !is_new(marks, unit + 2, c, list + 8, CHECK_RECORD, rank)
-            || !is_new(marks, unit + 3, d, list + 12, CHECK_RECORD, rank))
+        if (is_twice(list, CHECK_RECORD, rank) || is_twice(list + 4, CHECK_RECORD, rank)
+            || is_twice(list + 8, CHECK_RECORD, rank) || is_twice(list + 12, CHECK_RECORD, rank))
             return FAILED;
     }
     other &= sum_pair(mask_of(group, unit), mask_of(group, unit + 1));
@@ -187,10 +173,47 @@ static uint32_t common_ranks(const struct group *group, uint8_t *marks)
     return (other | next_other | differ) != 0 ? FAILED : rank;
 }
 
+/* Four units in service with a list beside them: tests the ranks that all of them have, and returns
+   their number, or FAILED. A place that has the mark is met by 0, whose mark is there from the start, and
+   by a key that may be there twice. */
+static uint32_t common_ranks(const struct group *group, uint8_t *marks)
+{
+    const uint8_t *list = group->list, *data = group->data;
+    size_t size = group->size;
+    uint32_t slots = group->slots, unit = group->first, differ = 0, rank;
+    uint64_t own = sum_pair(unit, unit + 1), next_own = sum_pair(unit + 2, unit + 3);
+    uint64_t other = 0, next_other = 0;
+    uint8_t mark = (uint8_t)(unit / PLACES + 1);
+    for (rank = 0; rank < slots; rank++) {
+        const uint8_t *keys = list + CHECK_RECORD * rank, *slot = data + SLOT * rank;
+        uint32_t a = load32(keys), b = load32(keys + 4), c = load32(keys + 8),
+                 d = load32(keys + 12);
+        uint8_t *pa = marks + mark_at(unit, a), *pb = marks + mark_at(unit + 1, b),
+                *pc = marks + mark_at(unit + 2, c), *pd = marks + mark_at(unit + 3, d);
+        if (*pa == mark || *pb == mark || *pc == mark || *pd == mark) {
+            if (a == 0 || b == 0 || c == 0 || d == 0)
+                break;
+            if ((*pa == mark && is_twice(list, CHECK_RECORD, rank))
+                || (*pb == mark && is_twice(list + 4, CHECK_RECORD, rank))
+                || (*pc == mark && is_twice(list + 8, CHECK_RECORD, rank))
+                || (*pd == mark && is_twice(list + 12, CHECK_RECORD, rank)))
+                return FAILED;
+        }
+        *pa = *pb = *pc = *pd = mark;
+        differ |= (a ^ load32(slot)) | (b ^ load32(slot + size)) | (c ^ load32(slot + 2 * size))
+                  | (d ^ load32(slot + 3 * size));
+        other |= spread_pair(load64(keys)) ^ own;
+        next_other |= spread_pair(load64(keys + 8)) ^ next_own;
+    }
+    other &= sum_pair(mask_of(group, unit), mask_of(group, unit + 1));
+    next_other &= sum_pair(mask_of(group, unit + 2), mask_of(group, unit + 3));
+    return (other | next_other | differ) != 0 ? FAILED : rank;
+}
+
 /* How many keys a unit has, tested from a rank on; FAILED where one is of another unit or there
-   twice. */
-static uint32_t count_keys(const struct group *group, uint32_t unit, const uint8_t *keys,
-                           size_t step, uint32_t rank, uint8_t *marks)
+   twice. For few slots: without marks. */
+static uint32_t count_few(const struct group *group, uint32_t unit, const uint8_t *keys,
+                          size_t step, uint32_t rank)
 {
     uint32_t own = unit << 24, other = 0;
     for (; rank < group->slots; rank++) {
@@ -198,10 +221,38 @@ static uint32_t count_keys(const struct group *group, uint32_t unit, const uint8
         if (key == 0)
             break;
         other |= spread(key) ^ own;
-        if (!is_new(marks, unit, key, keys, step, rank))
+        if (is_twice(keys, step, rank))
             return FAILED;
     }
     return (other & mask_of(group, unit) << 24) != 0 ? FAILED : rank;
+}
+
+/* The same with marks. */
+static uint32_t count_marked(const struct group *group, uint32_t unit, const uint8_t *keys,
+                             size_t step, uint32_t rank, uint8_t *marks)
+{
+    uint32_t own = unit << 24, other = 0;
+    uint8_t mark = (uint8_t)(unit / PLACES + 1);
+    for (; rank < group->slots; rank++) {
+        uint32_t key = load32(keys + step * rank);
+        uint8_t *place = marks + mark_at(unit, key);
+        if (*place == mark) {
+            if (key == 0)
+                break;
+            if (is_twice(keys, step, rank))
+                return FAILED;
+        }
+        *place = mark;
+        other |= spread(key) ^ own;
+    }
+    return (other & mask_of(group, unit) << 24) != 0 ? FAILED : rank;
+}
+
+static uint32_t count_keys(const struct group *group, uint32_t unit, const uint8_t *keys,
+                           size_t step, uint32_t rank, uint8_t *marks)
+{
+    return marks == NULL ? count_few(group, unit, keys, step, rank)
+                         : count_marked(group, unit, keys, step, rank, marks);
 }
 
 /* The keys of a group's units are dense, different and in their own unit, the list has the same, and
@@ -212,8 +263,10 @@ static int keys_hold(const struct group *group, uint8_t *marks)
     const uint8_t *list = group->list;
     uint32_t from = 0, most, starts[PLACES];
     uint64_t differ = 0;
+    if (marks != NULL)
+        memset(marks, (int)(group->first / PLACES + 1), PLACES);
     if (list != NULL && memcmp(group->states, in_service, PLACES) == 0)
-        from = common_ranks(group, marks);
+        from = marks == NULL ? common_few(group) : common_ranks(group, marks);
     if (from == FAILED)
         return 0;
     most = from;
