@@ -20,8 +20,7 @@ use Rattle.model.specs.Layout.{view, checkAt}
 use Rattle.model.specs.Reads.{firstCheck}
 use Rattle.model.specs.Units.{unitOf}
 use Rattle.soundness.specs.Keys.{ownKeys, ownFrom, ownRow}
-use Rattle.soundness.specs.Pieces.{Kept, Beside, dataKeys, columnKeys, besideKeys, unkept, dataFill, lostFill, unitFill, noneBehind, ownListed}
-use Rattle.soundness.specs.Survey.{Common}
+use Rattle.soundness.specs.Pieces.{Kept, Common, Beside, dataKeys, columnKeys, besideKeys, unkept, dataFill, lostFill, unitFill, noneBehind, ownListed}
 use Rattle.soundness.proofs.Located.{column-place, column-list}
 
 -- ---- the keys of one unit

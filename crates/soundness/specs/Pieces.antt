@@ -1,11 +1,11 @@
--- The pieces that the soundness test is made of: one test for each data unit and one for each check unit, over the bytes. That they say what
+-- The pieces that the soundness test is made of, over the bytes: one test for each unit in place, and some for all that are not. That they say what
 -- document 01 asks is the theorem `pieces-sound`.
-use Prim.Native.Nat.{ℕ, _+_, _*_, _-_, _/_, _≤_}
+use Prim.Native.Nat.{ℕ, _+_, _*_, _-_, _/_, _≤_, _<_}
 use mathlib.Core.Path.{_≡_}
 use mathlib.Core.List.{List}
 use mathlib.Core.Bool.{Bool, _&&_, _||_}
 use lib.Dec.{eqb, ltb, leb}
-use lib.ListN.{length}
+use lib.ListN.{length, getD}
 use Rattle.buffer.specs.Choice.{pick}
 use Rattle.buffer.specs.Range.{all}
 use Rattle.buffer.specs.Bytes.{byte, part}
@@ -95,6 +95,11 @@ unitFill s u = pick (ltb u (byte s 6)) (pick (eqb (byte s (8 + u)) 1) (dataFill 
 -- behind n keys none is listed for a unit
 unfoldable pub noneBehind : List ℕ → ℕ → ℕ → Bool
 noneBehind s u n = unkept s (u / 4) || noKeys n (byte s 5) (columnKeys s u)
+
+-- r ranks that all four units of group g have, by the counts; none where check unit k is behind the group's last
+pub record Common (fills : List ℕ) (g k r : ℕ) : Type 0 where
+  pub least : (p : ℕ) → p < 4 → r ≤ getD fills (4 * g + p) 0
+  pub alone : k ≡ 3 * g + 3 → r ≡ 0
 
 -- the keys of a unit in place are its own, and no others are listed for it
 unfoldable pub ownListed : List ℕ → ℕ → Bool

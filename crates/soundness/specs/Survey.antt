@@ -1,9 +1,8 @@
 -- What the soundness test hands on of a store.
-use Prim.Native.Nat.{ℕ, _+_, _*_, _≤_, _<_}
+use Prim.Native.Nat.{ℕ}
 use mathlib.Core.Path.{_≡_}
 use mathlib.Core.List.{List}
 use mathlib.Core.Bool.{Bool, false}
-use lib.ListN.{getD}
 use Rattle.buffer.specs.Bytes.{byte}
 use Rattle.buffer.specs.Choice.{pick}
 use Rattle.buffer.specs.Range.{all}
@@ -16,11 +15,6 @@ use Rattle.soundness.specs.Pieces.{unitGood, unitFill}
 -- how many keys are listed for a unit; none where they are lost
 unfoldable pub knownFill : Store → ℕ → ℕ
 knownFill v u = pick (keysLostIn v u) 0 (listedFill v u)
-
--- r ranks that all four units of group g have, by the counts; none where check unit k is behind the group's last
-pub record Common (fills : List ℕ) (g k r : ℕ) : Type 0 where
-  pub least : (p : ℕ) → p < 4 → r ≤ getD fills (4 * g + p) 0
-  pub alone : k ≡ 3 * g + 3 → r ≡ 0
 
 -- the data units in place are good, and the keys of each are counted; where one is not good, nothing is
 pub record Counted (s : List ℕ) (good : Bool) (fills : List ℕ) : Type 0 where

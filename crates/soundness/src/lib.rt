@@ -39,12 +39,15 @@ fn unsound() -> Survey
     }
 }
 
-// The keys of the data units in place. With few slots the table of marks costs more than it saves.
+// So many slots to a unit are few: there the table of marks costs more than it saves.
+const FEW: u8 = 8;
+
+// The keys of the data units in place.
 fn count_units(s: &[u8], first_checks: [u8; 4]) -> units::Counts
     requires { ⌜ Ranged (now s) × («first_checks» ≡ entries 4 (firstCheck (view (now s)))) ⌝ }
     ensures { λ r. ⌜ Counted (now (s .entry)) (r .good) (r .fills) ⌝ }
 {
-    if s[lookup::SIZE_AT] <= 8 {
+    if s[lookup::SIZE_AT] <= FEW {
         return few::count_units(s, first_checks);
     }
     units::count_units(s, first_checks)
