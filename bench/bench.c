@@ -1,9 +1,8 @@
 /*
- * Times the store's calls over the static library, with and without an index, a copy of the store's
- * bytes, and two soundness tests in C beside the library's, all in one run. Prints a line for each
- * time, with tabs between its parts: the table that it belongs to, b, M, K, what was timed, and the
- * nanoseconds of one run, the least of several batches. An index that was kept is then held to one
- * that is built anew. With the word "compare" it prints nothing, and holds the two tests in C to
+ * Times the store's calls over the static library, a copy of the store's bytes, and two soundness
+ * tests in C beside the library's, all in one run. Prints a line for each time, with tabs between its
+ * parts: the table that it belongs to, b, M, K, what was timed, and the nanoseconds of one run, the
+ * least of several batches. With the word "compare" it prints nothing, and holds the two tests in C to
  * the library's verdicts, on sound stores and on damaged ones. Build and run it with bench/run.
  */
 #define _POSIX_C_SOURCE 199309L
@@ -46,13 +45,6 @@ static struct hall raising; /* at most level 2, so that it can be raised */
 static struct hall half;    /* half full, every unit in service */
 static struct hall one_out; /* the same with unit 0 out */
 static struct hall two_out; /* the same with units 0 and 1 out */
-static struct hall unindexed; /* for the plain calls beside those with an index */
-static struct hall indexed; /* the same with an index beside it */
-
-/* That index, and one that is built anew. */
-static uint8_t entries[LHRS_INDEX_LENGTH(MAX_UNITS * MAX_SLOTS)];
-static uint8_t anew[sizeof entries];
-static size_t index_length;
 
 static void require(uint8_t number, uint8_t expected, const char *what)
 {
@@ -95,12 +87,6 @@ static void teach(struct hall *hall, uint32_t unit, uint32_t key)
         hall->keys[hall->count++] = key;
 }
 
-static void make_fields(struct hall *hall)
-{
-    for (uint32_t i = 0; i < hall->count; i++)
-        fill_field(hall->fields[i], ~i);
-}
-
 /* Teaches the keys 1, 2, .. until each unit has so many. */
 static void fill(struct hall *hall, uint32_t records)
 {
@@ -114,7 +100,8 @@ static void fill(struct hall *hall, uint32_t records)
         counts[unit]++;
         left--;
     }
-    make_fields(hall);
+    for (uint32_t i = 0; i < records; i++)
+        fill_field(hall->fields[i], ~i);
     while (plain_unit(hall->units, key) != 0)
         key++;
     hall->absent = key;
@@ -147,7 +134,6 @@ static void scatter(struct hall *hall)
         counts[unit]--;
         left--;
     }
-    make_fields(hall);
     do
         key = next_number(&state);
     while (plain_unit(hall->units, key) != 0);
@@ -344,16 +330,11 @@ static void tuned_scattered(void)
     tuned_one(&scattered);
 }
 
-static void erase_and_teach_in(struct hall *hall)
-{
-    uint32_t turn = next_turn(hall), key = hall->keys[turn];
-    require(lhrs_erase(hall->bytes, hall->length, key), 0, "erase");
-    require(lhrs_teach(hall->bytes, hall->length, key, hall->fields[turn], LHRS_FIELD), 0, "teach");
-}
-
 static void erase_and_teach(void)
 {
-    erase_and_teach_in(&whole);
+    uint32_t turn = next_turn(&whole), key = whole.keys[turn];
+    require(lhrs_erase(whole.bytes, whole.length, key), 0, "erase");
+    require(lhrs_teach(whole.bytes, whole.length, key, whole.fields[turn], LHRS_FIELD), 0, "teach");
 }
 
 static void correct_one(void)
@@ -414,15 +395,10 @@ static void out_and_repair(void)
     require(lhrs_repair(whole.bytes, whole.length, 0), 0, "repair");
 }
 
-static void grow_and_shrink_in(struct hall *hall)
-{
-    require(lhrs_grow(hall->bytes, hall->length), 0, "grow");
-    require(lhrs_shrink(hall->bytes, hall->length), 0, "shrink");
-}
-
 static void grow_and_shrink(void)
 {
-    grow_and_shrink_in(&growing);
+    require(lhrs_grow(growing.bytes, growing.length), 0, "grow");
+    require(lhrs_shrink(growing.bytes, growing.length), 0, "shrink");
 }
 
 /* Nothing takes a raise back: it is made on a copy, and so is the grow that it is compared with. */
@@ -513,87 +489,6 @@ static void copy_and_commit(void)
     require(lhrs_commit(copied, growing.length, moves, LHRS_MOST_MOVES, move_count), 0, "commit");
 }
 
-/* With an index: the calls that keep it, each beside its plain call on a store of the same kind. */
-static void tuned_indexed(void)
-{
-    tuned_one(&indexed);
-}
-
-static void test_indexed(void)
-{
-    test_one(&indexed);
-}
-
-/* The test of the store, and that of the index. */
-static void find_absent(void)
-{
-    uint8_t unit, rank;
-    require(lhrs_index_find(indexed.bytes, indexed.length, entries, index_length, indexed.absent,
-                            &unit, &rank), 6, "find");
-}
-
-static void find_one(void)
-{
-    uint32_t key = indexed.keys[next_turn(&indexed)];
-    uint8_t unit, rank;
-    require(lhrs_index_find(indexed.bytes, indexed.length, entries, index_length, key, &unit,
-                            &rank), 0, "find");
-    require(unit == 0 && rank > 0, 1, "place found");
-}
-
-static void build_anew(void)
-{
-    require(lhrs_index_build(indexed.bytes, indexed.length, anew, index_length), 0, "build");
-}
-
-static void erase_and_teach_plainly(void)
-{
-    erase_and_teach_in(&unindexed);
-}
-
-static void erase_and_teach_kept(void)
-{
-    uint32_t turn = next_turn(&indexed), key = indexed.keys[turn];
-    require(lhrs_index_erase(indexed.bytes, indexed.length, entries, index_length, key), 0,
-            "erase with an index");
-    require(lhrs_index_teach(indexed.bytes, indexed.length, entries, index_length, key,
-                             indexed.fields[turn], LHRS_FIELD), 0, "teach with an index");
-}
-
-static void grow_and_shrink_plainly(void)
-{
-    grow_and_shrink_in(&unindexed);
-}
-
-static void shrink_kept(void)
-{
-    require(lhrs_index_shrink(indexed.bytes, indexed.length, entries, index_length), 0,
-            "shrink with an index");
-}
-
-static void grow_and_shrink_kept(void)
-{
-    require(lhrs_index_grow(indexed.bytes, indexed.length, entries, index_length), 0,
-            "grow with an index");
-    shrink_kept();
-}
-
-/* A grow and a shrink put the records that stay before those that come back. So from the second
-   time on the plan is the same. */
-static void commit_and_shrink_plainly(void)
-{
-    require(lhrs_commit(unindexed.bytes, unindexed.length, moves, LHRS_MOST_MOVES, move_count), 0,
-            "commit");
-    require(lhrs_shrink(unindexed.bytes, unindexed.length), 0, "shrink");
-}
-
-static void commit_and_shrink_kept(void)
-{
-    require(lhrs_index_commit(indexed.bytes, indexed.length, entries, index_length, moves,
-                              LHRS_MOST_MOVES, move_count), 0, "commit with an index");
-    shrink_kept();
-}
-
 struct operation {
     const char *name;
     void (*run)(void);
@@ -646,27 +541,6 @@ static const struct table strokes_table = {"strokes", {
     {"plan", ask_for_plan},
     {"memcpy + grow", copy_and_grow_at_once},
     {"memcpy + commit", copy_and_commit},
-}};
-
-/* With an index: at 16 units, and at 15, which can grow. */
-static const struct table index_table = {"index", {
-    {"T", tuned_indexed},
-    {"test", test_indexed},
-    {"find, not there", find_absent},
-    {"find", find_one},
-    {"build", build_anew},
-    {"erase + teach", erase_and_teach_plainly},
-    {"erase + teach, kept", erase_and_teach_kept},
-}};
-
-static const struct table index_growth_table = {"index", {
-    {"T", tuned_indexed},
-    {"test", test_indexed},
-    {"find, not there", find_absent},
-    {"grow + shrink", grow_and_shrink_plainly},
-    {"grow + shrink, kept", grow_and_shrink_kept},
-    {"commit + shrink", commit_and_shrink_plainly},
-    {"commit + shrink, kept", commit_and_shrink_kept},
 }};
 
 /* Nanoseconds of one run, over so many. */
@@ -789,40 +663,6 @@ static void print_strokes_row(uint32_t slots, uint32_t units, uint32_t level)
     print_row(&strokes_table, slots, units, level);
 }
 
-/* The index that was kept is the one that is built. */
-static void require_kept(void)
-{
-    build_anew();
-    require(memcmp(entries, anew, index_length) == 0, 1, "an index that is as built");
-}
-
-/* A row of the store without an index, and of a copy of it with one. */
-static void print_with_index(const char *name, uint32_t slots, uint32_t units, uint32_t level)
-{
-    struct table table = units < MAX_UNITS ? index_growth_table : index_table;
-    table.name = name;
-    if (units < MAX_UNITS) {
-        grow_and_shrink_plainly();
-        require(lhrs_plan(unindexed.bytes, unindexed.length, moves, LHRS_MOST_MOVES, &move_count),
-                0, "plan");
-    }
-    indexed = unindexed;
-    index_length = LHRS_INDEX_LENGTH(MAX_UNITS * slots);
-    require(lhrs_index_build(indexed.bytes, indexed.length, entries, index_length), 0, "build");
-    print_row(&table, slots, units, level);
-    require_kept();
-}
-
-static void print_index_row(uint32_t slots, uint32_t units, uint32_t level)
-{
-    build(&unindexed, slots, units, level);
-    fill(&unindexed, slots * 3 / 4);
-    print_with_index("index", slots, units, level);
-    build(&unindexed, slots, units, level);
-    scatter(&unindexed);
-    print_with_index("index, no pattern", slots, units, level);
-}
-
 static void compare_size(uint32_t slots, uint32_t units, uint32_t level)
 {
     prepare(slots, units, level);
@@ -834,7 +674,7 @@ static void compare_size(uint32_t slots, uint32_t units, uint32_t level)
 int main(int argc, char **argv)
 {
     static const uint32_t units[] = {1, 4, 16}, raised[] = {12, 15}, halves[] = {4, 16},
-                          grown[] = {1, 4, 15}, with_index[] = {15, 16};
+                          grown[] = {1, 4, 15};
     if (argc > 1 && strcmp(argv[1], "compare") == 0) {
         each_size(units, 3, MAX_LEVEL, compare_size);
         return EXIT_SUCCESS;
@@ -843,6 +683,5 @@ int main(int argc, char **argv)
     each_size(raised, 2, MAX_LEVEL - 1, print_raise_row);
     each_size(halves, 2, MAX_LEVEL, print_half_row);
     each_size(grown, 3, MAX_LEVEL, print_strokes_row);
-    each_size(with_index, 2, MAX_LEVEL, print_index_row);
     return EXIT_SUCCESS;
 }

@@ -32,7 +32,6 @@ function table(name, title, times, ratios,    columns, counts, i, j, n, list, li
     print ""
 }
 
-# A row; what was not timed there is a dash.
 function row_of(row, times, ratios,    parts, columns, first, i, n, line) {
     split(row, parts, FS)
     line = "| " parts[2] " | " parts[3] " | " parts[4] " |"
@@ -41,66 +40,24 @@ function row_of(row, times, ratios,    parts, columns, first, i, n, line) {
     for (i = 1; i <= n; i++)
         line = line sprintf(" %.0f |", least[row, columns[i]])
     n = split(ratios, columns, ";")
-    for (i = 1; i <= n; i++) {
-        if (!((row, columns[i]) in least)) {
-            line = line " - |"
-            continue
-        }
+    for (i = 1; i <= n; i++)
         line = line sprintf(" %.2f |", least[row, columns[i]] / (columns[i] ~ /no pattern/ ? least[row, "T, no pattern"] : first))
-    }
     return line
 }
 
-# In each row of a table that has both: one time less another.
-function difference(name, what, over, less,    list, i, n) {
+# A bar, and the most of a ratio over the rows of a table that fit a size (b, M, K; 0: any). less: what is taken off before.
+function bar(what, limit, name, b, m, k, over, under, times, less,    list, parts, i, n, ratio, most) {
     n = split(rows[name], list, ";")
-    for (i = 1; i <= n; i++)
-        if ((list[i], over) in least && (list[i], less) in least)
-            least[list[i], what] = least[list[i], over] - least[list[i], less]
-}
-
-# A bar, and the most of a ratio over the rows of a table that fit a size (b, M, K; 0: any). less: what is taken off before. With no such row it is missed.
-function bar(what, limit, name, b, m, k, over, under, times, less,    list, parts, i, n, ratio, most, fitting) {
-    n = split(rows[name], list, ";")
-    fitting = 0
+    most = 0
     for (i = 1; i <= n; i++) {
         split(list[i], parts, FS)
-        if ((b && parts[2] != b) || (m && parts[3] != m) || (k && parts[4] != k) || !((list[i], over) in least))
+        if ((b && parts[2] != b) || (m && parts[3] != m) || (k && parts[4] != k))
             continue
         ratio = (least[list[i], over] - (less == "" ? 0 : least[list[i], less])) / least[list[i], under] / times
-        if (fitting++ == 0 || ratio > most)
+        if (ratio > most)
             most = ratio
     }
-    printf "| %s | %s | %.2f | %s |\n", what, limit, most, (fitting && most <= limit + 0 ? "holds" : "MISSED")
-}
-
-# What the times with an index come to: the test for 12, a lookup of a key that is not there less a read of it; a commit less a grow; and what two forms
-# together cost beyond their plain calls and the two tests.
-function index_parts(name) {
-    difference(name, "test for 12", "find, not there", "test")
-    difference(name, "commit - grow, kept", "commit + shrink, kept", "grow + shrink, kept")
-    form_cost(name, "erase + teach")
-    form_cost(name, "grow + shrink")
-    form_cost(name, "commit + shrink")
-}
-
-function form_cost(name, calls) {
-    difference(name, calls ": form", calls ", kept", calls)
-    difference(name, calls ": form", calls ": form", "test for 12")
-    difference(name, calls ": form", calls ": form", "test for 12")
-}
-
-# The bars of a table with an index. Where calls were timed two by two, half of that counts.
-function index_bars(name, keys,    at_16, at_15, form) {
-    at_16 = keys ", b = 64, M = 16, K = 3"
-    at_15 = keys ", b = 64, M = 15, K = 3"
-    form = "(form - plain call - test for 12) / T, "
-    bar("test for 12 / T" at_16, "1.50", name, 64, 16, 3, "test for 12", "T", 1)
-    bar("(find - test - test for 12) / T" at_16, "0.10", name, 64, 16, 3, "find", "T", 1, "find, not there")
-    bar("build / T" at_16, "20.00", name, 64, 16, 3, "build", "T", 1)
-    bar(form "erase, teach" at_16, "0.50", name, 64, 16, 3, "erase + teach: form", "T", 2)
-    bar(form "grow, shrink" at_15, "0.50", name, 64, 15, 3, "grow + shrink: form", "T", 2)
-    bar(form "commit, shrink" at_15, "0.50", name, 64, 15, 3, "commit + shrink: form", "T", 2)
+    printf "| %s | %s | %.2f | %s |\n", what, limit, most, most <= limit + 0 ? "holds" : "MISSED"
 }
 
 END {
@@ -110,11 +67,6 @@ END {
     table("half", "A hall that is half full, with one unit and with two of a group out, as ratios to T. At K = 1 the second unit is empty, at K = 3 a quarter\nfull.", \
         "T;test", "test;read, one out;read, two out;list, one out;list, two out;one out + repair;two out + repair")
     table("strokes", "Growing in two strokes: the plan of a store, and a commit of it beside a grow, both of a copy of its bytes. Ratios to T.", "T;plan", "plan;memcpy + grow;memcpy + commit")
-    index_parts("index")
-    index_parts("index, no pattern")
-    columns_with_index = "test for 12;find;build;erase + teach;erase + teach, kept;grow + shrink;grow + shrink, kept;commit - grow, kept"
-    table("index", "With an index beside the store, in a block of LHRS_INDEX_LENGTH(16b) bytes, as ratios to T. The test for 12 is a lookup of a key that is not\nthere, less a read of it. Kept: the calls with an index, beside those without. A dash: not timed.", "T;test", columns_with_index)
-    table("index, no pattern", "The same with keys and counts without a pattern.", "T;test", columns_with_index)
     print "| bar | at most | measured | |"
     print "|---|---|---|---|"
     bar("test / T, b = 64", "1.05", "store", 64, 0, 0, "test", "T", 1)
@@ -131,6 +83,4 @@ END {
     bar("raise / grow", "1.00", "raise", 0, 0, 0, "memcpy + raise", "memcpy + grow", 1)
     bar("plan / T, b = 64, M = 15", "2.00", "strokes", 64, 15, 0, "plan", "T", 1)
     bar("(commit - grow) / T, b = 64, M = 15", "1.20", "strokes", 64, 15, 0, "memcpy + commit", "T", 1, "memcpy + grow")
-    index_bars("index", "")
-    index_bars("index, no pattern", ", no pattern")
 }

@@ -1,24 +1,23 @@
-/* lhrs.h: a record store for crane control units in one lent block of bytes, an index of its keys
-   in another, and a byte coder for groups of more than four units.
+/* lhrs.h: a record store for crane control units in one lent block of bytes, and a byte coder for
+   groups of more than four units.
 
    Store. It lies in one block of bytes, which the caller owns and lends to each call by a pointer
    and a length. The library keeps nothing between calls, allocates nothing and opens nothing. The
    block may be copied, saved and loaded as plain bytes, on any machine. Bytes behind the store's
    length are never touched.
 
-   Memory. A pointer must be valid for its length; with length 0 it may be null. count, unit and
-   rank must not be null. What is lent to one call must not overlap: blocks, moves, count, unit and
-   rank. A call takes less than LHRS_STACK bytes of stack.
+   Memory. A pointer must be valid for its length; with length 0 it may be null. count must not be
+   null. What is lent to one call must not overlap: no two blocks, nor count and a block. A call
+   takes less than LHRS_STACK bytes of stack.
 
-   At the same time. Two calls may run at the same time where neither writes what the other is lent.
-   So on one store lhrs_read, lhrs_list, lhrs_plan, lhrs_index_find and lhrs_index_build may run
-   beside each other, with outputs of their own: the index that is built is one. Every other call
-   runs alone on what it is lent.
+   At the same time. Calls on different stores may run at the same time. On one store lhrs_read,
+   lhrs_list and lhrs_plan may run beside each other, with outputs of their own; every other call
+   runs alone. lhrs_rebuild_segment may run beside all calls that are not lent its blocks.
 
    Cut off. A call cut off by a reset or a loss of power can leave its blocks half written. The next
    call may return 1. Or the store is sound, but a record or the parity is wrong, and no call tells.
    So make the call on a copy, and switch to the copy when it has returned 0. The same holds for a
-   segment. An index needs no copy: where it does not fit, 12 tells.
+   segment.
 
    Records. A record is a key, 1 to 4,294,967,295, and a field of 20 bytes: a body of 16, then a
    stamp of 4, which says when the record was taught. The stamp is a number of 32 bits, big-endian,
@@ -34,15 +33,9 @@
    units that are out than check units of the group are in service. So a group survives as many lost
    units as the level says, and more where these have few ranks in common.
 
-   Index. It says of each record, by rising key, in which unit and at which rank it is. Once it is
-   built, lhrs_index_teach, _erase, _grow, _shrink and _commit keep it. The same calls without it
-   leave it behind: then 12 is returned, until it is built anew. A wrong index is found at every
-   call, since all of it is compared with the store; so a lookup is no faster than a read.
-
    Numbers. Each call returns a number of enum lhrs_number. Where it is not 0, the call has changed
-   no byte, but for count, unit and rank, which are 0 then. Where several apply, the first of 2, 1,
-   3, 9, 4, 8, 5, 6, 7, 11 is given; with an index, 4 for a data unit and then 12 come straight
-   after 1.
+   no byte, but for count, which is 0 then. Where several apply, the first of 2, 1, 3, 9, 4, 8, 5,
+   6, 7, 11 is given.
 
    Archive. libstore.a, installed as liblhrs.a, is for x86-64 Linux. Its only global symbols are the
    functions declared below.
@@ -59,7 +52,7 @@ extern "C" {
 
 /* The version of this interface, which rises by one with each change that a caller can notice, and
    that of a store, its first byte. */
-#define LHRS_INTERFACE 2
+#define LHRS_INTERFACE 1
 #define LHRS_STORE_VERSION 4
 
 /* The compiler warns where a call's number is not used. Define it empty to go without. */
@@ -89,12 +82,6 @@ extern "C" {
 
 /* The most bytes that lhrs_list writes: 16 full units of b slots. */
 #define LHRS_LIST_MOST(b) (16u * LHRS_RECORD * (b))
-
-/* The bytes of an index of so many records, 2 + 6 records: their number, 16 bits, then of each its
-   key, its unit, from 0, and its rank, from 1, big-endian. A store has 16b records at most. */
-#define LHRS_INDEX_COUNT 2u
-#define LHRS_INDEX_ENTRY (LHRS_KEY + 2u)
-#define LHRS_INDEX_LENGTH(records) (LHRS_INDEX_COUNT + LHRS_INDEX_ENTRY * (records))
 
 /* The number of check unit j (0 to 2) of group g (0 to 3), 16 to 27. Data units are 0 to 15. */
 #define LHRS_CHECK_UNIT(g, j) (16u + 3u * (g) + (j))
@@ -127,8 +114,7 @@ enum lhrs_number {
     LHRS_NOT_IN_PLACE = 3,
     /* A unit is out: in the group of the key's unit (teach, correct, erase); in the group of the
        unit added or removed, or of the one that it is split from (grow, plan, commit, shrink); any
-       (raise); any data unit (with an index); or the unit itself already (out). Repair the group
-       first. */
+       (raise); or the unit itself already (out). Repair the group first. */
     LHRS_UNIT_OUT = 4,
     /* The key is taught already. lhrs_correct gives it a new field. */
     LHRS_KEY_PRESENT = 5,
@@ -136,8 +122,7 @@ enum lhrs_number {
     LHRS_KEY_NOT_PRESENT = 6,
     /* No room: the key's unit is full (teach), the records of both units do not fit into one
        (shrink), the block is shorter than LHRS_LENGTH(b) (lay out), the output is too short for all
-       records (list), the list for all moves (plan), or the index for all records, the new one too
-       (build, teach). */
+       records (list), or the list for all moves (plan). */
     LHRS_NO_ROOM = 7,
     /* A rank cannot be rebuilt: the key's, in a unit that is out (read), one of the group (repair),
        any (list). Or a data unit, the key's, one of the group or any, is out and its group has no
@@ -147,10 +132,7 @@ enum lhrs_number {
     /* A limit: 16 units (grow, plan, commit), 1 unit (shrink), level 3 (raise). */
     LHRS_LIMIT = 9,
     /* The list is not the store's plan, or count exceeds the list (commit). 10 is hallrun's. */
-    LHRS_NOT_THE_PLAN = 11,
-    /* The index is not what lhrs_index_build would write into its block: left behind, damaged, of
-       another store, too short, or not zero behind its entries. Build it anew. */
-    LHRS_NOT_THE_INDEX = 12
+    LHRS_NOT_THE_PLAN = 11
 };
 
 /* Where a record of the unit that is split is, and where a grow puts it. One that stays in its unit
@@ -264,39 +246,6 @@ LHRS_CHECKED uint8_t lhrs_shrink(uint8_t *store, size_t len);
 /* Raises the level by one: each group with a data unit in place gets one more check unit.
    Returns 0, 1, 4 or 9. */
 LHRS_CHECKED uint8_t lhrs_raise(uint8_t *store, size_t len);
-
-/* The calls with an index. 4 applies to all while any data unit is out. lhrs_correct, lhrs_raise,
-   lhrs_out and lhrs_repair have no form, since they move no record: after a repair the index fits
-   again. */
-
-/* Writes the index of the store, and zeros behind it to the end of its block.
-   Returns 0, 1, 4 or 7. */
-LHRS_CHECKED uint8_t lhrs_index_build(const uint8_t *store, size_t len, uint8_t *index,
-                                      size_t index_len);
-
-/* Looks a key up: unit and rank become those of its record. Returns 0, 1, 2, 4, 6 or 12. */
-LHRS_CHECKED uint8_t lhrs_index_find(const uint8_t *store, size_t len, const uint8_t *index,
-                                     size_t index_len, uint32_t key, uint8_t *unit, uint8_t *rank);
-
-/* As lhrs_teach. Returns 0, 1, 2, 4, 5, 7 or 12. */
-LHRS_CHECKED uint8_t lhrs_index_teach(uint8_t *store, size_t len, uint8_t *index, size_t index_len,
-                                      uint32_t key, const uint8_t *field, size_t field_len);
-
-/* As lhrs_erase. Returns 0, 1, 2, 4, 6 or 12. */
-LHRS_CHECKED uint8_t lhrs_index_erase(uint8_t *store, size_t len, uint8_t *index, size_t index_len,
-                                      uint32_t key);
-
-/* As lhrs_grow. Returns 0, 1, 4, 9 or 12. */
-LHRS_CHECKED uint8_t lhrs_index_grow(uint8_t *store, size_t len, uint8_t *index, size_t index_len);
-
-/* As lhrs_shrink. Returns 0, 1, 4, 7, 9 or 12. */
-LHRS_CHECKED uint8_t lhrs_index_shrink(uint8_t *store, size_t len, uint8_t *index,
-                                       size_t index_len);
-
-/* As lhrs_commit, with a plan of lhrs_plan. Returns 0, 1, 4, 9, 11 or 12. */
-LHRS_CHECKED uint8_t lhrs_index_commit(uint8_t *store, size_t len, uint8_t *index, size_t index_len,
-                                       const struct lhrs_move *moves, size_t moves_len,
-                                       size_t count);
 
 /* The byte coder takes no store, but a segment: m data members, and behind them any number of check
    members, m to 64 in all. The members are equal stretches of one block, member c the one from byte

@@ -2,9 +2,8 @@
  * How much stack the calls take. Each call is made on a stack of its own that was painted before:
  * the deepest byte that changed tells how much it took. Every function of the archive is called on
  * stores of 64 slots, with few units and all of them, full and half full, at each level and with up
- * to three units of a group out, with an index that fits, a wrong one and a short one, and must
- * return there each of its numbers; the byte coder gets segments of up to 64 members of 1,024
- * bytes.
+ * to three units of a group out, and must return there each of its numbers; the byte coder gets
+ * segments of up to 64 members of 1,024 bytes.
  * Argument: the bound that all have to stay below (default LHRS_STACK).
  * Build and run it with tests/stack.
  */
@@ -40,11 +39,9 @@ static struct lent {
     uint8_t store[LHRS_LENGTH(SLOTS)];
     uint8_t field[LHRS_FIELD];
     uint8_t records[LHRS_LIST_MOST(SLOTS)];
-    uint8_t index[LHRS_INDEX_LENGTH(16 * SLOTS)];
     struct lhrs_move moves[LHRS_MOST_MOVES];
-    size_t store_len, field_len, records_len, index_len, moves_len, count;
+    size_t store_len, field_len, records_len, moves_len, count;
     uint32_t argument;
-    uint8_t unit, rank;
 } lent, base;
 
 static uint8_t members[LHRS_MOST_MEMBERS * LHRS_LONGEST_MEMBER];
@@ -117,45 +114,6 @@ static void raise_level(void)
     number = lhrs_raise(lent.store, lent.store_len);
 }
 
-static void index_build(void)
-{
-    number = lhrs_index_build(lent.store, lent.store_len, lent.index, lent.index_len);
-}
-
-static void index_find(void)
-{
-    number = lhrs_index_find(lent.store, lent.store_len, lent.index, lent.index_len, lent.argument,
-                             &lent.unit, &lent.rank);
-}
-
-static void index_teach(void)
-{
-    number = lhrs_index_teach(lent.store, lent.store_len, lent.index, lent.index_len, lent.argument,
-                              lent.field, lent.field_len);
-}
-
-static void index_erase(void)
-{
-    number = lhrs_index_erase(lent.store, lent.store_len, lent.index, lent.index_len,
-                              lent.argument);
-}
-
-static void index_grow(void)
-{
-    number = lhrs_index_grow(lent.store, lent.store_len, lent.index, lent.index_len);
-}
-
-static void index_shrink(void)
-{
-    number = lhrs_index_shrink(lent.store, lent.store_len, lent.index, lent.index_len);
-}
-
-static void index_commit(void)
-{
-    number = lhrs_index_commit(lent.store, lent.store_len, lent.index, lent.index_len, lent.moves,
-                               lent.moves_len, lent.count);
-}
-
 static void rebuild_segment(void)
 {
     number = lhrs_rebuild_segment(members, members_len, marks, marks_len, lent.argument);
@@ -177,24 +135,17 @@ static struct call {
     {"lhrs_read", read_field, N(0) | N(1) | N(2) | N(6) | N(8), 0, 0},
     {"lhrs_out", out, N(0) | N(1) | N(2) | N(3) | N(4), 0, 0},
     {"lhrs_repair", repair, N(0) | N(1) | N(2) | N(3) | N(8), 0, 0},
-    {"lhrs_index_find", index_find, N(0) | N(1) | N(2) | N(4) | N(6) | N(12), 0, 0},
-    {"lhrs_index_teach", index_teach, N(0) | N(1) | N(2) | N(4) | N(5) | N(7) | N(12), 0, 0},
-    {"lhrs_index_erase", index_erase, N(0) | N(1) | N(2) | N(4) | N(6) | N(12), 0, 0},
     {"lhrs_list", list, N(0) | N(1) | N(7) | N(8), 0, 0},
     {"lhrs_grow", grow, N(0) | N(1) | N(4) | N(9), 0, 0},
     {"lhrs_plan", plan, N(0) | N(1) | N(4) | N(7) | N(9), 0, 0},
     {"lhrs_commit", commit, N(0) | N(1) | N(4) | N(9) | N(11), 0, 0},
     {"lhrs_shrink", shrink, N(0) | N(1) | N(4) | N(7) | N(9), 0, 0},
     {"lhrs_raise", raise_level, N(0) | N(1) | N(4) | N(9), 0, 0},
-    {"lhrs_index_build", index_build, N(0) | N(1) | N(4) | N(7), 0, 0},
-    {"lhrs_index_grow", index_grow, N(0) | N(1) | N(4) | N(9) | N(12), 0, 0},
-    {"lhrs_index_shrink", index_shrink, N(0) | N(1) | N(4) | N(7) | N(9) | N(12), 0, 0},
-    {"lhrs_index_commit", index_commit, N(0) | N(1) | N(4) | N(9) | N(11) | N(12), 0, 0},
     {"lhrs_rebuild_segment", rebuild_segment, N(0) | N(2) | N(8), 0, 0}
 };
 #define CALLS (sizeof calls / sizeof calls[0])
 #define STORE_CALLS (CALLS - 1)
-#define CALLS_WITH_ARGUMENT 10u
+#define CALLS_WITH_ARGUMENT 7u
 static struct call *const segment_call = &calls[CALLS - 1];
 
 static uint8_t stack[16384];
@@ -276,26 +227,12 @@ static void each_call(void)
     }
 }
 
-/* Every call with an index that has no room for a record more, that is too short, and that is wrong
-   in its first byte, in the middle or at its end; with a field, an output and a list that do not
-   fit, on a block that is too short, and on a store with a wrong key. */
+/* Every call with a field, an output and a list that do not fit, on a block that is too short, and
+   on a store with a wrong key. */
 static void each_misused_call(void)
 {
     static struct lent fitting;
-    const size_t entries = (size_t)base.index[0] << 8 | base.index[1];
-    const size_t wrong[] = {0, LHRS_INDEX_LENGTH(entries / 2), sizeof base.index - 1};
-    size_t i;
     fitting = base;
-    base.index_len = LHRS_INDEX_LENGTH(entries);
-    each_call();
-    base.index_len--;
-    each_call();
-    for (i = 0; i < sizeof wrong / sizeof wrong[0]; i++) {
-        base = fitting;
-        base.index[wrong[i]]++;
-        each_call();
-    }
-    base = fitting;
     base.field_len = base.records_len = LHRS_FIELD - 1;
     base.moves_len = 1;
     each_call();
@@ -307,8 +244,7 @@ static void each_misused_call(void)
     base = fitting;
 }
 
-/* A base of so many units at a level, with so many records to a unit, as far as there is room, and
-   its index. */
+/* A base of so many units at a level, with so many records to a unit, as far as there is room. */
 static void build(unsigned units, unsigned level, unsigned records)
 {
     unsigned taught = 0;
@@ -317,7 +253,6 @@ static void build(unsigned units, unsigned level, unsigned records)
     base.store_len = sizeof base.store;
     base.field_len = sizeof base.field;
     base.records_len = sizeof base.records;
-    base.index_len = sizeof base.index;
     base.moves_len = LHRS_MOST_MOVES;
     granted(lhrs_lay_out(base.store, base.store_len, SLOTS));
     while (LHRS_UNITS(base.store) < units)
@@ -326,7 +261,6 @@ static void build(unsigned units, unsigned level, unsigned records)
         granted(lhrs_raise(base.store, base.store_len));
     for (key = 1; taught < records * units; key++)
         taught += lhrs_teach(base.store, base.store_len, key, base.field, LHRS_FIELD) == 0;
-    granted(lhrs_index_build(base.store, base.store_len, base.index, base.index_len));
 }
 
 /* Every call with up to three units of the last group out, data units and check units. */

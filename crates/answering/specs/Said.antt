@@ -5,7 +5,7 @@ use Rattle.buffer.specs.Bytes.{zeros}
 use Rattle.buffer.specs.Table.{tab}
 use Rattle.model.specs.Layout.{Store, view}
 use Rattle.model.specs.Reads.{listed_fill, whole_slot}
-use Rattle.model.specs.Perform.{Answer, plain, copied, lent, listed, planned, indexed, found, Outcome, outcome, perform, lay_out}
+use Rattle.model.specs.Perform.{Answer, plain, copied, lent, listed, planned, Outcome, outcome, perform, lay_out}
 use Rattle.lines.specs.Text.{lines_of}
 use Rattle.lines.specs.Line.{parsed}
 use Rattle.lines.specs.Output.{number_line, field_line, record_line}
@@ -18,15 +18,13 @@ executed s (call c) = perform s c
 executed s unknown = outcome (plain 10) s
 
 -- what is printed of an answer: its number; behind that of a granted read the field; behind that of a granted list the lines of the records. No line
--- reads in place, asks for a plan or has an index
+-- reads in place or asks for a plan
 unfoldable pub printed : Answer → List ℕ → List ℕ
 printed (plain n) records = number_line n
 printed (copied n field) records = pick (eqb n 0) (field_line field) (number_line n)
 printed (lent x) records = []
 printed (listed n count bytes) records = number_line n ++ pick (eqb n 0) records []
 printed (planned n count moves) records = []
-printed (indexed n x) records = []
-printed (found n u r) records = []
 
 -- a line for each record of a store, by unit and then rank, out units rebuilt: its unit, its rank counted from 1, its key and its field
 unfoldable pub record_lines : Store → List ℕ

@@ -6,7 +6,6 @@ pub mod ByteOrder
 pub mod Table
 pub mod Strided
 pub mod Loops
-pub mod Membership
 pub mod ChoiceLaws
 pub mod TestLaws
 pub mod RangeLaws

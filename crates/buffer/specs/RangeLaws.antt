@@ -312,8 +312,8 @@ entries_ext (suc n) f g h =
     ap₂ ◌∷◌ (h 0 (omega arith)) (entries_ext n (λ (k : ℕ). f (suc k)) (λ (k : ℕ). g (suc k)) (λ k l. h (suc k) (omega arith)))
 
 -- a list of which the length and each entry are known
-pub entries_of_lem : (l : List ℕ) (n : ℕ) (f : ℕ → ℕ) → length l ≡ n → ((k : ℕ) → k < n → get_or l k 0 ≡ f k) → l ≡ entries n f
-entries_of_lem l n f e h =
+pub entries_of : (l : List ℕ) (n : ℕ) (f : ℕ → ℕ) → length l ≡ n → ((k : ℕ) → k < n → get_or l k 0 ≡ f k) → l ≡ entries n f
+entries_of l n f e h =
     ext_get_or 0 l (entries n f) (e ∙ sym (length_entries n f)) (λ k q. h k (rw (sym e) q) ∙ sym (get_or_entries n f k 0 (rw (sym e) q)))
 
 -- ---- two tests of each number are one

@@ -13,7 +13,7 @@ use Rattle.algebra.specs.XorSums.{total, total_none, total_four, total_zeros}
 use Rattle.buffer.specs.ChoiceLaws.{by-test}
 use Rattle.buffer.specs.Bytes.{byte}
 use Rattle.buffer.specs.Loops.{entries}
-use Rattle.buffer.specs.RangeLaws.{length_entries, get_or_entries, entries_of_lem}
+use Rattle.buffer.specs.RangeLaws.{length_entries, get_or_entries, entries_of}
 use Rattle.field256.specs.Gf256.{product}
 use Rattle.coder.specs.Sums.{Blank, Inside, four_bytes, digit_sum, Picked}
 
@@ -80,7 +80,7 @@ module _ (len : ℕ) (s places : List ℕ) (k : ℕ) where
 
     doubled_end : (old acc₀ acc : List ℕ) (r : ℕ) → acc₀ ≡ entries len (λ j. bit_xor (product 2 (byte old j)) (four 0 j)) → Adding acc₀ acc r → k ≤ r
         → acc ≡ entries len (λ j. bit_xor (product 2 (byte old j)) (digit_sum len s ps ws b m j))
-    doubled_end old acc₀ acc r e a h = entries_of_lem acc len (λ j. bit_xor (product 2 (byte old j)) (digit_sum len s ps ws b m j)) a.long at
+    doubled_end old acc₀ acc r e a h = entries_of acc len (λ j. bit_xor (product 2 (byte old j)) (digit_sum len s ps ws b m j)) a.long at
       where
         doubled : (j : ℕ) → j < len → bit_xor (byte acc₀ j) (total 4 (from j)) ≡ product 2 (byte old j)
         doubled j l =

@@ -19,7 +19,7 @@ use Rattle.buffer.specs.SpliceLaws.{part_left, part_seam}
 use Rattle.buffer.specs.Table.{tab}
 use Rattle.buffer.specs.TableLaws.{Wide, tab_ext, tab_append, part_chunk, length_tab}
 use Rattle.buffer.specs.Loops.{entries}
-use Rattle.buffer.specs.RangeLaws.{count_append, count_holds, length_entries, get_or_entries, entries_ext, entries_of_lem}
+use Rattle.buffer.specs.RangeLaws.{count_append, count_holds, length_entries, get_or_entries, entries_ext, entries_of}
 use Rattle.coder.specs.Interpolated.{Bytes, evaluate, interpolated}
 use Rattle.coder.specs.Segment.{sizes_fit, marks_fit, present, presents, chosen}
 use Rattle.coder.specs.Segment.{member, member_byte, member_from, members_after, Ending, ending, rebuild_segment}
@@ -40,7 +40,7 @@ tab_split m n f h = let e : n ≡ m + (n - m) = omega arith in ap (λ (k : ℕ).
 -- ---- members and their bytes
 module _ (len : ℕ) (s : List ℕ) where
   member_is : (n c : ℕ) (f : ℕ → ℕ) → length s ≡ len * n → c < n → ((j : ℕ) → j < len → member_byte len s j c ≡ f j) → member len s c ≡ entries len f
-  member_is n c f e h k = entries_of_lem (member len s c) len f (member_long len s n c e h) (λ j l. member_byte_lem len s c j l ∙ k j l)
+  member_is n c f e h k = entries_of (member len s c) len f (member_long len s n c e h) (λ j l. member_byte_lem len s c j l ∙ k j l)
 
   member_chunk : (n : ℕ) (f : ℕ → List ℕ) → s ≡ tab n f → Wide n len f → (c : ℕ) → c < n → member len s c ≡ f c
   unfolding member
@@ -139,7 +139,7 @@ module _ (m n len : ℕ) (s marks : List ℕ) (g : Enough m n len s marks) where
     same_members = tab_ext n (after m marks len s) (member len s) (λ c h. pick_true (every c h) _ _) ∙ members_are len s n inside.long
 
     same_marks : entries n (λ _. 1) ≡ marks
-    same_marks = sym (entries_of_lem marks n (λ _. 1) inside.count (λ c h. eqb-true (byte marks c) 1 (every c h)))
+    same_marks = sym (entries_of marks n (λ _. 1) inside.count (λ c h. eqb-true (byte marks c) 1 (every c h)))
 
     whole : rebuild_segment m s marks ≡ ending 0 s marks
     whole = ends ∙ ap₂ (ending 0) same_members same_marks

@@ -12,7 +12,7 @@ use Rattle.algebra.specs.XorSums.{total, total_ext}
 use Rattle.buffer.specs.Bytes.{byte, zeros}
 use Rattle.buffer.specs.ByteLaws.{length_zeros, byte_zeros}
 use Rattle.buffer.specs.Loops.{entries}
-use Rattle.buffer.specs.RangeLaws.{length_entries, get_or_entries, entries_ext, entries_of_lem}
+use Rattle.buffer.specs.RangeLaws.{length_entries, get_or_entries, entries_ext, entries_of}
 use Rattle.field256.specs.Gf256.{product}
 use Rattle.coder.specs.Segment.{member_byte}
 use Rattle.coder.specs.Horner.{horner_step, horner_start}
@@ -30,7 +30,7 @@ module _ (len : ℕ) (s ps ws : List ℕ) (m : ℕ) (low : (k : ℕ) → k < m �
   unfolding weighted_sum
   weighing_start acc e = record {
     within = omega arith;
-    weighed = entries_of_lem acc len (weighted_sum len s ps ws 8 m) (ap length e ∙ length_zeros len)
+    weighed = entries_of acc len (weighted_sum len s ps ws 8 m) (ap length e ∙ length_zeros len)
         (λ j h. ap (λ (y : List ℕ). byte y j) e ∙ byte_zeros len j ∙ sym (horner_start m (λ k. get_or ws k 0) (λ k. member_byte len s j (get_or ps k 0)) low));
   }
 

@@ -2,4 +2,3 @@ pub mod Values
 pub mod Widths
 pub mod Losses
 pub mod Plans
-pub mod Indexes

@@ -8,7 +8,7 @@ use native.Mathlib.Omega.{arith}
 use lib.ListN.{length, get_or, set, length-set}
 use lib.Seq.{get_or-set_same, get_or-set_other}
 use borrow.Author.Count.{below_more}
-use Rattle.buffer.specs.RangeLaws.{entries_of_lem}
+use Rattle.buffer.specs.RangeLaws.{entries_of}
 use Rattle.field256.specs.Powers.{order, power, powers, logarithm, logarithms}
 use Rattle.field256.specs.PowersLaws.{power_low, power_ne, power_read, power_log, log_low, log_power}
 
@@ -55,7 +55,7 @@ logging_turn {l} {i} {x} v g h p q =
 
 pub logging_end : {l : List ℕ} {i : ℕ} → Logging l i → order ≤ i → l ≡ logarithms
 unfolding logarithms
-logging_end {l} {i} g h = entries_of_lem l order (λ k. logarithm (suc k)) g.long at
+logging_end {l} {i} g h = entries_of l order (λ k. logarithm (suc k)) g.long at
   where
     some : (x : ℕ) → suc x ≡ 0 → ⊥
     some x e = omega arith

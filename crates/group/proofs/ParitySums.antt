@@ -6,7 +6,7 @@ use native.Mathlib.Omega.{arith}
 use lib.Bits.{bit_xor, xor_comm, xor_shr, xor_mod}
 use lib.ListN.{length}
 use Rattle.buffer.specs.Loops.{entries}
-use Rattle.buffer.specs.RangeLaws.{get_or_entries, entries_of_lem}
+use Rattle.buffer.specs.RangeLaws.{get_or_entries, entries_of}
 use Rattle.buffer.specs.Bytes.{byte}
 use Rattle.buffer.specs.ByteOrder.{low_byte}
 use Rattle.buffer.specs.LoopWrites.{Filling, filling_end}
@@ -108,7 +108,7 @@ module _ (a b c d : List ℕ) (la : length a ≡ field_bytes) (lb : length b ≡
 
   -- all its bytes
   pub parity_entries : (j : ℕ) → entries field_bytes (byte (parity j (four_bodies a b c d))) ≡ parity j (four_bodies a b c d)
-  parity_entries j = sym (entries_of_lem (parity j (four_bodies a b c d)) field_bytes (byte (parity j (four_bodies a b c d)))
+  parity_entries j = sym (entries_of (parity j (four_bodies a b c d)) field_bytes (byte (parity j (four_bodies a b c d)))
       (length_parity field_bytes j (four_bodies a b c d) (λ p _. four_long p)) (λ k l. refl))
 
   pub parity_filled : (j : ℕ) {x₀ x : List ℕ} {i : ℕ} → Filling (byte (parity j (four_bodies a b c d))) x₀ x i → length x₀ ≡ field_bytes → field_bytes ≤ i

@@ -10,7 +10,7 @@ use Rattle.algebra.specs.Xor.{xor_assoc}
 use Rattle.buffer.specs.Bytes.{byte, zeros}
 use Rattle.buffer.specs.ByteLaws.{byte_zeros, length_zeros, bytes_ext}
 use Rattle.buffer.specs.Loops.{entries}
-use Rattle.buffer.specs.RangeLaws.{entries_of_lem}
+use Rattle.buffer.specs.RangeLaws.{entries_of}
 use Rattle.code.specs.Scaling.{scale}
 use Rattle.code.specs.ScalingLaws.{scale_add}
 use Rattle.group.specs.Body.{IsBody, add_body, scale_body}
@@ -46,7 +46,7 @@ byte_scale c (a ∷ x) (suc i) h = byte_scale c x i (omega arith)
 -- the sum as code writes it, byte by byte
 pub add_entries : (x y : List ℕ) → length x ≡ length y → add_body x y ≡ entries (length x) (λ i. bit_xor (byte x i) (byte y i))
 add_entries x y e =
-    entries_of_lem (add_body x y) (length x) (λ i. bit_xor (byte x i) (byte y i)) (length_add (length x) x y refl (sym e)) (λ i h. byte_add x y i e)
+    entries_of (add_body x y) (length x) (λ i. bit_xor (byte x i) (byte y i)) (length_add (length x) x y refl (sym e)) (λ i h. byte_add x y i e)
 
 -- ---- sums
 pub add_comm : (x y : List ℕ) → add_body x y ≡ add_body y x

@@ -10,7 +10,7 @@ use Rattle.buffer.specs.ChoiceLaws.{by-test}
 use Rattle.buffer.specs.Bytes.{byte, zeros}
 use Rattle.buffer.specs.ByteLaws.{length_zeros}
 use Rattle.buffer.specs.Loops.{entries}
-use Rattle.buffer.specs.RangeLaws.{below-four, entries_of_lem}
+use Rattle.buffer.specs.RangeLaws.{below-four, entries_of}
 use Rattle.buffer.specs.Table.{upd}
 use Rattle.buffer.specs.TableLaws.{upd-at, upd_other}
 use Rattle.code.specs.Matrix.{entry}
@@ -161,7 +161,7 @@ pub add_scaled_entries : (c : ℕ) (x y : List ℕ) → length x ≡ length y
     → add_body x (scale_body c y) ≡ entries (length x) (λ i. bit_xor (byte x i) (scale c (byte y i)))
 add_scaled_entries c x y e =
     let k : length x ≡ length (scale_body c y) = e ∙ sym (length_scale c y) in
-    entries_of_lem
+    entries_of
     (add_body x (scale_body c y))
     (length x)
     (λ i. bit_xor (byte x i) (scale c (byte y i)))

@@ -8,7 +8,7 @@ use Rattle.buffer.specs.ChoiceLaws.{by-test}
 use Rattle.buffer.specs.Bytes.{byte}
 use Rattle.buffer.specs.ByteLaws.{byte_past}
 use Rattle.buffer.specs.Loops.{entries}
-use Rattle.buffer.specs.RangeLaws.{below-four, entries_of_lem}
+use Rattle.buffer.specs.RangeLaws.{below-four, entries_of}
 use Rattle.code.specs.Scaling.{scale}
 use Rattle.code.specs.Matrix.{entry, within}
 use Rattle.code.specs.Columns.{column}
@@ -88,7 +88,7 @@ weighed_is n ws e w bodies is =
 pub weighed_entries : (n : ℕ) (ws : List ℕ) → length ws ≡ 4 → (bodies : ℕ → List ℕ) → ((i : ℕ) → i < 4 → length (bodies i) ≡ n)
     → weighed ws bodies ≡ entries n (λ k. mixed ws (across bodies k))
 weighed_entries n ws e bodies h =
-    entries_of_lem (weighed ws bodies) n (λ k. mixed ws (across bodies k)) (length_weighed n ws bodies h) (λ k l. byte_weighed n ws e bodies h k l)
+    entries_of (weighed ws bodies) n (λ k. mixed ws (across bodies k)) (length_weighed n ws bodies h) (λ k l. byte_weighed n ws e bodies h k l)
 
 pub weighed_ext : (ws : List ℕ) (f g : ℕ → List ℕ) → ((i : ℕ) → i < 4 → f i ≡ g i) → weighed ws f ≡ weighed ws g
 unfolding weighed

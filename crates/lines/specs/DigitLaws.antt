@@ -7,7 +7,7 @@ use Rattle.std.proofs.lemmas.Bool.{lt-leb}
 use Rattle.buffer.specs.ChoiceLaws.{by-test, pick_true, pick-false}
 use Rattle.buffer.specs.TestLaws.{and-true, and_first, and_second, and_false_first, and_false_second}
 use Rattle.buffer.specs.Range.{all}
-use Rattle.buffer.specs.RangeLaws.{all_ext, all_true, all_holds, length_entries, get_or_entries, entries_ext, entries_of_lem}
+use Rattle.buffer.specs.RangeLaws.{all_ext, all_true, all_holds, length_entries, get_or_entries, entries_ext, entries_of}
 use Rattle.buffer.specs.Bytes.{byte, part}
 use Rattle.buffer.specs.SpliceLaws.{length_part, part_part, part_append}
 use Rattle.buffer.specs.ByteLaws.{byte_left, byte_right}
@@ -192,7 +192,7 @@ unfolding bytes_at
 bytes_at_hex_bytes n s e h =
     entries_ext n (λ i. number_at (hex_bytes n s) (0 + 2 * i) 2) (byte s)
     (λ i l. number_at_ext (hex_bytes n s) (0 + 2 * i) (hex 2 (byte s i)) 0 2 (chunk n s i l) ∙ number_at_hex 2 (byte s i) (omega (arith, h i l)))
-    ∙ sym (entries_of_lem s n (byte s) e (λ k l. refl))
+    ∙ sym (entries_of s n (byte s) e (λ k l. refl))
 
 -- ---- read, then written
 part_one : (at : ℕ) (l : List ℕ) → at < length l → part at 1 l ≡ byte l at ∷ []

@@ -5,15 +5,6 @@ use Rattle.model.proofs.Refusals.{refuses, lays_out}
 use Rattle.model.proofs.InPlace.{in_place}
 use Rattle.model.proofs.Further.{further_refuses}
 use Rattle.model.proofs.Misused.{misuses}
-use Rattle.model.proofs.IndexMisused.{index_misuses}
 
 pub demand_1 : Demand1
-demand_1 = record {
-  calls = refuses;
-  further_calls = further_refuses;
-  ordered = ordered;
-  misuses = misuses;
-  index_misuses = index_misuses;
-  in_place = in_place;
-  layouts = lays_out;
-}
+demand_1 = record { calls = refuses; further_calls = further_refuses; ordered = ordered; misuses = misuses; in_place = in_place; layouts = lays_out }

@@ -24,7 +24,7 @@ use Rattle.model.specs.Demand2.{HoldsLedger, CoversStamps, SymbolsFixed, BodiesF
 use Rattle.model.specs.history.Ledger.{Rec, Ledger, record_at, state}
 use Rattle.model.specs.history.Picture.{check_over, picture}
 use Rattle.model.specs.history.Steps.{Step, StepsTyped}
-use Rattle.model.specs.history.Claims.{left, recorded}
+use Rattle.model.specs.history.Claims.{calls, left, recorded}
 use Rattle.model.proofs.Hashing.{linear_hashing, units_reached}
 use Rattle.model.proofs.MadeAnew.{made_anew}
 use Rattle.model.proofs.Recovered.{recovered}
@@ -34,7 +34,8 @@ use Rattle.model.proofs.history.ledger.Valid.{Goods, Valid}
 use Rattle.model.proofs.history.picture.Records.{length_keys}
 use Rattle.model.proofs.history.picture.Seen.{size_seen, cstate_is}
 use Rattle.model.proofs.history.picture.Listed.{check_kept}
-use Rattle.model.proofs.history.claims.Demand3.{recorded_valid, outlives}
+use Rattle.model.proofs.history.claims.KeepsTaught.{whole}
+use Rattle.model.proofs.history.claims.Demand3.{typed_calls, same_ledger, outlives}
 
 -- the check units in service of a valid ledger's picture
 picture_holds : (l : Ledger) (rest : List ℕ) → Valid l → HoldsLedger (view (picture l rest)) l
@@ -63,7 +64,7 @@ module _ (s : List ℕ) (b : ℕ) (zero : lay_out_number s b ≡ 0) (xs : List S
   rest = drop (store_bytes b) s
 
   valid : Valid (recorded s b xs)
-  valid = recorded_valid s b zero xs typed
+  valid = rw (same_ledger s b zero xs typed) (whole s b zero (calls s b xs) (typed_calls s b zero xs typed)).valid
 
   in_histories : HoldsLedger (view (left s b xs)) (recorded s b xs)
   in_histories = rw (outlives s b zero xs typed).histories.pictured (picture_holds (recorded s b xs) rest valid)

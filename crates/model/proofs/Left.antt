@@ -7,7 +7,7 @@ use mathlib.Core.Bool.{true, false}
 use native.Mathlib.Omega.{arith}
 use lib.Dec.{ltb, leb}
 use lib.ListN.{length}
-use borrow.Author.Tests.{lt-ltb, le-ltb, ltb-true, ltb-false, leb-false, not-false}
+use borrow.Author.Tests.{eq-eqb, lt-ltb, le-ltb, ltb-true, ltb-false, leb-false, not-false}
 use Rattle.buffer.specs.ChoiceLaws.{pick_true, pick-false, pick-ext}
 use Rattle.buffer.specs.Table.{tab}
 use Rattle.buffer.specs.TableLaws.{tab_ext}
@@ -22,8 +22,8 @@ use Rattle.model.specs.Changes.{written, erased, unit_lost, repaired, grown, shr
 use Rattle.model.specs.ChangeLaws.{length_args, written_shaped}
 use Rattle.model.specs.Numbers.{Call, teach, correct, erase, unit_out, repair, grow, shrink, refusals_in, number_in}
 use Rattle.model.specs.RowLaws.{Free}
-use Rattle.model.specs.Perform.{granted_in}
-use Rattle.model.specs.PerformLaws.{granted_store, none_holds}
+use Rattle.model.specs.Perform.{granted_in, after_in, perform}
+use Rattle.model.specs.PerformLaws.{none_holds}
 use Rattle.model.specs.MadeAnew.{left_by}
 use Rattle.model.specs.history.Runs.{unit_in}
 use Rattle.model.proofs.history.alike.Alike.{Alike, alike_refl, left_shaped}
@@ -49,9 +49,13 @@ module _ (s : List ℕ) (c : Call) (zero : number_in s c ≡ 0) where
   unfolding number_in
   free = none_holds (sound s) (view s) c (number_in s c) refl zero
 
+  left_store : (perform s c).store ≡ granted_in s c
+  unfolding perform after_in
+  left_store = pick_true (eq-eqb (number_in s c) 0 zero) (granted_in s c) s
+
   -- it leaves the bytes of the store t
   pub left_same : (t : Store) → granted_in s c ≡ bytes t → Shaped t → Same (left_by s c) t
-  left_same t e h = rw (granted_store s c zero, e) (view_bytes t h)
+  left_same t e h = rw (left_store, e) (view_bytes t h)
 
 -- ---- the ranks of a key's unit, in a sound store
 

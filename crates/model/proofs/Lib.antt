@@ -10,8 +10,6 @@ pub mod Exactly8
 pub mod Judged
 pub mod Planning
 pub mod Misused
-pub mod IndexMisused
-pub mod Indexing
 pub mod Demand1
 pub mod MadeAnew
 pub mod RepairKeeps
@@ -21,5 +19,3 @@ pub mod Hashing
 pub mod RebuiltSlots
 pub mod Recovered
 pub mod Demand2
-pub mod IndexKept
-pub mod StoreEntries

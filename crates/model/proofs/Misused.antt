@@ -20,7 +20,7 @@ use Rattle.model.proofs.Planning.{two_strokes}
 
 module _ (s : List ℕ) where
   -- a field or an output of the wrong length: the second of two rows
-  pub second : (a : Bool) {b : Bool} (n : ℕ) (ts : List (Bool × ℕ)) → b ≡ true → first_of ((a, n) ∷ (b, n) ∷ ts) ≡ n
+  second : (a : Bool) {b : Bool} (n : ℕ) (ts : List (Bool × ℕ)) → b ≡ true → first_of ((a, n) ∷ (b, n) ∷ ts) ≡ n
   second true n ts e = row_holds n _ refl
   second false n ts e = row_fails n _ refl ∙ row_holds n ts e
 

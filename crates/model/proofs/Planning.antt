@@ -9,15 +9,17 @@ use native.Mathlib.Omega.{arith}
 use lib.Dec.{eqb, ltb}
 use lib.ListN.{length, take, drop, get_or, length-append}
 use lib.Seq.{take_at}
-use borrow.Author.Tests.{eq-eqb, ne_eqb, eqb-true, eqb-false, lt-ltb, le-ltb, ltb-true}
+use borrow.Author.Tests.{eq-eqb, ne_eqb, eqb-true, eqb-false, lt-ltb, le-ltb, ltb-true, ltb-false, not-true, not-false}
 use Rattle.buffer.specs.Choice.{pick}
 use Rattle.buffer.specs.ChoiceLaws.{by-test, by-pick, pick_true, pick-false, pick_same}
+use Rattle.buffer.specs.TestLaws.{not-both}
 use Rattle.buffer.specs.Range.{count}
 use Rattle.buffer.specs.RangeLaws.{count_ext, count_le, length_entries, get_or_entries}
 use Rattle.buffer.specs.Bytes.{zeros}
 use Rattle.group.specs.Widths.{slot_bytes}
 use Rattle.moves.specs.declared.Move.{Move}
-use Rattle.moves.specs.Moves.{no_move}
+use Rattle.moves.specs.Moves.{no_move, same_moves}
+use Rattle.moves.specs.MovesLaws.{same_moves_lem, moves_same}
 use Rattle.model.specs.Units.{split_pointer, moves}
 use Rattle.model.specs.UnitLaws.{split_below}
 use Rattle.model.specs.Layout.{Store, view, units_in, key_of}
@@ -33,7 +35,6 @@ use Rattle.model.specs.MadeAnew.{left_by}
 use Rattle.model.specs.Planning.{TellsOf, TwoStrokes}
 use Rattle.model.specs.history.Plan.{leaves, move_in, plan_in}
 use Rattle.model.specs.history.Further.{plan, commit, counts_as, plan_rows, commit_rows, plan_reply, further_refusals_in, further_number_in, further_answer_in}
-use Rattle.model.specs.history.FurtherLaws.{by_plan}
 use Rattle.model.specs.history.Steps.{further, counted_in, store_left, step_answer_in, perform_step}
 use Rattle.model.proofs.history.ledger.Dealt.{length_rows, get_d_rows, filter_place}
 use Rattle.model.proofs.Left.{free, grow_sound, grow_room, grow_left}
@@ -156,7 +157,13 @@ module _ (s : List ℕ) where
   -- it is 0 where the list is the plan, and else 11
   by_commit : number_in s grow ≡ 0 → (lent : List Move) (c : ℕ) (P : ℕ → Type 0) → (c ≤ length lent → take c lent ≡ plan_in (view s) → P 0)
       → ((c ≤ length lent → take c lent ≡ plan_in (view s) → ⊥) → P 11) → P (further_number_in s (commit lent c))
-  by_commit z lent c P same other = subst P (sym (behind z lent c)) (by_plan lent c (plan_in v) P same other)
+  unfolding commit_rows first_of
+  by_commit z lent c P same other =
+      subst P (sym (behind z lent c)) (by-pick P (ltb (length lent) c) 11 _
+      (λ e. other (λ a _. omega (arith, a, ltb-true (length lent) c e)))
+      (λ e. by-pick P (not (same_moves (take c lent) (plan_in v))) 11 0
+      (λ f. other (λ _ q. not-both (ap (λ ms. same_moves ms (plan_in v)) q ∙ moves_same (plan_in v)) (not-true _ f)))
+      (λ f. same (ltb-false (length lent) c e) (same_moves_lem (take c lent) (plan_in v) (not-false _ f)))))
 
   -- where asking or a commit is granted, a grow is
   grow_granted : (more : List (Bool × ℕ)) → first_of (rows ++ more) ≡ 0 → number_in s grow ≡ 0

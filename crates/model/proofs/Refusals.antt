@@ -77,10 +77,10 @@ not_first false n ts z = refl
 
 module _ (s : List ℕ) where
   -- a call with one row of 2, and one with two
-  pub one_row : {ok : Bool} (t : Bool) (ts : List (Bool × ℕ)) → first_of ((t, 2) ∷ (not ok, 1) ∷ ts) ≢ 2 → ok ≡ false → first_of ((t, 2) ∷ (not ok, 1) ∷ ts) ≡ 1
+  one_row : {ok : Bool} (t : Bool) (ts : List (Bool × ℕ)) → first_of ((t, 2) ∷ (not ok, 1) ∷ ts) ≢ 2 → ok ≡ false → first_of ((t, 2) ∷ (not ok, 1) ∷ ts) ≡ 1
   one_row t ts z d = row_fails _ _ (not_first t 2 _ z) ∙ row_holds _ _ (ap not d)
 
-  pub two_rows : {ok : Bool} (a b : Bool) (ts : List (Bool × ℕ)) → first_of ((a, 2) ∷ (b, 2) ∷ (not ok, 1) ∷ ts) ≢ 2 → ok ≡ false
+  two_rows : {ok : Bool} (a b : Bool) (ts : List (Bool × ℕ)) → first_of ((a, 2) ∷ (b, 2) ∷ (not ok, 1) ∷ ts) ≢ 2 → ok ≡ false
       → first_of ((a, 2) ∷ (b, 2) ∷ (not ok, 1) ∷ ts) ≡ 1
   two_rows a b ts z d = row_pair a b 2 _ ∙ one_row (a || b) ts (λ e. z (row_pair a b 2 _ ∙ e)) d
 

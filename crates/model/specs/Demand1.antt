@@ -4,7 +4,6 @@
 use Rattle.std.specs.Prelude.{ℕ, ◌*◌, ◌≤◌, ◌<◌, ◌≡◌, ◌≢◌, List, [], ◌∷◌, Bool, true, false, not, ◌&&◌, ◌||◌, eqb, ltb, length}
 use Rattle.buffer.specs.Choice.{pick}
 use Rattle.moves.specs.declared.Move.{Move}
-use Rattle.index.specs.Entries.{entry_at}
 use Rattle.group.specs.Widths.{field_bytes, slot_bytes}
 use Rattle.model.specs.Layout.{view, store_bytes, units_in}
 use Rattle.model.specs.Reads.{home_in, state_in, lost_in, total_in}
@@ -13,8 +12,7 @@ use Rattle.model.specs.Numbers.{Call, teach, correct, erase, read, read_in_place
 use Rattle.model.specs.Perform.{plain, planned, refusal, outcome, given_in, perform, laid_out, lay_out_number, lay_out}
 use Rattle.model.specs.Order.{Ordered}
 use Rattle.model.specs.history.Plan.{plan_in}
-use Rattle.model.specs.history.Index.{entries_in, built, data_out_in, Form, with_teach, with_erase, with_grow, with_shrink, with_commit}
-use Rattle.model.specs.history.Further.{Further, plan, commit, build, lookup, keeping, further_number_in, further_refusal}
+use Rattle.model.specs.history.Further.{Further, plan, commit, further_number_in, further_refusal}
 use Rattle.model.specs.history.Steps.{Step, further, perform_step}
 
 -- a call on any bytes: its number is the table's; refused, it leaves all as it was; a damaged store gets 1 where 2 does not apply
@@ -24,19 +22,9 @@ pub record Refuses (s : List ℕ) (c : Call) : Type 0 where
   pub damaged : sound s ≡ false → number_in s c ≢ 2 → perform s c ≡ outcome (refusal c 1) s
 
 -- the numbers of a further call (document 02): 0, and those of its refusals
-unfoldable pub form_numbers : Form → List ℕ
-form_numbers (with_teach k x) = 0 ∷ 2 ∷ 1 ∷ 4 ∷ 12 ∷ 5 ∷ 7 ∷ []
-form_numbers (with_erase k) = 0 ∷ 2 ∷ 1 ∷ 4 ∷ 12 ∷ 6 ∷ []
-form_numbers with_grow = 0 ∷ 1 ∷ 4 ∷ 12 ∷ 9 ∷ []
-form_numbers with_shrink = 0 ∷ 1 ∷ 4 ∷ 12 ∷ 9 ∷ 7 ∷ []
-form_numbers (with_commit lent n) = 0 ∷ 1 ∷ 4 ∷ 12 ∷ 9 ∷ 11 ∷ []
-
 unfoldable pub numbers_of : Further → List ℕ
 numbers_of (plan lent) = 0 ∷ 1 ∷ 9 ∷ 4 ∷ 7 ∷ []
 numbers_of (commit lent n) = 0 ∷ 1 ∷ 9 ∷ 4 ∷ 11 ∷ []
-numbers_of (build x) = 0 ∷ 1 ∷ 4 ∷ 7 ∷ []
-numbers_of (lookup x k) = 0 ∷ 2 ∷ 1 ∷ 4 ∷ 12 ∷ 6 ∷ []
-numbers_of (keeping f x) = form_numbers f
 
 unfoldable pub one_of : List ℕ → ℕ → Bool
 one_of [] n = false
@@ -67,26 +55,6 @@ pub record Misused (s : List ℕ) : Type 0 where
   pub count_above_the_list : (lent : List Move) (n : ℕ) → number_in s grow ≡ 0 → length lent < n
       → perform_step s (further (commit lent n)) ≡ outcome (plain 11) s
 
--- the same of the calls of the index: key 0, a field of the wrong length, a data unit out, a slice that isn't the index, and one too short to build in
-abbrev pub FurtherRefusedWith : List ℕ → ℕ → List Further → Type 0
-FurtherRefusedWith s n [] = Unit {0}
-FurtherRefusedWith s n (a ∷ bs) = (perform_step s (further a) ≡ outcome (further_refusal a n) s) × FurtherRefusedWith s n bs
-
--- the calls that take an index x, with a key, a field, a list of moves and its count
-abbrev pub with_index : List ℕ → ℕ → List ℕ → List Move → ℕ → List Further
-with_index x k y lent n =
-    lookup x k ∷ keeping (with_teach k y) x ∷ keeping (with_erase k) x ∷ keeping with_grow x ∷ keeping with_shrink x ∷ keeping (with_commit lent n) x ∷ []
-
-pub record IndexMisused (s : List ℕ) : Type 0 where
-  pub key_0 : (x y : List ℕ) → FurtherRefusedWith s 2 (lookup x 0 ∷ keeping (with_teach 0 y) x ∷ keeping (with_erase 0) x ∷ [])
-  pub wrong_length : (x : List ℕ) (k : ℕ) (y : List ℕ) → length y ≢ field_bytes → FurtherRefusedWith s 2 (keeping (with_teach k y) x ∷ [])
-  pub unit_out_lem : (x : List ℕ) (k : ℕ) (y : List ℕ) (lent : List Move) (n : ℕ) → k ≢ 0 → length y ≡ field_bytes → sound s ≡ true
-      → data_out_in (view s) ≡ true → FurtherRefusedWith s 4 (build x ∷ with_index x k y lent n)
-  pub not_the_index : (x : List ℕ) (k : ℕ) (y : List ℕ) (lent : List Move) (n : ℕ) → k ≢ 0 → length y ≡ field_bytes → sound s ≡ true
-      → data_out_in (view s) ≡ false → x ≢ built (length x) (entries_in (view s)) → FurtherRefusedWith s 12 (with_index x k y lent n)
-  pub short : (x : List ℕ) → sound s ≡ true → data_out_in (view s) ≡ false → length x < entry_at (length (entries_in (view s)))
-      → FurtherRefusedWith s 7 (build x ∷ [])
-
 -- reading in place, in any bytes: the store is as it was, and the part is a whole field, body and stamp, the one that read, given a buffer that fits, hands
 -- back, or it is empty, exactly where that read would refuse or the key's unit is out
 pub record InPlace (s : List ℕ) (k : ℕ) : Type 0 where
@@ -110,6 +78,5 @@ pub record Demand1 : Type 0 where
   pub further_calls : (s : List ℕ) (a : Further) → FurtherRefuses s a
   pub ordered : (x : Step) → Ordered x
   pub misuses : (s : List ℕ) → Misused s
-  pub index_misuses : (s : List ℕ) → IndexMisused s
   pub in_place : (s : List ℕ) (k : ℕ) → InPlace s k
   pub layouts : (s : List ℕ) (b : ℕ) → LaysOut s b

@@ -34,7 +34,6 @@ pub mod RepairKeeps
 pub mod LeftAlone
 pub mod Judged
 pub mod Planning
-pub mod Indexing
 pub mod Demand2
 pub mod Level
 pub mod history

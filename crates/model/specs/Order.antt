@@ -6,24 +6,15 @@ use Rattle.model.specs.Layout.{Store}
 use Rattle.model.specs.Numbers.{refusals_in}
 use Rattle.model.specs.history.Ledger.{Ledger}
 use Rattle.model.specs.history.Table.{refusals}
-use Rattle.model.specs.history.Further.{plan, commit, build, lookup, keeping, further_refusals_in, further_refusals}
+use Rattle.model.specs.history.Further.{further_refusals_in, further_refusals}
 use Rattle.model.specs.history.Steps.{Step, call, further}
 
 unfoldable pub table_order : List ℕ
 table_order = 2 ∷ 1 ∷ 3 ∷ 9 ∷ 4 ∷ 8 ∷ 5 ∷ 6 ∷ 7 ∷ 11 ∷ []
 
--- the calls with an index: 4 and 12 straight after 1, and the rest in the table's order (document 02, ask 8)
-unfoldable pub index_order : List ℕ
-index_order = 2 ∷ 1 ∷ 4 ∷ 12 ∷ 3 ∷ 9 ∷ 4 ∷ 8 ∷ 5 ∷ 6 ∷ 7 ∷ 11 ∷ []
-
 -- the order for a call: the table's. A call with an order of its own gets a line here, and nowhere else.
 unfoldable pub order_of : Step → List ℕ
-order_of (call c) = table_order
-order_of (further (plan lent)) = table_order
-order_of (further (commit lent n)) = table_order
-order_of (further (build x)) = index_order
-order_of (further (lookup x k)) = index_order
-order_of (further (keeping f x)) = index_order
+order_of x = table_order
 
 -- the numbers behind those at the front that are n
 unfoldable pub behind : ℕ → List ℕ → List ℕ

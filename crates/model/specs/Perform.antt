@@ -18,8 +18,6 @@ pub data Answer : Type 0 where
   lent : List ℕ → Answer  -- read in place: the part handed back, and no number
   listed : ℕ → ℕ → List ℕ → Answer  -- list: its number, the count, and the output buffer
   planned : ℕ → ℕ → List Move → Answer  -- asking for a plan: its number, the count, and the lent list of moves
-  indexed : ℕ → List ℕ → Answer  -- building the index, and the forms that keep it: the number, and the index
-  found : ℕ → ℕ → ℕ → Answer  -- lookup: its number, the unit and the rank
 
 -- an output buffer, or a lent list, after a call with the number n that hands back y: that and the old rest; when refused it is as it was
 unfoldable pub output : {A : Type 0} → ℕ → List A → List A → List A

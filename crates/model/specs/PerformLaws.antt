@@ -45,11 +45,6 @@ module _ (s : List ℕ) {c : Call} (alone : Plain c) {ok : Bool} {r : ℕ} (test
   unfolding perform answer_in after_in
   granted z e = rw (plain_reply alone, ← number_is, z, e, pick_true (eq-eqb 0 0 refl))
 
--- the store that a granted call leaves
-pub granted_store : (s : List ℕ) (c : Call) → number_in s c ≡ 0 → (perform s c).store ≡ granted_in s c
-unfolding perform after_in
-granted_store s c z = pick_true (eq-eqb (number_in s c) 0 z) (granted_in s c) s
-
 -- where the number is 0, none of the call's rows holds
 pub none_holds : (ok : Bool) (v : Store) (c : Call) (r : ℕ) → r ≡ first_of (refusals_in ok v c) → r ≡ 0 → Free (refusals_in ok v c)
 none_holds ok v c r e z = first_free (refusals_in ok v c) (numbered_in ok v c) (sym e ∙ z)

@@ -33,11 +33,6 @@ abbrev pub Numbered : List (Bool × ℕ) → Type 0
 Numbered [] = Unit {0}
 Numbered (t ∷ ts) = (leb 1 t.1 && leb t.1 9 ≡ true) × Numbered ts
 
--- the rows of any call, a further one too: none gives 0
-abbrev pub Refusing : List (Bool × ℕ) → Type 0
-Refusing [] = Unit {0}
-Refusing (t ∷ ts) = (leb 1 t.1 ≡ true) × Refusing ts
-
 -- none that gives n holds
 abbrev pub Lacks : ℕ → List (Bool × ℕ) → Type 0
 Lacks n [] = Unit {0}
@@ -54,30 +49,19 @@ agree_first (s ∷ ss) (t ∷ ts) h = rw (h.0, h.1) (rest (λ e. agree_first ss 
     rest ih = pick-ext t.0 t.1 (first_of ss) t.1 (first_of ts) (λ e. refl) ih
 
 -- a number of 0 says that none holds, and the other way
-pub refusing_free : (ts : List (Bool × ℕ)) → Refusing ts → first_of ts ≡ 0 → Free ts
+pub first_free : (ts : List (Bool × ℕ)) → Numbered ts → first_of ts ≡ 0 → Free ts
 unfolding first_of
-refusing_free [] h e = tt
-refusing_free (t ∷ ts) h e = go (refusing_free ts h.1)
+first_free [] n e = tt
+first_free (t ∷ ts) n e = go (first_free ts n.1)
   where
     go : (first_of ts ≡ 0 → Free ts) → (t.0 ≡ false) × Free ts
     go ih =
         by-test
         (λ b. pick b t.1 (first_of ts) ≡ 0 → (b ≡ false) × Free ts)
         t.0
-        (λ q f. absurd (omega (arith, leb-true 1 t.1 h.0, sym (pick_true refl t.1 (first_of ts)) ∙ f)))
+        (λ q f. absurd (omega (arith, leb-true 1 t.1 (and_first (leb 1 t.1) (leb t.1 9) n.0), sym (pick_true refl t.1 (first_of ts)) ∙ f)))
         (λ q f. (refl, ih (sym (pick-false refl t.1 (first_of ts)) ∙ f)))
         e
-
-pub refusing_append : (ts us : List (Bool × ℕ)) → Refusing ts → Refusing us → Refusing (ts ++ us)
-refusing_append [] us h k = k
-refusing_append (t ∷ ts) us h k = (h.0, refusing_append ts us h.1 k)
-
-pub numbered_refusing : (ts : List (Bool × ℕ)) → Numbered ts → Refusing ts
-numbered_refusing [] h = tt
-numbered_refusing (t ∷ ts) h = (and_first (leb 1 t.1) (leb t.1 9) h.0, numbered_refusing ts h.1)
-
-pub first_free : (ts : List (Bool × ℕ)) → Numbered ts → first_of ts ≡ 0 → Free ts
-first_free ts h = refusing_free ts (numbered_refusing ts h)
 
 pub free_first : (ts : List (Bool × ℕ)) → Free ts → first_of ts ≡ 0
 unfolding first_of
@@ -116,10 +100,6 @@ agree_append [] [] us vs h k = k tt
 agree_append [] (t ∷ ts) us vs h k = absurd h
 agree_append (s ∷ ss) [] us vs h k = absurd h
 agree_append (s ∷ ss) (t ∷ ts) us vs h k = (h.0, h.1, λ e. agree_append ss ts us vs (h.2 e) (λ f. k (e, f)))
-
-pub free_append : (ts us : List (Bool × ℕ)) → Free (ts ++ us) → Free ts × Free us
-free_append [] us f = (tt, f)
-free_append (t ∷ ts) us f = let r = free_append ts us f.1 in ((f.0, r.0), r.1)
 
 -- by whether the front part refuses
 pub by_front {ℓ} : (P : ℕ → Type ℓ) (ts us : List (Bool × ℕ)) → Numbered ts

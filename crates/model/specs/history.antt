@@ -5,14 +5,9 @@ pub mod Answers
 pub mod Runs
 pub mod Typed
 pub mod Plan
-pub mod Index
-pub mod IndexLaws
 pub mod Further
-pub mod FurtherLaws
 pub mod Steps
 pub mod Leaves
 pub mod Claims
 pub mod StaysSound
 pub mod Contracts
-pub mod IndexKept
-pub mod StoreEntries

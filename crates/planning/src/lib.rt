@@ -9,8 +9,7 @@ ghost use Rattle.model.specs.Perform.{outcome, plain, planned};
 ghost use Rattle.moves.specs.Drafts.{most_moves, moves_of};
 ghost use Rattle.model.specs.history.Plan.{plan_in};
 ghost use Rattle.model.specs.history.Further.{Further, plan, commit};
-ghost use Rattle.model.specs.history.Steps.{further, perform_step};
-ghost use Rattle.soundness.specs.Survey.{Surveyed};
+ghost use Rattle.model.specs.history.Steps.{Step, further, perform_step};
 ghost use Rattle.splitting.specs.Steps.{Split};
 ghost use Rattle.planning.specs.Drafted.{move_from, DraftOf, grows_if};
 
@@ -68,12 +67,11 @@ fn dealt(s: &[u8], n: u8, m: u8, count: u8) -> moves::Draft
     }
 }
 
-// The plan of a grow of the store, or why a grow is refused, by the survey of the store.
-pub fn drafted_in(s: &[u8], survey: soundness::Survey) -> moves::Draft
-    requires { Surveyed s.now survey.sound survey.fills survey.first_checks survey.outs }
+// The plan of a grow of the store, or why a grow is refused.
+fn drafted(s: &[u8]) -> moves::Draft
     ensures { DraftOf s.now result }
 {
-    let growth = splitting::growth_in(s, survey);
+    let growth = splitting::growth_of(s);
     if growth.number != 0 {
         return moves::no_plan(growth.number);
     }
@@ -81,15 +79,8 @@ pub fn drafted_in(s: &[u8], survey: soundness::Survey) -> moves::Draft
     dealt(s, lookup::split_pointer(m), m, growth.count)
 }
 
-// That of bytes of any length.
-fn drafted(s: &[u8]) -> moves::Draft
-    ensures { DraftOf s.now result }
-{
-    drafted_in(s, soundness::survey_of(s))
-}
-
 // A count of moves in one byte.
-pub fn narrow(count: usize) -> u8
+fn narrow(count: usize) -> u8
     requires { count ≤ most_moves }
     ensures { result ≡ count }
 {

@@ -1,6 +1,7 @@
 // Reading a store of any bytes: read, read in place, and list. None of them changes the store.
-ghost use Rattle.std.specs.Prelude.{◌≡◌, ◌++◌, ℕ, ◌+◌, ◌*◌, ◌/◌, ◌≤◌, ◌<◌, length, drop};
+ghost use Rattle.std.specs.Prelude.{◌≡◌, ◌++◌, ℕ, ◌+◌, ◌*◌, ◌/◌, ◌≤◌, ◌<◌, length, drop, get_or};
 ghost use Rattle.buffer.specs.Bytes.{byte, part};
+ghost use Rattle.buffer.specs.Range.{sum};
 ghost use Rattle.buffer.specs.Table.{tab};
 ghost use Rattle.group.specs.Products.{products};
 ghost use Rattle.group.specs.Widths.{key_bytes, field_bytes, slot_bytes};
@@ -125,6 +126,19 @@ pub struct Listing {
     pub count: usize,
 }
 
+// The sum of the counts of the units.
+fn total(fills: [u8; 16]) -> usize
+    ensures { (result ≡ sum 16 (λ u. get_or fills u 0)) × (result ≤ 4080) }
+{
+    let mut n = 0;
+    let mut u = 0;
+    while u < 16 {
+        n += buffer::wide(fills[u]);
+        u += 1;
+    }
+    n
+}
+
 // The verdict on a list into len bytes, with its count, by the survey of the store.
 fn count_records(s: &[u8], survey: soundness::Survey, len: usize) -> Listing
     requires { Surveyed s.now survey.sound survey.fills survey.first_checks survey.outs }
@@ -145,7 +159,7 @@ fn count_records(s: &[u8], survey: soundness::Survey, len: usize) -> Listing
             count: 0,
         };
     }
-    let count = soundness::total(fills);
+    let count = total(fills);
     if len < group::SLOT * count {
         return Listing {
             number: 7,

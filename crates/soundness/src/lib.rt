@@ -8,9 +8,8 @@ mod places;
 mod states;
 mod units;
 
-ghost use Rattle.std.specs.Prelude.{◌≡◌, ◌≤◌, get_or};
+ghost use Rattle.std.specs.Prelude.{◌≡◌};
 ghost use Rattle.buffer.specs.Loops.{entries};
-ghost use Rattle.buffer.specs.Range.{sum};
 ghost use Rattle.model.specs.Layout.{view};
 ghost use Rattle.model.specs.Reads.{first_check};
 ghost use Rattle.model.specs.Sound.{sound};
@@ -95,17 +94,4 @@ pub fn is_sound(s: &[u8]) -> bool
 {
     let survey = survey_of(s);
     survey.sound
-}
-
-// The sum of the counts of all data units, as a survey has them.
-pub fn total(fills: [u8; 16]) -> usize
-    ensures { (result ≡ sum 16 (λ u. get_or fills u 0)) × (result ≤ 4080) }
-{
-    let mut n = 0;
-    let mut u = 0;
-    while u < 16 {
-        n += buffer::wide(fills[u]);
-        u += 1;
-    }
-    n
 }

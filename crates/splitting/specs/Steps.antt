@@ -1,5 +1,5 @@
 -- The steps of grow and shrink on the parts of a store, and what the functions that take them ask for.
-use Rattle.std.specs.Prelude.{ℕ, ◌+◌, ◌/◌, ◌%◌, ◌≤◌, ◌<◌, ◌≡◌, List, Bool, true, false, ◌&&◌, ◌||◌, eqb, ltb, leb, set}
+use Rattle.std.specs.Prelude.{ℕ, ◌+◌, ◌/◌, ◌%◌, ◌<◌, ◌≡◌, List, Bool, ◌&&◌, ◌||◌, eqb, ltb, leb, set}
 use Rattle.buffer.specs.Choice.{pick}
 use Rattle.buffer.specs.Bytes.{byte, zeros}
 use Rattle.buffer.specs.Table.{upd}
@@ -7,8 +7,6 @@ use Rattle.group.specs.Widths.{slot_bytes, check_bytes}
 use Rattle.model.specs.Units.{split_pointer, touched, begins}
 use Rattle.model.specs.Layout.{Store, view}
 use Rattle.model.specs.Parts.{with_front, with_dstates, with_cstates, with_slots, with_checks}
-use Rattle.model.specs.Reads.{outs_in}
-use Rattle.model.specs.Sound.{sound}
 use Rattle.lookup.specs.Sized.{Sized}
 
 -- unit m of a store, and the unit n that it is split from
@@ -21,13 +19,6 @@ pub record Split (s : List ℕ) (n m : ℕ) : Type 0 where
 -- a unit is out in the group of unit m or in the group of the unit that m is split from, by the units out of each group
 unfoldable pub pair_out : (ℕ → ℕ) → ℕ → Bool
 pair_out outs m = ltb 0 (outs (m / 4)) || ltb 0 (outs (split_pointer m / 4))
-
--- unit m of a sound store and the unit that it is split from, with no unit out in their groups
-pub record Pair (s : List ℕ) (m : ℕ) : Type 0 where
-  pub tested : sound s ≡ true
-  pub some : 1 ≤ m
-  pub few : m < 16
-  pub calm : pair_out (outs_in (view s)) m ≡ false
 
 -- unit m and the unit that it was split from have more records than the size of one, by the records of each unit
 unfoldable pub pair_crowded : ℕ → (ℕ → ℕ) → ℕ → Bool

@@ -4,7 +4,7 @@ pub mod making;
 pub mod raising;
 pub mod states;
 
-ghost use Rattle.std.specs.Prelude.{◌≡◌, ◌+◌, ◌-◌, ◌≤◌, ◌<◌, eqb, ltb, get_or};
+ghost use Rattle.std.specs.Prelude.{◌≡◌, ◌+◌, ◌≤◌, ◌<◌, eqb, ltb, get_or};
 ghost use Rattle.buffer.specs.Choice.{pick};
 ghost use Rattle.buffer.specs.Range.{sum};
 ghost use Rattle.buffer.specs.Bytes.{byte};
@@ -106,12 +106,12 @@ pub struct Growth {
     pub count: u8,
 }
 
-// That of a store, by its survey.
-pub fn growth_in(s: &[u8], survey: soundness::Survey) -> Growth
-    requires { Surveyed s.now survey.sound survey.fills survey.first_checks survey.outs }
+// That of a store.
+pub fn growth_of(s: &[u8]) -> Growth
     ensures { (result.number ≡ number_in s.now Call.grow)
         × (result.count ≡ pick (eqb result.number 0) (fill_in (view s.now) (split_pointer (byte s.now 6))) 0) }
 {
+    let survey = soundness::survey_of(s);
     let number = grow_number(s, survey);
     if number != 0 {
         return Growth { number, count: 0 };
@@ -124,14 +124,6 @@ pub fn growth_in(s: &[u8], survey: soundness::Survey) -> Growth
     }
 }
 
-// That of bytes of any length.
-pub fn growth_of(s: &[u8]) -> Growth
-    ensures { (result.number ≡ number_in s.now Call.grow)
-        × (result.count ≡ pick (eqb result.number 0) (fill_in (view s.now) (split_pointer (byte s.now 6))) 0) }
-{
-    growth_in(s, soundness::survey_of(s))
-}
-
 // Grows the store where that is granted, by a unit split from one with count records.
 pub fn add_next(s: &mut [u8], count: u8)
     requires { (number_in s.old Call.grow ≡ 0) × (count ≡ fill_in (view s.old) (split_pointer (byte s.old 6))) }
@@ -141,7 +133,7 @@ pub fn add_next(s: &mut [u8], count: u8)
     add_unit(s, lookup::split_pointer(m), m, count);
 }
 
-// The number of a shrink, by the survey of the store.
+// The number of a shrink.
 fn shrink_number(s: &[u8], survey: soundness::Survey) -> u8
     requires { Surveyed s.now survey.sound survey.fills survey.first_checks survey.outs }
     ensures { result ≡ first_of (refusals_in survey.sound (view s.now) Call.shrink) }
@@ -161,52 +153,7 @@ fn shrink_number(s: &[u8], survey: soundness::Survey) -> u8
     row(pair_out(outs, m), 4, row(pair_crowded(b, fills, m), 7, 0))
 }
 
-// What a shrink comes to before it is made: its number, and where that is 0 `count`, the records of the unit that the last one was split from, and `more`,
-// those of the last one; else 0 and 0.
-#[derive(Drop)]
-pub struct Merge {
-    pub number: u8,
-    pub count: u8,
-    pub more: u8,
-}
-
-// That of a store, by its survey.
-pub fn merge_in(s: &[u8], survey: soundness::Survey) -> Merge
-    requires { Surveyed s.now survey.sound survey.fills survey.first_checks survey.outs }
-    ensures { (result.number ≡ number_in s.now Call.shrink)
-        × (result.count ≡ pick (eqb result.number 0) (fill_in (view s.now) (split_pointer (byte s.now 6 - 1))) 0)
-        × (result.more ≡ pick (eqb result.number 0) (fill_in (view s.now) (byte s.now 6 - 1)) 0)
-        × (result.count + result.more ≤ 64) }
-{
-    let number = shrink_number(s, survey);
-    if number != 0 {
-        return Merge {
-            number,
-            count: 0,
-            more: 0,
-        };
-    }
-    let m = buffer::byte_at(s, lookup::UNITS_AT) - 1;
-    let n = lookup::split_pointer(m);
-    let fills = survey.fills;
-    Merge {
-        number: 0,
-        count: fills[buffer::wide(n)],
-        more: fills[buffer::wide(m)],
-    }
-}
-
-// Shrinks the store where that is granted: the unit that its last one was split from has count records, and the last one has more.
-pub fn remove_last(s: &mut [u8], count: u8, more: u8)
-    requires { (number_in s.old Call.shrink ≡ 0) × (count ≡ fill_in (view s.old) (split_pointer (byte s.old 6 - 1)))
-        × (more ≡ fill_in (view s.old) (byte s.old 6 - 1)) }
-    ensures { s.new ≡ granted_in s.old Call.shrink }
-{
-    let m = s[lookup::UNITS_AT] - 1;
-    remove_unit(s, lookup::split_pointer(m), m, count, more);
-}
-
-// The number of a raise, by the survey of the store.
+// The number of a raise.
 fn raise_number(s: &[u8], survey: soundness::Survey) -> u8
     requires { Surveyed s.now survey.sound survey.fills survey.first_checks survey.outs }
     ensures { result ≡ first_of (refusals_in survey.sound (view s.now) Call.raise) }
@@ -235,11 +182,15 @@ pub fn grow(s: &mut [u8]) -> u8
 pub fn shrink(s: &mut [u8]) -> u8
     ensures { outcome (plain result) s.new ≡ perform s.old Call.shrink }
 {
-    let merge = merge_in(s, soundness::survey_of(s));
-    if merge.number != 0 {
-        return merge.number;
+    let survey = soundness::survey_of(s);
+    let number = shrink_number(s, survey);
+    if number != 0 {
+        return number;
     }
-    remove_last(s, merge.count, merge.more);
+    let m = buffer::byte_at(s, lookup::UNITS_AT) - 1;
+    let n = lookup::split_pointer(m);
+    let fills = survey.fills;
+    remove_unit(s, n, m, fills[buffer::wide(n)], fills[buffer::wide(m)]);
     0
 }
 

@@ -3,10 +3,9 @@ pub mod lay_out;
 
 ghost use Rattle.std.specs.Prelude.{◌≡◌};
 ghost use Rattle.model.specs.Numbers.{Call};
-ghost use Rattle.model.specs.Perform.{outcome, plain, copied, listed, planned, indexed, found, perform, lay_out};
-ghost use Rattle.model.specs.history.Index.{Form, with_teach, with_erase, with_grow, with_shrink, with_commit};
-ghost use Rattle.model.specs.history.Further.{Further, plan, commit, build, lookup, keeping};
-ghost use Rattle.model.specs.history.Steps.{further, perform_step};
+ghost use Rattle.model.specs.Perform.{outcome, plain, copied, listed, planned, perform, lay_out};
+ghost use Rattle.model.specs.history.Further.{Further, plan, commit};
+ghost use Rattle.model.specs.history.Steps.{Step, further, perform_step};
 ghost use Rattle.coder.specs.Segment.{ending, rebuild_segment};
 
 #[unsafe(no_mangle)]
@@ -106,79 +105,6 @@ pub extern "C" fn lhrs_raise(store: &mut [u8]) -> u8
     ensures { outcome (plain result) store.new ≡ perform store.old Call.raise }
 {
     splitting::raise(store)
-}
-
-// ---- with an index beside the store
-
-#[unsafe(no_mangle)]
-pub extern "C" fn lhrs_index_build(store: &[u8], index: &mut [u8]) -> u8
-    ensures { outcome (indexed result index.new) store.now
-        ≡ perform_step store.now (further (Further.build index.old)) }
-{
-    indexing::build(store, index)
-}
-
-// Unit and rank go into the numbers that the caller lends; both 0 when refused.
-#[unsafe(no_mangle)]
-pub extern "C" fn lhrs_index_find(
-    store: &[u8],
-    index: &[u8],
-    key: u32,
-    unit: &mut u8,
-    rank: &mut u8,
-) -> u8
-    ensures { outcome (found result unit.new rank.new) store.now
-        ≡ perform_step store.now (further (Further.lookup index.now key)) }
-{
-    let place = indexing::find(store, index, key);
-    *unit = place.unit;
-    *rank = place.rank;
-    place.number
-}
-
-#[unsafe(no_mangle)]
-pub extern "C" fn lhrs_index_teach(store: &mut [u8], index: &mut [u8], key: u32, field: &[u8]) -> u8
-    ensures { outcome (indexed result index.new) store.new
-        ≡ perform_step store.old (further (Further.keeping (Form.with_teach key field.now) index.old)) }
-{
-    indexing::teach(store, index, key, field)
-}
-
-#[unsafe(no_mangle)]
-pub extern "C" fn lhrs_index_erase(store: &mut [u8], index: &mut [u8], key: u32) -> u8
-    ensures { outcome (indexed result index.new) store.new
-        ≡ perform_step store.old (further (Further.keeping (Form.with_erase key) index.old)) }
-{
-    indexing::erase(store, index, key)
-}
-
-#[unsafe(no_mangle)]
-pub extern "C" fn lhrs_index_grow(store: &mut [u8], index: &mut [u8]) -> u8
-    ensures { outcome (indexed result index.new) store.new
-        ≡ perform_step store.old (further (Further.keeping Form.with_grow index.old)) }
-{
-    indexing::grow(store, index)
-}
-
-#[unsafe(no_mangle)]
-pub extern "C" fn lhrs_index_shrink(store: &mut [u8], index: &mut [u8]) -> u8
-    ensures { outcome (indexed result index.new) store.new
-        ≡ perform_step store.old (further (Further.keeping Form.with_shrink index.old)) }
-{
-    indexing::shrink(store, index)
-}
-
-#[unsafe(no_mangle)]
-pub extern "C" fn lhrs_index_commit(
-    store: &mut [u8],
-    index: &mut [u8],
-    list: &[moves::Move],
-    count: usize,
-) -> u8
-    ensures { outcome (indexed result index.new) store.new
-        ≡ perform_step store.old (further (Further.keeping (Form.with_commit list.now count) index.old)) }
-{
-    indexing::commit(store, index, list, count)
 }
 
 // The byte coder, which takes no store.

@@ -1,19 +1,20 @@
 -- What a granted call may rely on, and that what its code leaves is what the call is to leave.
-use Prim.Native.Nat.{ℕ, suc, ◌≤◌, ◌<◌}
+use Prim.Native.Nat.{ℕ, suc, pred, ◌-◌, ◌≤◌, ◌<◌}
 use mathlib.Core.Path.{◌≡◌, refl, sym, ◌∙◌}
-use mathlib.Core.Bool.{Bool, true}
+use mathlib.Core.Bool.{Bool, true, false}
 use mathlib.Core.List.{List, [], ◌∷◌, ◌++◌}
 use native.Mathlib.Omega.{arith}
 use lib.Dec.{eqb, ltb, leb}
 use lib.ListN.{length}
-use borrow.Author.Tests.{ltb-false, not-false}
+use borrow.Author.Tests.{ltb-false, leb-false, not-false}
 use Rattle.buffer.specs.Choice.{pick}
 use Rattle.buffer.specs.Bytes.{byte}
 use Rattle.group.specs.Widths.{field_bytes}
 use Rattle.model.specs.Layout.{bytes, view, slot_of}
+use Rattle.model.specs.Places.{SlotIn}
 use Rattle.model.specs.Reads.{home_in, fill_in, rank_in}
 use Rattle.model.specs.Numbers.{Call, teach, correct, erase, unit_out, first_of, refusals_in}
-use Rattle.model.specs.Changes.{written, unit_lost}
+use Rattle.model.specs.Changes.{written, erased, unit_lost}
 use Rattle.model.specs.Perform.{plain, outcome, perform, granted_in}
 use Rattle.model.specs.PerformLaws.{Plain, of_teach, of_correct, of_erase, refused, granted, none_holds}
 use Rattle.model.specs.RowLaws.{Free, first_free, free_first, front_holds, front_free}
@@ -82,8 +83,30 @@ module _ {s : List ℕ} {k : ℕ} {fits : Bool} {c : Call} {own : ℕ → ℕ �
   pub granted_then : {s' : List ℕ} → number ≡ 0 → Free (own n r) → s' ≡ granted_in s c → outcome (plain 0) s' ≡ perform s c
   granted_then z f e = granted s o.alone refl (sym (own_number z ∙ free_first (own n r) f)) refl e
 
--- ---- what a correct leaves
-pub corrected : {s : List ℕ} {k u n r : ℕ} → Located s k u n r → (x : List ℕ) {s' : List ℕ} → s' ≡ bytes (written (view s) u r (slot_of k x))
-    → s' ≡ granted_in s (Call.correct k x)
-unfolding granted_in
-corrected h x f = f ∙ rw (h.unit, h.rank)
+-- ---- the slots that they write, and what is left
+module _ {s : List ℕ} {k u n r : ℕ} (h : Located s k u n r) where
+  pub next_slot : leb (byte s 5) n ≡ false → SlotIn s u n
+  next_slot e = record { long = h.sized.long; unit = h.below; rank = leb-false (byte s 5) n e }
+
+  pub present : leb n r ≡ false → r < n
+  present = leb-false n r
+
+  pub own_slot : leb n r ≡ false → SlotIn s u r
+  own_slot e = record { long = h.sized.long; unit = h.below; rank = omega (arith, present e, h.most) }
+
+  pub last_slot : leb n r ≡ false → SlotIn s u (n - 1)
+  last_slot e = record { long = h.sized.long; unit = h.below; rank = omega (arith, present e, h.most) }
+
+  pub taught : (x : List ℕ) {s' : List ℕ} → s' ≡ bytes (written (view s) u n (slot_of k x)) → s' ≡ granted_in s (Call.teach k x)
+  unfolding granted_in
+  taught x f = f ∙ rw (h.unit, h.fill)
+
+  pub corrected : (x : List ℕ) {s' : List ℕ} → s' ≡ bytes (written (view s) u r (slot_of k x)) → s' ≡ granted_in s (Call.correct k x)
+  unfolding granted_in
+  corrected x f = f ∙ rw (h.unit, h.rank)
+
+  pub removed : {s' : List ℕ} → s' ≡ bytes (erased (view s) u r (n - 1)) → s' ≡ granted_in s (Call.erase k)
+  unfolding granted_in
+  removed f =
+      let e : pred n ≡ n - 1 = omega arith in
+      f ∙ rw (h.unit, h.fill, h.rank, e)

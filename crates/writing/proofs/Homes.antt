@@ -7,7 +7,7 @@ use native.Mathlib.Omega.{arith}
 use lib.Dec.{eqb, ltb}
 use lib.ListN.{get_or}
 use Rattle.buffer.specs.Choice.{pick}
-use Rattle.buffer.specs.ChoiceLaws.{pick_true, pick-false}
+use Rattle.buffer.specs.ChoiceLaws.{pick-false}
 use Rattle.buffer.specs.Range.{first}
 use Rattle.model.specs.Layout.{view, key_of}
 use Rattle.model.specs.Reads.{home_in, outs_in}
@@ -17,7 +17,7 @@ use Rattle.soundness.specs.Survey.{Surveyed}
 use Rattle.soundness.specs.SurveyLaws.{fill_most, own_fill_read}
 use Rattle.lookup.specs.SizedLaws.{sound_sized}
 use Rattle.lookup.specs.KeyLaws.{rank_in_lem}
-use Rattle.writing.specs.Homes.{opening_rows, Homed, HomedIn}
+use Rattle.writing.specs.Homes.{opening_rows, Homed}
 
 -- a key that is refused
 pub homeless : {s : List ℕ} {k : ℕ} {fits : Bool} {number u n r m : ℕ} → (number ≡ suc m) × (u ≡ 0) × (n ≡ 0) × (r ≡ 0)
@@ -30,32 +30,31 @@ homeless e f =
       nowhere = λ _. (e.1, e.2, e.3);
     }
 
--- ---- key k belongs to unit u of a sound store
-pub record Belongs (s : List ℕ) (k u : ℕ) : Type 0 where
+-- ---- key k of a call whose field fits belongs to unit u of a sound store
+pub record Belongs (s : List ℕ) (k : ℕ) (fits : Bool) (u : ℕ) : Type 0 where
+  pub key : eqb k 0 ≡ false
+  pub fitting : fits ≡ true
   pub tested : sound s ≡ true
   pub home : u ≡ home_in (view s) k
   pub low : u < 16
 
-module _ {s : List ℕ} {k u : ℕ} (h : Belongs s k u) where
-  row : (b : Bool) → ltb 0 (outs_in (view s) (u / 4)) ≡ b → ◌≡◌ {A = ℕ} (pick (ltb 0 (outs_in (view s) (home_in (view s) k / 4))) 4 0) (pick b 4 0)
-  row b e = ap (λ (t : Bool). pick t 4 0) (ap (λ (v : ℕ). ltb 0 (outs_in (view s) (v / 4))) (sym h.home) ∙ e)
+module _ {s : List ℕ} {k : ℕ} {fits : Bool} {u : ℕ} (h : Belongs s k fits u) where
+  -- the last row decides
+  pub opening : first_of (opening_rows s k fits) ≡ pick (ltb 0 (outs_in (view s) (u / 4))) 4 0
+  unfolding first_of opening_rows
+  opening =
+      pick-false h.key _ _ ∙ pick-false (ap not h.fitting) _ _ ∙ pick-false (ap not h.tested) _ _
+      ∙ ap (λ v. pick (ltb 0 (outs_in (view s) (v / 4))) 4 0) (sym h.home)
 
-  -- a unit of its group is out
-  pub away : {number w n r : ℕ} → (number ≡ 4) × (w ≡ 0) × (n ≡ 0) × (r ≡ 0) → ltb 0 (outs_in (view s) (u / 4)) ≡ true → HomedIn s k number w n r
-  away e f = record {
-    found = e.0 ∙ sym (row true f ∙ pick_true refl 4 0);
-    located = λ z. absurd (omega (arith, e.0, z));
-    nowhere = λ _. (e.1, e.2, e.3);
-  }
-
-  -- none is; the code reads n at the index i, and r
+  -- no unit of its group is out; the code reads n at the index i, and r
   pub homed : {ok : Bool} {fills first_checks outs : List ℕ} {i r : ℕ} → Surveyed s ok fills first_checks outs → ok ≡ true
       → ltb 0 (outs_in (view s) (u / 4)) ≡ false → i ≡ u → r ≡ first (get_or fills i 0) (λ q. eqb (key_of ((view s).slot u q)) k)
-      → HomedIn s k 0 u (get_or fills i 0) r
+      → Homed s k fits 0 u (get_or fills i 0) r
   homed {ok} {fills} {i = i} {r = r} g e none ei er =
       let own = own_fill_read g e u ei h.low none in
       record {
-        found = sym (row false none ∙ pick-false refl 4 0);
+        found = sym (opening ∙ pick-false none _ _);
+        fitting = λ _. h.fitting;
         located = λ _. record {
           sized = sound_sized h.tested;
           unit = sym h.home;
@@ -66,14 +65,3 @@ module _ {s : List ℕ} {k u : ℕ} (h : Belongs s k u) where
         };
         nowhere = λ z. absurd (z refl);
       }
-
--- and for a call whose field fits
-pub homed_by : {s : List ℕ} {k : ℕ} {fits : Bool} {number u n r : ℕ} → eqb k 0 ≡ false → fits ≡ true → sound s ≡ true → HomedIn s k number u n r
-    → Homed s k fits number u n r
-unfolding first_of opening_rows
-homed_by key fitting tested h = record {
-  found = h.found ∙ sym (pick-false key _ _ ∙ pick-false (ap not fitting) _ _ ∙ pick-false (ap not tested) _ _);
-  fitting = λ _. fitting;
-  located = h.located;
-  nowhere = h.nowhere;
-}

@@ -1,18 +1,17 @@
 -- Where a key belongs in a store, and the rows of the table of numbers that teach, correct and erase share.
 use Rattle.std.specs.Prelude.{ℕ, ◌/◌, ◌≤◌, ◌<◌, ◌≡◌, Bool, true, not, List, [], ◌∷◌, eqb, ltb}
-use Rattle.buffer.specs.Choice.{pick}
 use Rattle.buffer.specs.Bytes.{byte}
 use Rattle.model.specs.Layout.{view}
 use Rattle.model.specs.Reads.{home_in, outs_in, fill_in, rank_in}
-use Rattle.model.specs.Sound.{sound}
 use Rattle.model.specs.Numbers.{first_of}
+use Rattle.model.specs.Sound.{sound}
 use Rattle.lookup.specs.Sized.{Sized}
 
 -- the rows: no key, a field that does not fit, bytes that are not sound, a unit of the key's group out
 unfoldable pub opening_rows : List ℕ → ℕ → Bool → List (Bool × ℕ)
 opening_rows s k fits = (eqb k 0, 2) ∷ (not fits, 2) ∷ (not (sound s), 1) ∷ (ltb 0 (outs_in (view s) (home_in (view s) k / 4)), 4) ∷ []
 
--- u is the unit of key k, with n records, and r is the rank of k among them, or n where it is none of them
+-- u is the unit of key k, with n records, and r is the rank of k among them
 pub record Located (s : List ℕ) (k u n r : ℕ) : Type 0 where
   pub sized : Sized s
   pub unit : home_in (view s) k ≡ u
@@ -25,11 +24,5 @@ pub record Located (s : List ℕ) (k u n r : ℕ) : Type 0 where
 pub record Homed (s : List ℕ) (k : ℕ) (fits : Bool) (number u n r : ℕ) : Type 0 where
   pub found : number ≡ first_of (opening_rows s k fits)
   pub fitting : number ≡ 0 → fits ≡ true
-  pub located : number ≡ 0 → Located s k u n r
-  pub nowhere : (number ≡ 0 → ⊥) → (u ≡ 0) × (n ≡ 0) × (r ≡ 0)
-
--- what is found of key k in a sound store: 4 where a unit of its group is out, else 0 and the key's place
-pub record HomedIn (s : List ℕ) (k number u n r : ℕ) : Type 0 where
-  pub found : number ≡ pick (ltb 0 (outs_in (view s) (home_in (view s) k / 4))) 4 0
   pub located : number ≡ 0 → Located s k u n r
   pub nowhere : (number ≡ 0 → ⊥) → (u ≡ 0) × (n ≡ 0) × (r ≡ 0)

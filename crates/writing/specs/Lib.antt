@@ -1,4 +1,3 @@
 pub mod Following
 pub mod Homes
-pub mod HomeLaws
 pub mod Places

@@ -1,5 +1,5 @@
 // Teach, correct, erase and unit out: a slot is written and its group's check units follow; a unit's bytes are cleared.
-ghost use Rattle.std.specs.Prelude.{◌≡◌, true, ◌+◌, ◌*◌, ◌-◌, ◌<◌, length, take};
+ghost use Rattle.std.specs.Prelude.{◌≡◌, ◌+◌, ◌*◌, ◌-◌, ◌<◌, length, take};
 ghost use Rattle.group.specs.Products.{products};
 ghost use Rattle.group.specs.Widths.{key_bytes, field_bytes, slot_bytes};
 ghost use Rattle.group.specs.Body.{add_body};
@@ -10,8 +10,7 @@ ghost use Rattle.model.specs.Numbers.{Call, teach, correct, erase, unit_out, fir
 ghost use Rattle.model.specs.Perform.{plain, outcome, perform};
 ghost use Rattle.model.specs.Changes.{written, erased, unit_lost};
 ghost use Rattle.writing.specs.Following.{followed};
-ghost use Rattle.soundness.specs.Survey.{Surveyed};
-ghost use Rattle.writing.specs.Homes.{Homed, HomedIn};
+ghost use Rattle.writing.specs.Homes.{Homed};
 ghost use Rattle.writing.specs.Places.{unit_at};
 
 // Each check unit in service of u's group follows, at rank r, the new key and the change of field of the record there.
@@ -77,7 +76,7 @@ fn write_slot(s: &mut [u8], u: u8, r: u8, slot: [u8; group::SLOT], table: &[u8; 
 }
 
 // The record of rank last moves into rank r of unit u, and its own slot becomes empty.
-pub fn erase_at(s: &mut [u8], u: u8, r: u8, last: u8, table: &[u8; 256])
+fn erase_at(s: &mut [u8], u: u8, r: u8, last: u8, table: &[u8; 256])
     requires { SlotIn s.old u r × SlotIn s.old u last × (table.now ≡ products) }
     ensures { s.new ≡ bytes (erased (view s.old) u r last) }
 {
@@ -109,7 +108,7 @@ fn slot_of(key: u32, field: &[u8]) -> [u8; group::SLOT]
 }
 
 // Slot r of unit u becomes a key and a field, and each check unit in service of its group follows.
-pub fn write_record(s: &mut [u8], u: u8, r: u8, key: u32, field: &[u8])
+fn write_record(s: &mut [u8], u: u8, r: u8, key: u32, field: &[u8])
     requires { SlotIn s.old u r × (length field.now ≡ field_bytes) }
     ensures { s.new ≡ bytes (written (view s.old) u r (slot_of key field.now)) }
 {
@@ -139,17 +138,17 @@ fn clear_unit(s: &mut [u8], w: u8)
     s[lookup::DATA_STATES + buffer::wide(w)] = 2;
 }
 
-// Where a key belongs, or why it is refused: the number, and where that is 0 the key's unit, how many records the unit has, and the key's rank among
-// them, or how many they are where it is none of them; else 0, 0 and 0. Ranks are counted from 0.
+// Where a key belongs, or why it is refused: the number, and where that is 0 the key's unit, how many records the unit has and the key's rank among
+// them; else 0, 0 and 0.
 #[derive(Drop)]
-pub struct Home {
-    pub number: u8,
-    pub unit: u8,
-    pub fill: u8,
-    pub rank: u8,
+struct Home {
+    number: u8,
+    unit: u8,
+    fill: u8,
+    rank: u8,
 }
 
-// What is found of a key that is refused with this number.
+// A key that is refused with this number.
 fn refusal(number: u8) -> Home
     ensures { (result.number ≡ number) × (result.unit ≡ 0) × (result.fill ≡ 0) × (result.rank ≡ 0) }
 {
@@ -161,11 +160,21 @@ fn refusal(number: u8) -> Home
     }
 }
 
-// The home of a key in a sound store, by its survey: 4 where a unit of the key's group is out.
-pub fn home_in(s: &[u8], key: u32, survey: soundness::Survey) -> Home
-    requires { Surveyed s.now survey.sound survey.fills survey.first_checks survey.outs × (survey.sound ≡ true) }
-    ensures { HomedIn s.now key result.number result.unit result.fill result.rank }
+// The home of a key, for a call with a field that fits or not.
+fn home_of(s: &[u8], key: u32, fits: bool) -> Home
+    ensures { Homed s.now key fits result.number result.unit result.fill result.rank }
 {
+    let no_key = key == 0;
+    if no_key {
+        return refusal(2);
+    }
+    if !fits {
+        return refusal(2);
+    }
+    let survey = soundness::survey_of(s);
+    if !survey.sound {
+        return refusal(1);
+    }
     let unit = lookup::unit_of(s[lookup::UNITS_AT], key);
     let outs = survey.outs;
     let out = 0 < outs[buffer::wide(unit / 4)];
@@ -181,24 +190,6 @@ pub fn home_in(s: &[u8], key: u32, survey: soundness::Survey) -> Home
         fill,
         rank,
     }
-}
-
-// The home of a key in bytes of any length, for a call with a field that fits or not.
-fn home_of(s: &[u8], key: u32, fits: bool) -> Home
-    ensures { Homed s.now key fits result.number result.unit result.fill result.rank }
-{
-    let no_key = key == 0;
-    if no_key {
-        return refusal(2);
-    }
-    if !fits {
-        return refusal(2);
-    }
-    let survey = soundness::survey_of(s);
-    if !survey.sound {
-        return refusal(1);
-    }
-    home_in(s, key, survey)
 }
 
 // The number of a unit out.

@@ -6,7 +6,7 @@ use lib.ListN.{length, length-set}
 use borrow.Author.Rules.{rules}
 use Rattle.buffer.specs.Bytes.{zeros}
 use Rattle.buffer.specs.ByteLaws.{byte_zeros, length_zeros}
-use Rattle.buffer.specs.RangeLaws.{entries_of_lem}
+use Rattle.buffer.specs.RangeLaws.{entries_of}
 use Rattle.buffer.specs.LoopWrites.{Filling, filling_start, filling_turn, filling_end}
 use Rattle.buffer.proofs.clear.Statement.{statement}
 use Rattle.buffer.proofs.clear.Tie as tie
@@ -23,7 +23,7 @@ loop_again c = filling_turn 0 c.before.loop.invariant (search rules) refl
 returns : tie.Need-returns invariant_loop decreases_loop
 returns c =
     let n = length c.before.before.args.s.now in
-    filling_end c.before.loop.invariant c.loop-test.false ∙ sym (entries_of_lem (zeros n) n (λ k. 0) (length_zeros n) (λ k l. byte_zeros n k))
+    filling_end c.before.loop.invariant c.loop-test.false ∙ sym (entries_of (zeros n) n (λ k. 0) (length_zeros n) (λ k l. byte_zeros n k))
 
 pub clear_spec : {M : Type 1} → statement M
 clear_spec =

@@ -5,7 +5,7 @@ use native.Mathlib.Omega.{arith}
 use lib.ListN.{length, length-set}
 use borrow.Author.Rules.{rules}
 use Rattle.buffer.specs.Bytes.{byte}
-use Rattle.buffer.specs.RangeLaws.{entries_of_lem}
+use Rattle.buffer.specs.RangeLaws.{entries_of}
 use Rattle.buffer.specs.LoopWrites.{Filling, filling_start, filling_turn, filling_end}
 use Rattle.buffer.proofs.copy.Statement.{statement}
 use Rattle.buffer.proofs.copy.Tie as tie
@@ -22,7 +22,7 @@ loop_again c = filling_turn _ c.before.before.loop.invariant (search rules) refl
 returns : tie.Need-returns invariant_loop decreases_loop
 returns c =
     let a = c.before.before.args in
-    filling_end c.before.loop.invariant c.loop-test.false ∙ sym (entries_of_lem a.from.now (length a.into.now) _ (omega arith) (λ k l. refl))
+    filling_end c.before.loop.invariant c.loop-test.false ∙ sym (entries_of a.from.now (length a.into.now) _ (omega arith) (λ k l. refl))
 
 pub copy_spec : {M : Type 1} → statement M
 copy_spec =

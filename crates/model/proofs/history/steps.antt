@@ -2,7 +2,5 @@
 pub mod Plan
 pub mod Agrees
 pub mod Planned
-pub mod Index
-pub mod Indexed
 pub mod Agreed
 pub mod Taken

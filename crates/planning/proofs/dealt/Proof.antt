@@ -73,7 +73,7 @@ loop_again c =
     let t = k.before in
     let e = start t in
     rw c.counted.ensures
-    (dealing_turn e.args.s.now e.pre.1 e.pre.0.from k.key_at_lem.ensures u.unit-of.ensures.0 (most e)
+    (dealing_turn e.args.s.now e.pre.1 e.pre.0.from k.key_at.ensures u.unit-of.ensures.0 (most e)
     t.loop-test.true t.before.loop.invariant w.wide.ensures.0 a.move-of.ensures)
 
 returns : tie.Need-returns invariant_loop decreases_loop

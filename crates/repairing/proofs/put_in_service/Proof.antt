@@ -7,7 +7,7 @@ use lib.ListN.{length, length-map}
 use lib.Seq.{set-get_or}
 use borrow.Author.Rules.{rules}
 use Rattle.buffer.specs.Bytes.{byte}
-use Rattle.buffer.specs.RangeLaws.{entries_of_lem}
+use Rattle.buffer.specs.RangeLaws.{entries_of}
 use Rattle.buffer.specs.LoopWrites.{Filling, filling_start, filling_turn, filling_read, filling_end}
 use Rattle.repairing.specs.Steps.{in_service}
 use Rattle.repairing.proofs.Serving.{byte_served, served_out, served_in}
@@ -33,7 +33,7 @@ loop_again c =
 returns : tie.Need-returns invariant_loop decreases_loop
 returns c =
     let l = c.before.before.args.states.now in
-    filling_end c.before.loop.invariant c.loop-test.false ∙ sym (entries_of_lem (map in_service l) (length l) _ (length-map l in_service) (λ k _. byte_served l k))
+    filling_end c.before.loop.invariant c.loop-test.false ∙ sym (entries_of (map in_service l) (length l) _ (length-map l in_service) (λ k _. byte_served l k))
 
 pub put_in_service_spec : {M : Type 1} → statement M
 put_in_service_spec =

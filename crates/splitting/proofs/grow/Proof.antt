@@ -14,16 +14,16 @@ returns c = refused _ of_grow refl c.before.before.growth-of.ensures.0 c.if1.tru
 
 add_next_requires : tie.Need-add-next-requires
 add_next_requires c κs =
-    let growth = c.before.before.before.growth-of.ensures in
+    let g = c.before.before.before in
     let zero = c.before.if1.false in
-    (sym growth.0 ∙ zero, growth.1 ∙ pick_true (eq-eqb _ 0 zero) _ 0)
+    (sym g.growth-of.ensures.0 ∙ zero, g.growth-of.ensures.1 ∙ pick_true (eq-eqb _ 0 zero) _ 0)
 
 returns_2 : tie.Need-returns-2
 unfolding number_in
 returns_2 c =
-    let added = c.before.before in
-    let fine = added.before.before in
-    granted _ of_grow refl fine.before.before.growth-of.ensures.0 fine.if1.false added.add-next.ensures
+    let a = c.before.before in
+    let g = a.before.before.before.before in
+    granted _ of_grow refl g.growth-of.ensures.0 a.before.before.if1.false a.add-next.ensures
 
 pub grow_spec : {M : Type 1} → statement M
 grow_spec =

@@ -8,21 +8,19 @@ use borrow.Author.Tests.{not-false, leb-false}
 use Rattle.buffer.specs.Choice.{pick}
 use Rattle.model.specs.Numbers.{first_of, refusals_in}
 use Rattle.soundness.specs.SurveyLaws.{found_sized}
-use Rattle.splitting.proofs.Rows.{grow_rows, outs_pair}
+use Rattle.splitting.proofs.Rows.{grow_rows_lem, outs_pair}
 use Rattle.splitting.proofs.grow_number.Statement.{statement}
 use Rattle.splitting.proofs.grow_number.Tie as tie
 
 -- ---- the next unit of a sound store with fewer than 16
-abbrev start : tie.After-byte-at → tie.Start
-start c = c.before.before.before.before
+abbrev start : tie.Else2 → tie.Start
+start c = c.before.before.before.before.before
 
-good : (c : tie.After-byte-at) → (start c).args.survey.sound ≡ true
-good c = not-false _ c.before.if1.false
+good : (c : tie.Else2) → (start c).args.survey.sound ≡ true
+good c = not-false _ c.before.before.if1.false
 
 next : (c : tie.Else2) → (1 ≤ c.before.byte_at.result) × (c.before.byte_at.result < 16)
-next c =
-    let m = c.before in
-    (omega (arith, (found_sized (start m).requires (good m)).unit, m.byte_at.ensures), leb-false 16 m.byte_at.result c.if2.false)
+next c = (omega (arith, (found_sized (start c).requires (good c)).unit, c.before.byte_at.ensures), leb-false 16 c.before.byte_at.result c.if2.false)
 
 -- ---- the needs
 returns : tie.Need-returns
@@ -33,20 +31,19 @@ returns_2 : tie.Need-returns-2
 unfolding first_of pick
 returns_2 c =
     let m = c.before in
-    let a = (start m).args in
-    simp (grow_rows a.s.now a.survey.sound m.byte_at.ensures, m.before.if1.false, c.if2.true)
+    let a = m.before.before.before.before.args in
+    simp (grow_rows_lem a.s.now a.survey.sound m.byte_at.ensures, m.before.if1.false, c.if2.true)
 
 returns_3 : tie.Need-returns-3
 unfolding first_of pick
 returns_3 c =
     let out = c.before in
     let few = out.before.before in
-    let m = few.before in
-    let a = (start m).args in
-    let pair = outs_pair (start m).requires (good m) (next few).0 (next few).1 in
+    let a = (start few).args in
+    let pair = outs_pair (start few).requires (good few) (next few).0 (next few).1 in
     simp (
-      grow_rows a.s.now a.survey.sound m.byte_at.ensures,
-      m.before.if1.false,
+      grow_rows_lem a.s.now a.survey.sound few.before.byte_at.ensures,
+      few.before.before.if1.false,
       few.if2.false,
       pair,
       ← out.pair-out.ensures,

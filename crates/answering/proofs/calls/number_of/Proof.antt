@@ -38,7 +38,7 @@ returns_4 c = let at = c.before.before.before.before in asked at.before at.match
 
 returns_5 : tie.Need-returns-5
 unfolding executed command_of pick
-returns_5 c = let at = c.before.before.before.before in asked at.before at.match.keys5 c.before.before.unit_out_lem.ensures
+returns_5 c = let at = c.before.before.before.before in asked at.before at.match.keys5 c.before.before.unit-out.ensures
 
 returns_6 : tie.Need-returns-6
 unfolding executed command_of pick

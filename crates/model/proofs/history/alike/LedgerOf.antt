@@ -175,8 +175,8 @@ module _ (s : List ℕ) (b : Bytes s) (h : sound s ≡ true) where
   at_listed : (u r : ℕ) → r < length (listed_records v u) → r < listed_fill v u
   at_listed u r a = omega (arith, length_listed v u)
 
-  key_at_lem : (u r : ℕ) → r < length (listed_records v u) → (get_or (listed_records v u) r empty).key ≡ key_of (listed_key v u r)
-  key_at_lem u r a = ap (λ (x : Rec). x.key) (listed_record v u r (at_listed u r a))
+  key_at : (u r : ℕ) → r < length (listed_records v u) → (get_or (listed_records v u) r empty).key ≡ key_of (listed_key v u r)
+  key_at u r a = ap (λ (x : Rec). x.key) (listed_record v u r (at_listed u r a))
 
   good_listed : (u r : ℕ) → Good (get_or (listed_records v u) r empty)
   good_listed u r = rw (listed_at v u r) (record { key = small; field = zeros_is field_bytes })
@@ -208,13 +208,13 @@ module _ (s : List ℕ) (b : Bytes s) (h : sound s ≡ true) where
     fits = λ u. by-records (λ (xs : List Rec). length xs ≤ v.size) u (λ _. omega (arith, length_listed v u, listed_le v u)) (omega arith);
     good = λ u r. by-records (λ (xs : List Rec). Good (get_or xs r empty)) u (λ _. good_listed u r) (good_none r);
     keyed = λ u r. by-records (λ (xs : List Rec). r < length xs → (get_or xs r empty).key ≢ 0) u
-        (λ _ a. rw (key_at_lem u r a) (listed_some v u r (at_listed u r a))) (λ a. absurd (not-suc-le-zero a));
+        (λ _ a. rw (key_at u r a) (listed_some v u r (at_listed u r a))) (λ a. absurd (not-suc-le-zero a));
     own = λ u r. by-records (λ (xs : List Rec). r < length xs → unit_of (units_in v) (get_or xs r empty).key ≡ u) u
-        (λ e a. rw (key_at_lem u r a) (listed_own s h u (unit_low u e) (kept u e) r (omega (arith, at_listed u r a, listed_le v u))
+        (λ e a. rw (key_at u r a) (listed_own s h u (unit_low u e) (kept u e) r (omega (arith, at_listed u r a, listed_le v u))
         (lt-ltb r (listed_fill v u) (at_listed u r a))))
         (λ a. absurd (not-suc-le-zero a));
     differ = λ u r q i. by-records (λ (xs : List Rec). q < length xs → (get_or xs r empty).key ≢ (get_or xs q empty).key) u
-        (λ e a. rw (key_at_lem u r (omega arith), key_at_lem u q a)
+        (λ e a. rw (key_at u r (omega arith), key_at u q a)
         (eqb-false (key_of (listed_key v u r)) (key_of (listed_key v u q)) (not-true (eqb (key_of (listed_key v u r)) (key_of (listed_key v u q)))
         (listed_differ s h u (unit_low u e) (kept u e) r q i (omega (arith, at_listed u q a, listed_le v u)) (lt-ltb q (listed_fill v u) (at_listed u q a))))))
         (λ a. absurd (not-suc-le-zero a));

@@ -78,18 +78,18 @@ module _ (v w : Store) (a : Alike v w) (some : 1 ≤ units_in v) (few : units_in
         row refl (λ q. row (ap not e) (λ _. row (ap (λ (m : ℕ). leb m (4 * g)) (units_alike v w a)) (λ _.
         row (sym (beyond_same v w (lists_alike v w a) g (omega (arith, ltb-false 3 g q)))) (λ _. tt))))
 
-    pub grow_rows : Agree (refusals_in o v grow) (refusals_in p w grow)
+    pub grow_rows_lem : Agree (refusals_in o v grow) (refusals_in p w grow)
     unfolding refusals_in
-    grow_rows =
+    grow_rows_lem =
         let m : units_in v ≡ units_in w = units_alike v w a in
         row (ap not e) (λ _. row (ap (leb 16) m) (λ q.
         let room : units_in v < 16 = omega (arith, leb-false 16 (units_in w) q) in
         row (outs_row _ _ (ap (λ (n : ℕ). n / 4) m) (omega arith)) (λ _.
         row (outs_row _ _ (ap (λ (n : ℕ). split_pointer n / 4) m) (omega (arith, split_inside))) (λ _. tt))))
 
-    pub shrink_rows : Agree (refusals_in o v shrink) (refusals_in p w shrink)
+    pub shrink_rows_lem : Agree (refusals_in o v shrink) (refusals_in p w shrink)
     unfolding refusals_in
-    shrink_rows =
+    shrink_rows_lem =
         let m : units_in v ≡ units_in w = units_alike v w a in
         row (ap not e) (λ _. row (ap (λ (n : ℕ). leb n 1) m) (λ q.
         let two : 2 ≤ units_in v = omega (arith, leb-false (units_in w) 1 q) in

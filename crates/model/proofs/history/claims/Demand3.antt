@@ -11,9 +11,8 @@ use Rattle.model.specs.history.Runs.{final_in}
 use Rattle.model.specs.history.Typed.{AllTyped}
 use Rattle.model.specs.history.Steps.{Step, step_answers_in, steps_leave_in, calls_in, steps_leave, StepsTyped}
 use Rattle.model.specs.history.Claims.{Histories, Outlives}
-use Rattle.model.proofs.history.ledger.Valid.{Valid}
 use Rattle.model.proofs.history.steps.Taken.{calls_typed, leave_as_calls, Taken, taken}
-use Rattle.model.proofs.history.claims.KeepsTaught.{start, opened_is, whole, keeps_taught}
+use Rattle.model.proofs.history.claims.KeepsTaught.{start, opened_is, keeps_taught}
 
 module _ (s : List ℕ) (b : ℕ) (zero : lay_out_number s b ≡ 0) (xs : List Step) (typed : StepsTyped xs) where
   steps : Taken (opened b) (drop (store_bytes b) s) xs
@@ -35,10 +34,6 @@ module _ (s : List ℕ) (b : ℕ) (zero : lay_out_number s b ≡ 0) (xs : List S
 
   pub same_ledger : steps_leave (opened b) xs ≡ final (opened b) (calls_in (lay_out s b).store xs)
   same_ledger = steps.recorded ∙ ap (λ (x : List ℕ). final (opened b) (calls_in x xs)) (sym (start s b zero))
-
-  -- which is valid
-  pub recorded_valid : Valid (steps_leave (opened b) xs)
-  recorded_valid = rw same_ledger (whole s b zero (calls_in (lay_out s b).store xs) typed_calls).valid
 
 -- DEMAND 3
 pub outlives : (s : List ℕ) (b : ℕ) → lay_out_number s b ≡ 0 → (xs : List Step) → StepsTyped xs → Outlives s b xs

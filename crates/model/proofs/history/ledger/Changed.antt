@@ -65,10 +65,10 @@ module _ (rs : List Rec) (d : Different rs) (n e : ℕ) (inside : n < length rs)
   pub cut_length : length (cut rs n e) ≡ e
   cut_length = omega (arith, length-take e (set rs n (get_or rs e empty)), length-set rs n (get_or rs e empty))
 
-  pub cut_here : n < e → get_or (cut rs n e) n empty ≡ get_or rs e empty
+  cut_here : n < e → get_or (cut rs n e) n empty ≡ get_or rs e empty
   cut_here a = get_or-take e (set rs n (get_or rs e empty)) n empty a ∙ get_or-set_same rs n (get_or rs e empty) empty inside
 
-  pub cut_there : (r : ℕ) → r < e → (r ≡ n → ⊥) → get_or (cut rs n e) r empty ≡ get_or rs r empty
+  cut_there : (r : ℕ) → r < e → (r ≡ n → ⊥) → get_or (cut rs n e) r empty ≡ get_or rs r empty
   cut_there r a b = get_or-take e (set rs n (get_or rs e empty)) r empty a ∙ get_or-set_other rs n r (get_or rs e empty) empty b
 
   -- where a record of the new list stood

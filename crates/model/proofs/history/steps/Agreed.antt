@@ -2,18 +2,13 @@
 use Prim.Native.Nat.{ℕ}
 use mathlib.Core.List.{List}
 use Rattle.model.specs.history.Ledger.{Ledger}
-use Rattle.model.specs.history.Further.{Further, plan, commit, build, lookup, keeping, counts_as}
+use Rattle.model.specs.history.Further.{Further, plan, commit, counts_as}
 use Rattle.model.specs.history.Steps.{CountTyped}
 use Rattle.model.proofs.history.ledger.Valid.{Valid}
 use Rattle.model.proofs.history.steps.Agrees.{Agrees}
 use Rattle.model.proofs.history.steps.Planned.{plan_agrees, commit_agrees}
-use Rattle.model.proofs.history.steps.Indexed.{build_agrees, lookup_agrees, keeping_agrees}
 
 -- EVERY FURTHER CALL
 pub agrees : (l : Ledger) (rest : List ℕ) → Valid l → (a : Further) → CountTyped (counts_as a) → Agrees l rest a
-unfolding counts_as
 agrees l rest h (plan lent) t = plan_agrees l rest h lent
 agrees l rest h (commit lent n) t = commit_agrees l rest h lent n
-agrees l rest h (build x) t = build_agrees l rest h x
-agrees l rest h (lookup x k) t = lookup_agrees l rest h x k
-agrees l rest h (keeping f x) t = keeping_agrees l rest h f x t

@@ -34,7 +34,7 @@ refused_plan lent n ms e = ap₂ (planned n) (pick-false e (length ms) 0) (refus
 
 module _ (l : Ledger) (rest : List ℕ) (h : Valid l) where
   -- where a grow is granted the plan is the ledger's
-  pub plan_is : Free (refusals l grow) → plan_in (view (picture l rest)) ≡ plan_of l
+  plan_is : Free (refusals l grow) → plan_in (view (picture l rest)) ≡ plan_of l
   unfolding refusals
   plan_is f = plan_seen l rest h (omega (arith, leb-false 16 l.units f.1.0)) f.1.1.1.0
 

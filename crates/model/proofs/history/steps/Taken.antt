@@ -87,11 +87,11 @@ module _ (l : Ledger) (rest : List ℕ) (h : Valid l) where
   step_answers_lem (call c) t = answer_agrees l rest c (simulated l rest h c t)
   step_answers_lem (further a) t = (agrees l rest h a t).answer
 
-  pub step_leaves : (x : Step) → StepTyped x → (perform_step (picture l rest) x).store ≡ picture (after_step l x) rest
+  step_leaves : (x : Step) → StepTyped x → (perform_step (picture l rest) x).store ≡ picture (after_step l x) rest
   unfolding perform_step after_step
   step_leaves x t = ap (store_left (picture l rest)) (counted_agrees x t) ∙ left_agrees (counted l x) (counted_typed x t)
 
-  pub step_valid : (x : Step) → StepTyped x → Valid (after_step l x)
+  step_valid : (x : Step) → StepTyped x → Valid (after_step l x)
   unfolding after_step
   step_valid x t = left_valid (counted l x) (counted_typed x t)
 

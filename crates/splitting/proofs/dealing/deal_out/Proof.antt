@@ -60,9 +60,9 @@ loop_again c =
     let taken = k.before.before.loop-test.true in
     ⊎_elim
     (λ w. rw (w.5, w.6, w.7) (deal_goes e.args.s.now _ _ _ e.requires.0 e.requires.1 l.loop.invariant taken
-    k.key_at_lem.ensures u.unit-of.ensures.0 w.0.taken w.2.ensures))
+    k.key_at.ensures u.unit-of.ensures.0 w.0.taken w.2.ensures))
     (λ w. rw (w.5, w.6, w.7) (deal_stays e.args.s.now _ _ _ e.requires.0 e.requires.1 l.loop.invariant taken
-    k.key_at_lem.ensures u.unit-of.ensures.0 w.0.left w.2.ensures))
+    k.key_at.ensures u.unit-of.ensures.0 w.0.left w.2.ensures))
     c.if1.branch
 
 clear_from_requires : tie.Need-clear-from-requires invariant_loop decreases_loop
