@@ -1,4 +1,6 @@
 // Answers the lines of a text: makes the call of each on one record store, and writes what it prints on standard output.
+#![tactic(auto)]
+
 mod calls;
 mod records;
 

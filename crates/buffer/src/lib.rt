@@ -1,4 +1,6 @@
 // Lent bytes: total reads, numbers of 32 bits, copying, clearing, and the test for zeros.
+#![tactic(auto)]
+
 ghost use Rattle.std.specs.Prelude.{◌≡◌, ◌+◌, ◌*◌, ◌/◌, ◌%◌, ◌≤◌, ◌<◌, length};
 ghost use Rattle.buffer.specs.Bytes.{byte, be32, bytes32, zeros};
 ghost use Rattle.buffer.specs.ByteOrder.{le32, turn};

@@ -1,5 +1,7 @@
 // The byte coder for wide groups, over GF(256). A segment is m to 64 members, equal stretches of one slice, of which the first m are data; member c is the
 // value at point c of the polynomial through the data, byte by byte. Missing members are rebuilt from the first m present ones.
+#![tactic(auto)]
+
 mod marks;
 mod sums;
 mod weights;

@@ -1,4 +1,6 @@
 // For the comparisons of tests/ alone: names for C for what only Rattle can call. No crate of the store uses them.
+#![tactic(auto)]
+
 ghost use Rattle.std.specs.Prelude.{◌≡◌, ◌++◌, ◌+◌, ◌%◌, ltb, length, drop};
 ghost use Rattle.buffer.specs.Choice.{pick};
 ghost use Rattle.code.specs.Matrix.{entry, Rebuilds};

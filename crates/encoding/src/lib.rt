@@ -1,4 +1,6 @@
 // Check units made anew from the data: those in service of a group together, or one.
+#![tactic(auto)]
+
 ghost use Rattle.std.specs.Prelude.{◌≡◌, ◌++◌, ◌+◌, ◌*◌, ◌≤◌, ◌<◌, length, take, drop};
 ghost use Rattle.buffer.specs.Bytes.{byte, splice};
 ghost use Rattle.buffer.specs.Table.{tab};

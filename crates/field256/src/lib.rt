@@ -1,4 +1,6 @@
 // GF(256), modulo t^8 + t^4 + t^3 + t^2 + 1: the sum is exclusive or, the product is taken by logarithms to base 2. Zero has no logarithm.
+#![tactic(auto)]
+
 ghost use Rattle.std.specs.Prelude.{◌≡◌, ◌<◌, length};
 ghost use Rattle.field256.specs.Gf256.{product};
 ghost use Rattle.field256.specs.Powers.{order, powers, logarithm, logarithms};

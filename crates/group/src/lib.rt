@@ -1,5 +1,7 @@
 // Layer 3, group: the four data units of a group and its check units. Bodies, parity and check records of one rank, who is in service, and rebuilding.
 // The product table is taken once by the caller and lent.
+#![tactic(auto)]
+
 pub mod parities;
 
 ghost use Rattle.std.specs.Prelude.{◌≡◌, true, ◌+◌, ◌≤◌, ◌<◌, length, eqb};

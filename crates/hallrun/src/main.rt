@@ -1,4 +1,6 @@
 // Reads lines from standard input, makes the call of each on one record store, and prints the answers.
+#![tactic(auto)]
+
 use libc::STDIN_FILENO;
 
 fn main() {

@@ -1,4 +1,6 @@
 // The lines that hallrun reads and prints.
+#![tactic(auto)]
+
 pub mod digits;
 pub mod line;
 pub mod output;

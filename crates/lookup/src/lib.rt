@@ -1,4 +1,6 @@
 // Reading a lent store: where its parts stand, and what the calls look up in it.
+#![tactic(auto)]
+
 pub mod decoders;
 pub mod digits;
 pub mod losses;

@@ -1,1 +1,2 @@
 // What a store means: definitions and theorems only, see specs/ and proofs/.
+#![tactic(auto)]

@@ -1,5 +1,7 @@
 // Moves of records, in lists that the caller lends: filled with a plan, and compared with one. Nothing here knows of a store.
 // The plan is passed by value: the functions that take the lists, `fill` and `agree`, are few and thin, since their proofs follow the code by hand.
+#![tactic(auto)]
+
 ghost use Rattle.std.specs.Prelude.{◌≡◌, not, ◌&&◌, ◌≤◌, min, ltb, length, take};
 ghost use Rattle.buffer.specs.LoopWrites.{filled};
 ghost use Rattle.moves.specs.Moves.{no_move, same_move, same_moves};

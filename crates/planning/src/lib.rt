@@ -1,5 +1,7 @@
 // Growing in two strokes: asking for the plan of a grow, and committing a plan.
 // The plan is made by value, in functions that know nothing of lent lists; `plan` and `commit` pass it on to those of `moves` that do.
+#![tactic(auto)]
+
 ghost use Rattle.std.specs.Prelude.{◌≡◌, ◌+◌, ◌-◌, ◌≤◌, ◌<◌};
 ghost use Rattle.buffer.specs.Bytes.{byte};
 ghost use Rattle.buffer.specs.Choice.{pick};

@@ -1,4 +1,6 @@
 // Repair of a group: its lost data units are rebuilt, its lost check units are made from the data, and all of them are put in service.
+#![tactic(auto)]
+
 ghost use Rattle.std.specs.Prelude.{◌≡◌, map, ◌+◌, ◌/◌, ◌<◌};
 ghost use Rattle.group.specs.Products.{products};
 ghost use Rattle.model.specs.Layout.{bytes, view};

@@ -1,5 +1,7 @@
 // The soundness test: document 01, "Sound means", over bytes of any length. The keys of each unit are read twice, once beside their list and once for
 // their digit sums; the field of a record is never read. What is counted is handed on with the verdict, so that no call counts again.
+#![tactic(auto)]
+
 mod absent;
 mod checks;
 mod few;

@@ -1,4 +1,6 @@
 // Growing and shrinking a store by a unit, and raising its level.
+#![tactic(auto)]
+
 pub mod dealing;
 pub mod making;
 pub mod raising;

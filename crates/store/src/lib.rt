@@ -1,4 +1,6 @@
 // The record store and the byte coder for C: each call on lent bytes, and its number. include/lhrs.h declares them.
+#![tactic(auto)]
+
 pub mod lay_out;
 
 ghost use Rattle.std.specs.Prelude.{◌≡◌};

@@ -1,4 +1,6 @@
 // Teach, correct, erase and unit out: a slot is written and its group's check units follow; a unit's bytes are cleared.
+#![tactic(auto)]
+
 ghost use Rattle.std.specs.Prelude.{◌≡◌, ◌+◌, ◌*◌, ◌-◌, ◌<◌, length, take};
 ghost use Rattle.group.specs.Products.{products};
 ghost use Rattle.group.specs.Widths.{key_bytes, field_bytes, slot_bytes};

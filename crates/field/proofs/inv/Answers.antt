@@ -10,20 +10,10 @@ use Rattle.algebra.specs.Binary.{times, remainder, product_in}
 use Rattle.algebra.specs.BinaryTested.{inverse_in, squares}
 use Rattle.field.specs.Inverse.{inverse}
 use Rattle.algebra.specs.Every.{values, values_at}
-use Rattle.field.proofs.inv.Statement.{statement}
-use Rattle.field.proofs.inv.Tie as tie
+use Rattle.field.proofs.inv.Goals as goal
 
-wide_requires : tie.Need-wide-requires
-wide_requires c κs = search rules
-
-array_read_result : tie.Need-array-read-result
-array_read_result c = search rules
-
-returns : tie.Need-returns
+pub returns : goal.returns
 unfolding values product_in remainder times inverse_in squares
 returns c =
     let e = values_at 16 0 inverse c.wide.result (search rules) ∙ ap inverse (zero-add c.wide.result ∙ c.wide.ensures) in
-    (e, subst (λ (n : ℕ). n < 16) (sym e) (ltb→lt (inverse c.before.args.a) 16 (inverse_low tested c.before.args.a (search rules))))
-
-pub inv_spec : {M : Type 1} → statement M
-inv_spec = tie.close (tie.spec wide_requires array_read_result returns)
+    (e, subst (λ (n : ℕ). n < 16) (sym e) (ltb→lt (inverse c.args.a) 16 (inverse_low tested c.args.a (search rules))))
