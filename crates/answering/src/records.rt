@@ -12,7 +12,7 @@ use lines::output::{RECORD_LINE, record_line};
 const NO_UNIT: u8 = 16;
 
 // A record's unit, and its rank there.
-#[derive(Drop)]
+#[derive(Clone, Copy)]
 struct Place {
     unit: u8,
     rank: u8,

@@ -30,7 +30,7 @@ pub fn digit_byte(v: u8) -> u8
     if v < 10 { 48 + v } else { 55 + v }
 }
 
-#[derive(Drop)]
+#[derive(Clone, Copy)]
 pub struct Digits {
     pub ok: bool,
     pub value: u32,
@@ -57,7 +57,7 @@ pub fn number(l: &[u8], at: usize, n: usize) -> Digits
     Digits { ok: true, value }
 }
 
-#[derive(Drop)]
+#[derive(Clone, Copy)]
 pub struct Field {
     pub ok: bool,
     pub bytes: [u8; group::FIELD],

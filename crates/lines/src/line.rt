@@ -14,7 +14,7 @@ const FIELD_AT: usize = SPACE_AT + 1;
 const FIELD_LENGTH: usize = 1 + 2 * group::FIELD;
 
 // What a line says. The letter is 0 where the line is not readable; where a letter has no number or no field, they are zero.
-#[derive(Drop)]
+#[derive(Clone, Copy)]
 pub struct Line {
     pub letter: u8,
     pub number: u32,

@@ -11,7 +11,7 @@ ghost use Rattle.lookup.specs.Decoders.{ends_before, changes_at, DecoderOf};
 use crate::losses;
 
 // The first four members in service at a rank, their weights, and the next rank at which these are others.
-#[derive(Drop)]
+#[derive(Clone, Copy)]
 pub struct Decoder {
     pub members: [u8; 4],
     pub weights: [u8; 4],

@@ -171,7 +171,7 @@ pub fn keys_at(s: &[u8], u: u8, c: u8) -> usize
 }
 
 // Where the keys of a unit stand: the first, and how far each is from the one before.
-#[derive(Drop)]
+#[derive(Clone, Copy)]
 pub struct Keys {
     pub base: usize,
     pub step: usize,

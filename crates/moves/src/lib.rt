@@ -9,7 +9,7 @@ ghost use Rattle.moves.specs.Drafts.{blank, entry_of, moves_of, answer_of, right
 
 // Where a record is, and where it goes. Ranks count from 1.
 #[repr(C)]
-#[derive(Drop)]
+#[derive(Clone, Copy)]
 pub struct Move {
     pub old_unit: u8,
     pub old_rank: u8,
@@ -21,7 +21,7 @@ pub struct Move {
 pub const MOST: usize = 64;
 
 // A plan by value: the number of the call that asks for it, and where that is 0 the moves, the first `count` entries.
-#[derive(Drop)]
+#[derive(Clone, Copy)]
 pub struct Draft {
     pub number: u8,
     pub count: usize,
@@ -29,7 +29,7 @@ pub struct Draft {
 }
 
 // The answer to asking for a plan: the number, and how many moves were written.
-#[derive(Drop)]
+#[derive(Clone, Copy)]
 pub struct Planned {
     pub number: u8,
     pub count: usize,

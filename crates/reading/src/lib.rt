@@ -18,7 +18,7 @@ ghost use Rattle.reading.specs.Found.{Verdict};
 ghost use Rattle.reading.specs.Listing.{Counted, Learned};
 
 // The verdict on a read: its number, and where that is 0 the unit and the rank of the key; else 0 and 0.
-#[derive(Drop)]
+#[derive(Clone, Copy)]
 struct Found {
     number: u8,
     unit: u8,
@@ -122,7 +122,7 @@ pub fn read_in_place(s: &[u8], key: u32) -> &[u8]
 }
 
 // A number, and how many records were listed.
-#[derive(Drop)]
+#[derive(Clone, Copy)]
 pub struct Listing {
     pub number: u8,
     pub count: usize,

@@ -20,7 +20,7 @@ ghost use Rattle.soundness.specs.Survey.{Counted, Nothing, Surveyed};
 
 // What the test learns of a store: whether it is sound, and where it is, how many keys are listed for each data unit, and for each group the
 // first check unit in service and how many units are out.
-#[derive(Drop)]
+#[derive(Clone, Copy)]
 pub struct Survey {
     pub sound: bool,
     pub fills: [u8; 16],

@@ -37,7 +37,7 @@ pub fn column_at(s: &[u8], k: u8, u: u8) -> usize
 }
 
 // The list beside the slots of a unit: the keys that check unit k lists for it, or the slots themselves where no check unit of its group is in service.
-#[derive(Drop)]
+#[derive(Clone, Copy)]
 pub struct List {
     pub at: usize,
     pub step: usize,

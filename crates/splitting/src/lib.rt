@@ -102,7 +102,7 @@ fn grow_number(s: &[u8], survey: soundness::Survey) -> u8
 }
 
 // What a grow comes to before it is made: its number, and where that is 0 how many records the unit that is split has, else 0.
-#[derive(Drop)]
+#[derive(Clone, Copy)]
 pub struct Growth {
     pub number: u8,
     pub count: u8,

@@ -142,7 +142,7 @@ fn clear_unit(s: &mut [u8], w: u8)
 
 // Where a key belongs, or why it is refused: the number, and where that is 0 the key's unit, how many records the unit has and the key's rank among
 // them; else 0, 0 and 0.
-#[derive(Drop)]
+#[derive(Clone, Copy)]
 struct Home {
     number: u8,
     unit: u8,

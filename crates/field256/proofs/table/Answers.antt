@@ -3,12 +3,9 @@ use mathlib.Core.Path.{refl}
 use Rattle.algebra.specs.Binary.{times, remainder, product_in}
 use Rattle.algebra.specs.BinaryPowers.{doublings}
 use Rattle.field256.specs.Powers.{powers}
-use Rattle.field256.proofs.table.Statement.{statement}
-use Rattle.field256.proofs.table.Tie as tie
+use Rattle.field256.proofs.table.Goals as goal
 
-returns : tie.Need-returns
+pub returns : goal.returns
 unfolding powers doublings product_in remainder times
-returns c = refl
-
-pub table_spec : {M : Type 1} → statement M
-table_spec = tie.close (tie.spec returns)
+returns c =
+    refl
