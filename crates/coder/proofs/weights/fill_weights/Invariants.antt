@@ -1,0 +1,16 @@
+use Prim.Native.Nat.{◌+◌, ◌-◌, ◌≤◌}
+use native.Mathlib.Omega.{arith}
+use lib.ListN.{get_or}
+use borrow.Author.Rules.{rules}
+use Rattle.buffer.specs.LoopWrites.{Filling, filling_start, filling_turn, filling_written}
+use Rattle.coder.specs.Weights.{headroom, weight_of}
+use Rattle.coder.proofs.Logs.{apart_pos, sum_bounded, taken_le, weight_read}
+use Rattle.coder.proofs.weights.fill_weights.Given as goal
+
+abbrev pub invariant-loop-i : goal.invariant-loop-i
+invariant-loop-i l =
+    Filling (λ k. weight_of l.points l.m l.q (get_or l.points k 0)) l.initial.weights l.weights l.i
+
+abbrev pub decreases-loop-i : goal.decreases-loop-i
+decreases-loop-i l =
+    l.m - l.i

@@ -1,0 +1,37 @@
+-- `coder::weights::log_others` meets its contract.
+use mathlib.Core.Logic.{⊎_elim}
+use mathlib.Core.Path.{sym}
+use Prim.Native.Nat.{◌-◌}
+use native.Mathlib.Omega.{arith}
+use borrow.Author.Rules.{rules}
+use Rattle.buffer.specs.LoopTests.{summing_start, summing_end}
+use Rattle.coder.specs.Weights.{log_others}
+use Rattle.coder.proofs.Logs.{apart_pos, LogSumming, log_sum_le, log_sum_self, log_sum_other}
+use Rattle.coder.proofs.weights.log_others.Goals as goal
+
+pub loop-i-init : goal.loop-i-init
+loop-i-init c =
+    summing_start
+
+pub log_in-s-requires : goal.log_in-s-requires
+log_in-s-requires c =
+    (c.requires.0, apart_pos _ _ (λ e. c.if-p-c.true (sym e)))
+
+pub overflow_add-s : goal.overflow_add-s
+overflow_add-s c =
+    omega (arith, log_sum_le c.args.c c.args.points.now c.loop-i.invariant, c.requires.1, c.log_in-s.ensures.1)
+
+pub loop-i-preserved : goal.loop-i-preserved
+loop-i-preserved c =
+    let a = c.args in
+    let inv = c.loop-i.invariant in
+    let under = c.loop-i-test.true in
+    ⊎_elim
+    (λ w. rw w.2 (log_sum_other a.c a.points.now inv _ under w.0.taken w.1.ensures.0))
+    (λ w. rw w.1 (log_sum_self a.c a.points.now inv under w.0.left))
+    c.if-p-c.branch
+
+pub returns : goal.returns
+unfolding log_others
+returns c =
+    summing_end c.loop-i.invariant c.loop-i-test.false

@@ -1,0 +1,18 @@
+use mathlib.Core.Path.{refl, sym, ap₂, ◌∙◌}
+use Prim.Native.Nat.{◌-◌}
+use native.Mathlib.Omega.{arith}
+use lib.Bits.{bit_xor}
+use lib.ListN.{length, length-set}
+use borrow.Author.Rules.{rules}
+use Rattle.buffer.specs.Bytes.{byte}
+use Rattle.buffer.specs.LoopWrites.{Filling, filling_start, filling_turn, filling_read, filling_end}
+use Rattle.group.specs.BodyLaws.{add_entries}
+use Rattle.group.proofs.add.Given as goal
+
+abbrev pub invariant-loop-i : goal.invariant-loop-i
+invariant-loop-i l =
+    Filling (λ k. bit_xor (byte l.initial.into k) (byte l.x k)) l.initial.into l.into l.i
+
+abbrev pub decreases-loop-i : goal.decreases-loop-i
+decreases-loop-i l =
+    length l.into - l.i

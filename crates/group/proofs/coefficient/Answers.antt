@@ -1,0 +1,12 @@
+-- `group::coefficient` meets its contract.
+use mathlib.Core.Path.{◌∙◌}
+use borrow.Author.Rules.{rules}
+use Rattle.group.specs.Parity.{coefficient}
+use Rattle.group.proofs.coefficient.Goals as goal
+
+pub returns : goal.returns
+unfolding coefficient
+returns c =
+    let place = c.wide.ensures.0 in
+    let check = c.wide-2.ensures.0 in
+    (c.coefficient.ensures.0 ∙ rw (place, check), c.coefficient.ensures.1)

@@ -1,0 +1,25 @@
+-- `group::ones` meets its contract.
+use mathlib.Core.Path.{refl}
+use mathlib.Core.Logic.{⊎_elim}
+use Prim.Native.Nat.{◌-◌}
+use lib.Dec.{eqb}
+use borrow.Author.Rules.{rules}
+use Rattle.buffer.specs.Bytes.{byte}
+use Rattle.buffer.specs.TestLaws.{is_eq, is_ne}
+use Rattle.buffer.specs.LoopTests.{Counting, counting_start, counting_more, counting_same, counting_end}
+use Rattle.group.proofs.ones.Goals as goal
+
+pub loop-i-init : goal.loop-i-init
+loop-i-init c =
+    counting_start
+
+pub loop-i-preserved : goal.loop-i-preserved
+loop-i-preserved c =
+    let inv = c.loop-i.invariant in
+    let b = rw c.wide.ensures.0 at c.byte_at.ensures in
+    ⊎_elim (λ w. rw w.1 (counting_more inv (search rules) (is_eq b refl w.0.taken)))
+    (λ w. rw w.1 (counting_same inv (search rules) (is_ne b refl w.0.left))) c.if-byte_at-eq1.branch
+
+pub returns : goal.returns
+returns c =
+    (counting_end c.loop-i.invariant (search rules), search rules)

@@ -1,0 +1,19 @@
+use borrow.Author.Rules.{rules}
+use Prim.Native.Nat.{◌-◌}
+use native.Mathlib.Omega.{arith}
+use Rattle.buffer.specs.Bytes.{byte}
+use Rattle.buffer.specs.LoopWrites.{Filling, filling_start, filling_turn}
+use Rattle.group.specs.Widths.{field_bytes}
+use Rattle.group.specs.Parity.{parity}
+use Rattle.group.specs.Four.{four_bodies}
+use Rattle.group.proofs.ParitySums.{parity_place, parity_filled}
+use Rattle.group.proofs.parities.fill.Given as goal
+
+abbrev pub invariant-loop-i : goal.invariant-loop-i
+invariant-loop-i l =
+    Filling (byte (parity 0 (four_bodies l.a l.b l.c l.d))) l.initial.x l.x l.i × Filling (byte (parity 1 (four_bodies l.a l.b l.c l.d))) l.initial.y l.y l.i
+    × Filling (byte (parity 2 (four_bodies l.a l.b l.c l.d))) l.initial.z l.z l.i
+
+abbrev pub decreases-loop-i : goal.decreases-loop-i
+decreases-loop-i l =
+    field_bytes - l.i

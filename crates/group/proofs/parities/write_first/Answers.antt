@@ -1,0 +1,127 @@
+-- `group::parities::write_first` meets its contract.
+use Prim.Native.Nat.{ℕ, ◌+◌, ◌-◌, ◌%◌, ◌≤◌, ◌<◌}
+use mathlib.Core.List.{List}
+use mathlib.Core.Path.{◌≡◌, sym, ap, ◌∙◌}
+use borrow.Author.Rules.{rules}
+use native.Mathlib.Nat.{add_assoc}
+use native.Mathlib.Omega.{arith}
+use lib.ListN.{length}
+use Rattle.buffer.specs.Bytes.{byte, part}
+use Rattle.buffer.specs.ByteLaws.{byte_part}
+use Rattle.buffer.specs.ByteOrder.{le32, low_byte}
+use Rattle.buffer.specs.ByteOrderLaws.{byte_le}
+use Rattle.buffer.specs.Loops.{entries}
+use Rattle.buffer.specs.RangeLaws.{length_entries, entries_ext}
+use Rattle.buffer.specs.SpliceLaws.{length_part, length_lent, put_lent}
+use Rattle.buffer.specs.LoopWrites.{FillingFrom, from_start, from_turn, from_read}
+use Rattle.group.specs.Widths.{field_bytes}
+use Rattle.group.specs.Parity.{parity}
+use Rattle.group.specs.Four.{four_bodies}
+use Rattle.group.specs.FirstSums.{first_sums}
+use Rattle.group.proofs.ParitySums.{parity_place, parity_entries}
+use Rattle.group.proofs.parities.write_first.Goals as goal
+
+-- the parity that is written
+abbrev written : List ℕ → ℕ → ℕ → ℕ → ℕ → List ℕ
+written s a b c d = parity 0 (four_bodies (part a field_bytes s) (part b field_bytes s) (part c field_bytes s) (part d field_bytes s))
+
+four_long : (a b c d : ℕ) → length (first_sums a b c d) ≡ 4
+unfolding first_sums
+four_long a b c d = length_entries 4 _
+
+pub loop-i-init : goal.loop-i-init
+loop-i-init c =
+    (from_start, omega arith, omega arith)
+
+pub overflow_add-a : goal.overflow_add-a
+overflow_add-a c =
+    search (rules, within c _ c.requires.1)
+
+pub low32-p-requires : goal.low32-p-requires
+low32-p-requires c =
+    within c _ c.requires.1
+
+pub overflow_add-b : goal.overflow_add-b
+overflow_add-b c =
+    search (rules, within c _ c.requires.2)
+
+pub low32-q-requires : goal.low32-q-requires
+low32-q-requires c =
+    within c _ c.requires.2
+
+pub overflow_add-c : goal.overflow_add-c
+overflow_add-c c =
+    search (rules, within c _ c.requires.3)
+
+pub low32-u-requires : goal.low32-u-requires
+low32-u-requires c =
+    within c _ c.requires.3
+
+pub overflow_add-d : goal.overflow_add-d
+overflow_add-d c =
+    search (rules, within c _ c.requires.4)
+
+pub low32-v-requires : goal.low32-v-requires
+low32-v-requires c =
+    within c _ c.requires.4
+
+pub overflow_add-to : goal.overflow_add-to
+overflow_add-to c =
+    let fits : c.loop-i.i + 4 ≤ field_bytes = omega (arith, c.loop-i-test.true, c.loop-i.invariant.2) in
+    let behind : c.args.to + c.loop-i.i + 4 ≤ length c.loop-i.s = omega (arith, c.requires.0, c.loop-i.invariant.0.long, fits) in
+    search (rules, behind)
+
+pub overflow_add-to-in-loop-i : goal.overflow_add-to-in-loop-i
+overflow_add-to-in-loop-i c =
+    let fits : c.loop-i.i + 4 ≤ field_bytes = omega (arith, c.loop-i-test.true, c.loop-i.invariant.2) in
+    let behind : c.args.to + c.loop-i.i + 4 ≤ length c.loop-i.s = omega (arith, c.requires.0, c.loop-i.invariant.0.long, fits) in
+    search (rules, behind)
+
+pub overflow_add-to-in-loop-i-2 : goal.overflow_add-to-in-loop-i-2
+overflow_add-to-in-loop-i-2 c =
+    let fits : c.loop-i.i + 4 ≤ field_bytes = omega (arith, c.loop-i-test.true, c.loop-i.invariant.2) in
+    let behind : c.args.to + c.loop-i.i + 4 ≤ length c.loop-i.s = omega (arith, c.requires.0, c.loop-i.invariant.0.long, fits) in
+    search (rules, behind)
+
+pub slice_bounds-copy-end : goal.slice_bounds-copy-end
+slice_bounds-copy-end c =
+    let fits : c.loop-i.i + 4 ≤ field_bytes = omega (arith, c.loop-i-test.true, c.loop-i.invariant.2) in
+    let behind : c.args.to + c.loop-i.i + 4 ≤ length c.loop-i.s = omega (arith, c.requires.0, c.loop-i.invariant.0.long, fits) in
+    behind
+
+pub copy-requires : goal.copy-requires
+copy-requires c =
+    let fits : c.loop-i.i + 4 ≤ field_bytes = omega (arith, c.loop-i-test.true, c.loop-i.invariant.2) in
+    let behind : c.args.to + c.loop-i.i + 4 ≤ length c.loop-i.s = omega (arith, c.requires.0, c.loop-i.invariant.0.long, fits) in
+    length_lent _ _ 4 (behind) ∙ sym (ap length c.mix_words-sums.ensures ∙ four_long _ _ _ _)
+
+pub loop-i-smaller : goal.loop-i-smaller
+loop-i-smaller c =
+    let fits : c.loop-i.i + 4 ≤ field_bytes = omega (arith, c.loop-i-test.true, c.loop-i.invariant.2) in
+    omega (arith, fits)
+
+pub loop-i-preserved : goal.loop-i-preserved
+loop-i-preserved c =
+    let fits : c.loop-i.i + 4 ≤ field_bytes = omega (arith, c.loop-i-test.true, c.loop-i.invariant.2) in
+    let behind : c.args.to + c.loop-i.i + 4 ≤ length c.loop-i.s = omega (arith, c.requires.0, c.loop-i.invariant.0.long, fits) in
+    let a = c.args in
+    let p = c.pre in (
+      from_turn 4 _ c.loop-i.inv.0 (behind) (c.copy.ensures ∙ c.mix_words-sums.ensures
+          ∙ sums (λ k. omega (arith, c.slice_known-1.given k)) p.0 (fits) a.a a.b a.c a.d p.1 p.2 p.3 p.4
+          c.loop-i.inv.0 c.low32-p.ensures c.low32-q.ensures c.low32-u.ensures c.low32-v.ensures)
+          (put_lent _ _ _ _),
+      omega (arith, fits),
+      omega (arith, c.loop-i.inv.2),
+    )
+
+pub shape_of-s : goal.shape_of-s
+shape_of-s c =
+    c.loop-i.invariant.0.long
+
+pub returns : goal.returns
+returns c =
+    let p = c.requires in
+    let n : c.loop-i.i ≡ field_bytes = omega (arith, c.loop-i.invariant.1, c.loop-i-test.false) in
+    let long : (x : ℕ) → x + field_bytes ≤ c.args.to → length (part x field_bytes c.args.s.now) ≡ field_bytes =
+    λ x h. length_part x field_bytes c.args.s.now (omega (arith, p.0)) in
+    c.loop-i.invariant.0.bytes ∙ rw (n, parity_entries _ _ _ _ (long _ p.1) (long _ p.2) (long _ p.3) (long _ p.4) 0)

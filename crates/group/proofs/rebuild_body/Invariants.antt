@@ -1,0 +1,21 @@
+use mathlib.Core.Path.{sym, ◌∙◌}
+use mathlib.Core.List.{[], ◌∷◌}
+use Prim.Native.Nat.{◌-◌}
+use native.Mathlib.Omega.{arith}
+use lib.ListN.{length, length-set}
+use borrow.Author.Rules.{rules}
+use Rattle.buffer.specs.Bytes.{byte}
+use Rattle.buffer.specs.RangeLaws.{below-four}
+use Rattle.buffer.specs.LoopWrites.{Filling, filling_start, filling_turn, filling_end}
+use Rattle.code.specs.Weights.{mixed}
+use Rattle.group.specs.Four.{four_bodies}
+use Rattle.group.specs.WeighedLaws.{weighed_entries}
+use Rattle.group.proofs.rebuild_body.Given as goal
+
+abbrev pub invariant-loop-i : goal.invariant-loop-i
+invariant-loop-i l =
+    Filling (λ k. mixed l.weights (byte l.a k ∷ byte l.b k ∷ byte l.c k ∷ byte l.d k ∷ [])) l.initial.out l.out l.i
+
+abbrev pub decreases-loop-i : goal.decreases-loop-i
+decreases-loop-i l =
+    length l.out - l.i
