@@ -26,7 +26,7 @@ returns c =
     a.key
     a.change
     a.into.now
-    (search (rules, c.well-formed.1.1.1.0))
+    (search (rules, c.well_formed.1.1.1.0))
     c.requires.0
     at
     (at + 4 - at)

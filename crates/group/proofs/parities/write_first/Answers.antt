@@ -29,41 +29,80 @@ four_long : (a b c d : ℕ) → length (first_sums a b c d) ≡ 4
 unfolding first_sums
 four_long a b c d = length_entries 4 _
 
+-- ---- a turn: what is read lies before what is written, and is as it was
+module _ {s s' : List ℕ} {to i : ℕ} (bound : (k : ℕ) → byte s k < 256) (room : to + field_bytes ≤ length s) (here : i + 4 ≤ field_bytes) where
+  field_byte : {f : ℕ → ℕ} → FillingFrom f to s s' i → (x n : ℕ) → x + field_bytes ≤ to → n < 4
+      → low_byte (le32 s' (x + i)) n ≡ byte (part x field_bytes s) (i + n)
+  field_byte g x n h l =
+      let same : (k : ℕ) → k < 4 → byte s' (x + i + k) ≡ byte s (x + i + k) = λ k m. from_read g (x + i + k) (omega arith) (omega arith) in
+      byte_le s' (x + i) (λ k m. omega (arith, same k m, bound (x + i + k))) n l
+      ∙ same n l
+      ∙ ap (byte s) (add_assoc x i n)
+      ∙ sym (byte_part x field_bytes s (i + n) (omega arith))
+
+  sums : (a b c d : ℕ) {p q u v : ℕ} → a + field_bytes ≤ to → b + field_bytes ≤ to → c + field_bytes ≤ to → d + field_bytes ≤ to
+      → FillingFrom (byte (written s a b c d)) to s s' i → p ≡ le32 s' (a + i) → q ≡ le32 s' (b + i) → u ≡ le32 s' (c + i) → v ≡ le32 s' (d + i)
+      → first_sums p q u v ≡ entries 4 (λ n. byte (written s a b c d) (i + n))
+  unfolding first_sums four_bodies
+  sums a b c d la lb lc ld g ep eq eu ev = rw (ep, eq, eu, ev) (entries_ext 4 _ _ (λ n l.
+      parity_place (part a field_bytes s) (part b field_bytes s) (part c field_bytes s) (part d field_bytes s)
+      (long a la) (long b lb) (long c lc) (long d ld) (i + n) (omega arith) 0 _ (omega arith)
+      (rw (field_byte g a n la l, field_byte g b n lb l, field_byte g c n lc l, field_byte g d n ld l))))
+    where
+      long : (x : ℕ) → x + field_bytes ≤ to → length (part x field_bytes s) ≡ field_bytes
+      long x h = length_part x field_bytes s (omega arith)
+
 pub loop-i-init : goal.loop-i-init
 loop-i-init c =
     (from_start, omega arith, omega arith)
 
 pub overflow_add-a : goal.overflow_add-a
 overflow_add-a c =
-    search (rules, within c _ c.requires.1)
+    let fits : c.loop-i.i + 4 ≤ field_bytes = omega (arith, c.loop-i-test.true, c.loop-i.invariant.2) in
+    let within : (x : ℕ) → x + field_bytes ≤ c.args.to → x + c.loop-i.i + 4 ≤ length c.loop-i.s = λ x h. omega (arith, c.requires.0, c.loop-i.invariant.0.long, fits) in
+    search (rules, within _ c.requires.1)
 
 pub low32-p-requires : goal.low32-p-requires
 low32-p-requires c =
-    within c _ c.requires.1
+    let fits : c.loop-i.i + 4 ≤ field_bytes = omega (arith, c.loop-i-test.true, c.loop-i.invariant.2) in
+    let within : (x : ℕ) → x + field_bytes ≤ c.args.to → x + c.loop-i.i + 4 ≤ length c.loop-i.s = λ x h. omega (arith, c.requires.0, c.loop-i.invariant.0.long, fits) in
+    within _ c.requires.1
 
 pub overflow_add-b : goal.overflow_add-b
 overflow_add-b c =
-    search (rules, within c _ c.requires.2)
+    let fits : c.loop-i.i + 4 ≤ field_bytes = omega (arith, c.loop-i-test.true, c.loop-i.invariant.2) in
+    let within : (x : ℕ) → x + field_bytes ≤ c.args.to → x + c.loop-i.i + 4 ≤ length c.loop-i.s = λ x h. omega (arith, c.requires.0, c.loop-i.invariant.0.long, fits) in
+    search (rules, within _ c.requires.2)
 
 pub low32-q-requires : goal.low32-q-requires
 low32-q-requires c =
-    within c _ c.requires.2
+    let fits : c.loop-i.i + 4 ≤ field_bytes = omega (arith, c.loop-i-test.true, c.loop-i.invariant.2) in
+    let within : (x : ℕ) → x + field_bytes ≤ c.args.to → x + c.loop-i.i + 4 ≤ length c.loop-i.s = λ x h. omega (arith, c.requires.0, c.loop-i.invariant.0.long, fits) in
+    within _ c.requires.2
 
 pub overflow_add-c : goal.overflow_add-c
 overflow_add-c c =
-    search (rules, within c _ c.requires.3)
+    let fits : c.loop-i.i + 4 ≤ field_bytes = omega (arith, c.loop-i-test.true, c.loop-i.invariant.2) in
+    let within : (x : ℕ) → x + field_bytes ≤ c.args.to → x + c.loop-i.i + 4 ≤ length c.loop-i.s = λ x h. omega (arith, c.requires.0, c.loop-i.invariant.0.long, fits) in
+    search (rules, within _ c.requires.3)
 
 pub low32-u-requires : goal.low32-u-requires
 low32-u-requires c =
-    within c _ c.requires.3
+    let fits : c.loop-i.i + 4 ≤ field_bytes = omega (arith, c.loop-i-test.true, c.loop-i.invariant.2) in
+    let within : (x : ℕ) → x + field_bytes ≤ c.args.to → x + c.loop-i.i + 4 ≤ length c.loop-i.s = λ x h. omega (arith, c.requires.0, c.loop-i.invariant.0.long, fits) in
+    within _ c.requires.3
 
 pub overflow_add-d : goal.overflow_add-d
 overflow_add-d c =
-    search (rules, within c _ c.requires.4)
+    let fits : c.loop-i.i + 4 ≤ field_bytes = omega (arith, c.loop-i-test.true, c.loop-i.invariant.2) in
+    let within : (x : ℕ) → x + field_bytes ≤ c.args.to → x + c.loop-i.i + 4 ≤ length c.loop-i.s = λ x h. omega (arith, c.requires.0, c.loop-i.invariant.0.long, fits) in
+    search (rules, within _ c.requires.4)
 
 pub low32-v-requires : goal.low32-v-requires
 low32-v-requires c =
-    within c _ c.requires.4
+    let fits : c.loop-i.i + 4 ≤ field_bytes = omega (arith, c.loop-i-test.true, c.loop-i.invariant.2) in
+    let within : (x : ℕ) → x + field_bytes ≤ c.args.to → x + c.loop-i.i + 4 ≤ length c.loop-i.s = λ x h. omega (arith, c.requires.0, c.loop-i.invariant.0.long, fits) in
+    within _ c.requires.4
 
 pub overflow_add-to : goal.overflow_add-to
 overflow_add-to c =
@@ -105,13 +144,13 @@ loop-i-preserved c =
     let fits : c.loop-i.i + 4 ≤ field_bytes = omega (arith, c.loop-i-test.true, c.loop-i.invariant.2) in
     let behind : c.args.to + c.loop-i.i + 4 ≤ length c.loop-i.s = omega (arith, c.requires.0, c.loop-i.invariant.0.long, fits) in
     let a = c.args in
-    let p = c.pre in (
-      from_turn 4 _ c.loop-i.inv.0 (behind) (c.copy.ensures ∙ c.mix_words-sums.ensures
+    let p = c.requires in (
+      from_turn 4 _ c.loop-i.invariant.0 (behind) (c.copy.ensures ∙ c.mix_words-sums.ensures
           ∙ sums (λ k. omega (arith, c.slice_known-1.given k)) p.0 (fits) a.a a.b a.c a.d p.1 p.2 p.3 p.4
-          c.loop-i.inv.0 c.low32-p.ensures c.low32-q.ensures c.low32-u.ensures c.low32-v.ensures)
+          c.loop-i.invariant.0 c.low32-p.ensures c.low32-q.ensures c.low32-u.ensures c.low32-v.ensures)
           (put_lent _ _ _ _),
       omega (arith, fits),
-      omega (arith, c.loop-i.inv.2),
+      omega (arith, c.loop-i.invariant.2),
     )
 
 pub shape_of-s : goal.shape_of-s

@@ -20,6 +20,10 @@ use Rattle.group.specs.FirstSums.{first_sums}
 use Rattle.group.proofs.ParitySums.{parity_place, parity_entries}
 use Rattle.group.proofs.parities.write_first.Given as goal
 
+-- the parity that is written
+abbrev written : List ℕ → ℕ → ℕ → ℕ → ℕ → List ℕ
+written s a b c d = parity 0 (four_bodies (part a field_bytes s) (part b field_bytes s) (part c field_bytes s) (part d field_bytes s))
+
 abbrev pub invariant-loop-i : goal.invariant-loop-i
 invariant-loop-i l =
     FillingFrom (byte (written l.initial.s l.a l.b l.c l.d)) l.to l.initial.s l.s l.i × (l.i ≤ field_bytes) × (l.i % 4 ≡ 0)
