@@ -1,5 +1,5 @@
 // Moves of records, in lists that the caller lends: filled with a plan, and compared with one. Nothing here knows of a store.
-// The plan is passed by value: the functions that take the lists, `fill` and `agree`, are few and thin, since their proofs follow the code by hand.
+// The plan is passed by value, and the functions that take the lists, `fill` and `agree`, are few and thin.
 #![tactic(auto)]
 
 ghost use Rattle.std.specs.Prelude.{◌≡◌, not, ◌&&◌, ◌≤◌, min, ltb, length, take};

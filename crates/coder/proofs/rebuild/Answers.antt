@@ -4,8 +4,6 @@ use mathlib.Core.Bool.{true}
 use mathlib.Core.List.{List}
 use Prim.Native.Nat.{ℕ}
 use lib.ListN.{length}
-use borrow.Author.Rules.{rules}
-use Rattle.buffer.specs.TestLaws.{is_no, is_yes}
 use Rattle.coder.specs.Segment.{sizes_fit, marks_fit, rebuild_segment}
 use Rattle.coder.specs.MemberLaws.{fitting}
 use Rattle.coder.proofs.Verdicts.{refused_sizes, refused_marks, refused_few, granted, rebuilt}

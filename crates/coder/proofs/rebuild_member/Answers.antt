@@ -46,4 +46,4 @@ returns c =
     c.fill_weights.new.weights _
     (c.copy.ensures ∙ c.weigh.ensures)
     (weighed_is _ _ _ _ c.fill_weights.ensures asked.3 asked.0 asked.4 (search rules) asked.5 _ _
-    (λ i. omega (arith, c.slice_known-1.given i)))
+    (search rules))

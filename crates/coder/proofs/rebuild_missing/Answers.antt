@@ -1,15 +1,14 @@
 -- `coder::rebuild_missing` meets its contract.
-use mathlib.Core.Logic.{⊎_elim}
 use mathlib.Core.Path.{refl, sym, ap, ◌∙◌, subst}
-use Prim.Native.Nat.{ℕ, ◌-◌, ◌≤◌}
+use Prim.Native.Nat.{ℕ, ◌≤◌}
 use native.Mathlib.Omega.{arith}
 use lib.ListN.{length, length-set}
-use borrow.Author.Rules.{rules}
 use Rattle.coder.specs.Segment.{longest_member}
-use Rattle.coder.proofs.Rebuilding.{Rebuilding, rebuilding_start, members_long, members_whole, member_fits, absent}
+use Rattle.coder.proofs.Rebuilding.{rebuilding_start, members_long, members_whole, member_fits, absent}
 use Rattle.coder.proofs.Rebuilding.{turn_missing, turn_present, rebuilding_end}
 use Rattle.coder.proofs.Rebuilding.{points_small, points_distinct, points_away, points_placed}
 use Rattle.coder.proofs.rebuild_missing.Goals as goal
+use Rattle.coder.proofs.rebuild_missing.Goals.{then-marks-c-ne1, else-marks-c-ne1}
 
 pub loop-c-init : goal.loop-c-init
 loop-c-init c =
@@ -42,10 +41,11 @@ loop-c-preserved c =
     let asked = c.requires in
     let inv = c.loop-c.invariant in
     let under = c.loop-c-test.true in
-    ⊎_elim
-    (λ w. turn_missing _ _ _ _ asked.3 inv under _ _ _ asked.4 w.0.taken (ap length w.9 ∙ w.3.kept.1.0) (w.8 ∙ w.3.ensures))
-    (λ w. turn_present _ _ _ _ asked.3 inv under _ _ w.0.left w.1 w.2)
-    c.if-marks-c-ne1.branch
+    elim c.if-marks-c-ne1.branch [
+      | then-marks-c-ne1 w ↦ turn_missing _ _ _ _ asked.3 inv under _ _ _ asked.4 w.if-marks-c-ne1.true
+          (ap length w.scratch-is ∙ w.rebuild_member.auto.scratch) (w.members-is ∙ w.rebuild_member.ensures)
+      | else-marks-c-ne1 w ↦ turn_present _ _ _ _ asked.3 inv under _ _ w.if-marks-c-ne1.false w.members-is w.scratch-is
+    ]
 
 pub shape_of-members : goal.shape_of-members
 shape_of-members c =

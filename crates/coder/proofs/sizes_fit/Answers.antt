@@ -1,6 +1,5 @@
 -- `coder::sizes_fit` meets its contract: one test that fails is enough, whatever the others say.
 use mathlib.Core.Bool.{and-false}
-use borrow.Author.Rules.{rules}
 use borrow.Author.Tests.{le-leb, lt-leb}
 use Rattle.coder.specs.Segment.{sizes_fit}
 use Rattle.coder.proofs.sizes_fit.Goals as goal

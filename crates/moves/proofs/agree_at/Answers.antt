@@ -1,6 +1,5 @@
 -- `moves::agree_at` meets its contract.
 use mathlib.Core.Path.{◌∙◌, ap}
-use borrow.Author.Rules.{rules}
 use Rattle.moves.specs.Moves.{same_move}
 use Rattle.moves.proofs.agree_at.Goals as goal
 

@@ -1,5 +1,4 @@
 -- `moves::entry` meets its contract.
-use borrow.Author.Rules.{rules}
 use borrow.Author.Tests.{lt-ltb, le-ltb}
 use mathlib.Core.Path.{sym, ◌∙◌}
 use Rattle.buffer.specs.ChoiceLaws.{pick-false}

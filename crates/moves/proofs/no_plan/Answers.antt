@@ -1,5 +1,4 @@
 -- `moves::no_plan` meets its contract.
-use borrow.Author.Rules.{rules}
 use mathlib.Core.Path.{refl}
 use Rattle.moves.specs.Drafts.{blank}
 use Rattle.moves.proofs.no_plan.Goals as goal

@@ -1,10 +1,7 @@
 -- `coder::marks::first_present` meets its contract.
 use mathlib.Core.Path.{sym, ◌∙◌}
-use Prim.Native.Nat.{◌-◌, ◌≤◌}
 use native.Mathlib.Omega.{arith}
-use lib.ListN.{length}
 use borrow.Author.Rules.{rules}
-use Rattle.coder.specs.Choosing.{Choosing}
 use Rattle.coder.proofs.Choices.{choosing_start, choosing_end}
 use Rattle.coder.proofs.marks.first_present.Goals as goal
 

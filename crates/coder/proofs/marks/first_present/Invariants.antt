@@ -1,10 +1,6 @@
-use mathlib.Core.Path.{sym, ◌∙◌}
 use Prim.Native.Nat.{◌-◌, ◌≤◌}
-use native.Mathlib.Omega.{arith}
 use lib.ListN.{length}
-use borrow.Author.Rules.{rules}
 use Rattle.coder.specs.Choosing.{Choosing}
-use Rattle.coder.proofs.Choices.{choosing_start, choosing_end}
 use Rattle.coder.proofs.marks.first_present.Given as goal
 
 abbrev pub invariant-loop-c : goal.invariant-loop-c

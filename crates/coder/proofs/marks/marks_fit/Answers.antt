@@ -1,11 +1,6 @@
 -- `coder::marks::marks_fit` meets its contract.
-use Prim.Native.Nat.{◌-◌}
-use lib.Dec.{leb}
-use lib.ListN.{length}
-use borrow.Author.Rules.{rules}
 use borrow.Author.Tests.{le-leb, lt-leb}
-use Rattle.buffer.specs.Bytes.{byte}
-use Rattle.buffer.specs.LoopTests.{Passing, passing_start, passing_turn, passing_fail, passing_end}
+use Rattle.buffer.specs.LoopTests.{passing_start, passing_turn, passing_fail, passing_end}
 use Rattle.coder.specs.Segment.{marks_fit}
 use Rattle.coder.proofs.marks.marks_fit.Goals as goal
 

@@ -1,11 +1,8 @@
 use Prim.Native.Nat.{◌-◌}
 use lib.Dec.{leb}
 use lib.ListN.{length}
-use borrow.Author.Rules.{rules}
-use borrow.Author.Tests.{le-leb, lt-leb}
 use Rattle.buffer.specs.Bytes.{byte}
-use Rattle.buffer.specs.LoopTests.{Passing, passing_start, passing_turn, passing_fail, passing_end}
-use Rattle.coder.specs.Segment.{marks_fit}
+use Rattle.buffer.specs.LoopTests.{Passing}
 use Rattle.coder.proofs.marks.marks_fit.Given as goal
 
 abbrev pub invariant-loop-c : goal.invariant-loop-c

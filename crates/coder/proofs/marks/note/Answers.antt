@@ -1,6 +1,5 @@
 -- `coder::marks::note` meets its contract.
 use mathlib.Core.Path.{refl}
-use borrow.Author.Rules.{rules}
 use borrow.Author.Tests.{eq-eqb, ne_eqb}
 use Rattle.coder.proofs.Choices.{choosing_skip, choosing_full, choosing_add}
 use Rattle.coder.proofs.marks.note.Goals as goal

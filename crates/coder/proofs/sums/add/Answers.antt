@@ -1,13 +1,10 @@
 -- `coder::sums::add` meets its contract.
 use mathlib.Core.Path.{ap₂}
-use Prim.Native.Nat.{◌-◌}
 use native.Mathlib.Omega.{arith}
 use lib.Bits.{bit_xor}
-use lib.ListN.{length, length-set}
+use lib.ListN.{length-set}
 use borrow.Author.Rules.{rules}
-use Rattle.buffer.specs.Bytes.{byte}
-use Rattle.buffer.specs.LoopWrites.{Filling, filling_start, filling_turn, filling_read, filling_end}
-use Rattle.coder.specs.Sums.{four_bytes}
+use Rattle.buffer.specs.LoopWrites.{filling_start, filling_turn, filling_read, filling_end}
 use Rattle.coder.proofs.Adding.{inside_at}
 use Rattle.coder.proofs.sums.add.Goals as goal
 

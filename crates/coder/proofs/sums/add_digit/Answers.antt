@@ -1,11 +1,9 @@
 -- `coder::sums::add_digit` meets its contract.
 use mathlib.Core.Path.{◌≡◌, refl, ap, ◌∙◌}
-use Prim.Native.Nat.{◌-◌}
 use native.Mathlib.Omega.{arith}
 use lib.ListN.{length}
-use borrow.Author.Rules.{rules}
 use Rattle.buffer.specs.RangeLaws.{length_entries}
-use Rattle.coder.proofs.Adding.{Adding, adding_start, adding_turn, adding_end, four_fit}
+use Rattle.coder.proofs.Adding.{adding_start, adding_turn, adding_end, four_fit}
 use Rattle.coder.proofs.sums.add_digit.Goals as goal
 
 pub pick_digit-k-requires : goal.pick_digit-k-requires
@@ -24,7 +22,7 @@ pub add-requires : goal.add-requires
 add-requires c =
     let wide : length c.double_add.new.acc ≡ length c.args.acc.now = ap length c.double_add.ensures ∙ length_entries (length c.args.acc.now) _ in
     let turn = c.loop-r in
-    four_fit _ _ _ _ _ _ _ _ _ c.pick_digit-k.ensures c.pre.5 _ turn.r (turn.invariant.long ∙ wide)
+    four_fit _ _ _ _ _ _ _ _ _ c.pick_digit-k.ensures c.requires.5 _ turn.r (turn.invariant.long ∙ wide)
     (omega (arith, c.loop-r-test.true))
 
 pub loop-r-preserved : goal.loop-r-preserved
@@ -38,5 +36,5 @@ shape_of-acc c =
 
 pub returns : goal.returns
 returns c =
-    adding_end _ _ _ _ _ _ _ _ _ c.pick_digit-k.ensures c.pre.5 c.args.acc.now _ _ _
+    adding_end _ _ _ _ _ _ _ _ _ c.pick_digit-k.ensures c.requires.5 c.args.acc.now _ _ _
     c.double_add.ensures c.loop-r.invariant c.loop-r-test.false

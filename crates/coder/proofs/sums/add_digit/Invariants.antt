@@ -1,10 +1,6 @@
-use mathlib.Core.Path.{◌≡◌, refl, ap, ◌∙◌}
 use Prim.Native.Nat.{◌-◌}
-use native.Mathlib.Omega.{arith}
 use lib.ListN.{length}
-use borrow.Author.Rules.{rules}
-use Rattle.buffer.specs.RangeLaws.{length_entries}
-use Rattle.coder.proofs.Adding.{Adding, adding_start, adding_turn, adding_end, four_fit}
+use Rattle.coder.proofs.Adding.{Adding}
 use Rattle.coder.proofs.sums.add_digit.Given as goal
 
 abbrev pub invariant-loop-r : goal.invariant-loop-r

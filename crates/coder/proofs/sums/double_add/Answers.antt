@@ -1,14 +1,11 @@
 -- `coder::sums::double_add` meets its contract.
 use mathlib.Core.Path.{ap, ap₂, ◌∙◌}
-use Prim.Native.Nat.{◌-◌}
 use native.Mathlib.Omega.{arith}
 use lib.Bits.{bit_xor}
-use lib.ListN.{length, length-set}
+use lib.ListN.{length-set}
 use borrow.Author.Rules.{rules}
-use Rattle.buffer.specs.Bytes.{byte}
-use Rattle.buffer.specs.LoopWrites.{Filling, filling_start, filling_turn, filling_read, filling_end}
+use Rattle.buffer.specs.LoopWrites.{filling_start, filling_turn, filling_read, filling_end}
 use Rattle.field256.specs.Gf256.{product}
-use Rattle.coder.specs.Sums.{four_bytes}
 use Rattle.coder.proofs.Adding.{inside_at}
 use Rattle.coder.proofs.sums.double_add.Goals as goal
 

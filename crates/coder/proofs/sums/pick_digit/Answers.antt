@@ -1,10 +1,9 @@
 -- `coder::sums::pick_digit` meets its contract.
 use mathlib.Core.Path.{sym, ◌∙◌}
-use Prim.Native.Nat.{◌+◌, ◌-◌, ◌≤◌}
+use Prim.Native.Nat.{◌+◌, ◌≤◌}
 use native.Mathlib.Omega.{arith}
 use lib.ListN.{length, length-set}
-use borrow.Author.Rules.{rules}
-use Rattle.coder.proofs.Picking.{Picking, picking_start, picking_room, picking_turn, picking_end}
+use Rattle.coder.proofs.Picking.{picking_start, picking_room, picking_turn, picking_end}
 use Rattle.coder.proofs.sums.pick_digit.Goals as goal
 
 pub loop-i-init : goal.loop-i-init

@@ -1,9 +1,5 @@
-use mathlib.Core.Path.{sym, ◌∙◌}
-use Prim.Native.Nat.{◌+◌, ◌-◌, ◌≤◌}
-use native.Mathlib.Omega.{arith}
-use lib.ListN.{length, length-set}
-use borrow.Author.Rules.{rules}
-use Rattle.coder.proofs.Picking.{Picking, picking_start, picking_room, picking_turn, picking_end}
+use Prim.Native.Nat.{◌-◌}
+use Rattle.coder.proofs.Picking.{Picking}
 use Rattle.coder.proofs.sums.pick_digit.Given as goal
 
 abbrev pub invariant-loop-i : goal.invariant-loop-i

@@ -3,19 +3,19 @@ use mathlib.Core.Path.{◌≡◌, refl, sym, ap, ◌∙◌, subst}
 use Prim.Native.Nat.{ℕ, ◌≤◌, ◌<◌}
 use native.Mathlib.Omega.{arith}
 use lib.ListN.{length}
-use borrow.Author.Rules.{rules}
 use Rattle.buffer.specs.Bytes.{byte, zeros}
 use Rattle.buffer.specs.ByteLaws.{length_zeros}
 use Rattle.coder.specs.Segment.{longest_member}
-use Rattle.coder.specs.Sums.{room_for_places, Placed, Blank}
-use Rattle.coder.proofs.Weighing.{Weighing, weighing_long, weighing_start, weighing_turn, weighing_end}
+use Rattle.coder.specs.Sums.{Placed, Blank}
+use Rattle.coder.proofs.Weighing.{weighing_long, weighing_start, weighing_turn, weighing_end}
 use Rattle.coder.proofs.sums.weigh.Goals as goal
 
 pub loop-b-init : goal.loop-b-init
 loop-b-init c =
+    let bytes : (k : ℕ) → byte c.args.s.now k < 256 = λ k. omega (arith, c.type_inv.s k) in
     let wide : length c.clear.new.s ≡ length c.args.acc.now = ap length c.clear.ensures ∙ length_zeros (length c.args.acc.now) in (
       refl,
-      weighing_start _ _ _ _ _ c.requires.3.low (bytes c) _ (c.clear.ensures ∙ ap zeros (sym (wide))),
+      weighing_start _ _ _ _ _ c.requires.3.low bytes _ (c.clear.ensures ∙ ap zeros (sym (wide))),
     )
 
 pub slice_bounds-add_digit-end : goal.slice_bounds-add_digit-end
@@ -39,10 +39,11 @@ add_digit-requires c =
 
 pub loop-b-preserved : goal.loop-b-preserved
 loop-b-preserved c =
+    let bytes : (k : ℕ) → byte c.args.s.now k < 256 = λ k. omega (arith, c.type_inv.s k) in
     let turn = c.loop-b in
-    let same : length c.add_digit.new.places.0 ≡ length turn.places = c.add_digit.auto.1.0 in (
+    let same : length c.add_digit.new.places ≡ length turn.places = c.add_digit.auto.places in (
       same ∙ turn.invariant.0,
-      weighing_turn _ _ _ _ _ c.requires.3.low (bytes c) _ _ _ _ turn.invariant.1
+      weighing_turn _ _ _ _ _ c.requires.3.low bytes _ _ _ _ turn.invariant.1
           (omega (arith, c.loop-b-test.true)) c.add_digit.ensures,
     )
 

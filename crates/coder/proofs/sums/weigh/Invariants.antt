@@ -1,13 +1,7 @@
-use mathlib.Core.Path.{◌≡◌, refl, sym, ap, ◌∙◌, subst}
-use Prim.Native.Nat.{ℕ, ◌≤◌, ◌<◌}
-use native.Mathlib.Omega.{arith}
+use mathlib.Core.Path.{◌≡◌}
 use lib.ListN.{length}
-use borrow.Author.Rules.{rules}
-use Rattle.buffer.specs.Bytes.{byte, zeros}
-use Rattle.buffer.specs.ByteLaws.{length_zeros}
-use Rattle.coder.specs.Segment.{longest_member}
-use Rattle.coder.specs.Sums.{room_for_places, Placed, Blank}
-use Rattle.coder.proofs.Weighing.{Weighing, weighing_long, weighing_start, weighing_turn, weighing_end}
+use Rattle.coder.specs.Sums.{room_for_places}
+use Rattle.coder.proofs.Weighing.{Weighing}
 use Rattle.coder.proofs.sums.weigh.Given as goal
 
 abbrev pub invariant-loop-b : goal.invariant-loop-b

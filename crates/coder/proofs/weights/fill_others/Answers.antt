@@ -1,10 +1,7 @@
 -- `coder::weights::fill_others` meets its contract.
-use Prim.Native.Nat.{◌-◌}
 use native.Mathlib.Omega.{arith}
-use lib.ListN.{get_or}
 use borrow.Author.Rules.{rules}
-use Rattle.buffer.specs.LoopWrites.{Filling, filling_start, filling_turn, filling_written}
-use Rattle.coder.specs.Weights.{log_others}
+use Rattle.buffer.specs.LoopWrites.{filling_start, filling_turn, filling_written}
 use Rattle.coder.proofs.weights.fill_others.Goals as goal
 
 pub loop-i-init : goal.loop-i-init

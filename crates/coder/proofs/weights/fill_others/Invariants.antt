@@ -1,8 +1,6 @@
 use Prim.Native.Nat.{◌-◌}
-use native.Mathlib.Omega.{arith}
 use lib.ListN.{get_or}
-use borrow.Author.Rules.{rules}
-use Rattle.buffer.specs.LoopWrites.{Filling, filling_start, filling_turn, filling_written}
+use Rattle.buffer.specs.LoopWrites.{Filling}
 use Rattle.coder.specs.Weights.{log_others}
 use Rattle.coder.proofs.weights.fill_others.Given as goal
 

@@ -1,10 +1,10 @@
 -- `coder::weights::fill_weights` meets its contract.
-use Prim.Native.Nat.{◌+◌, ◌-◌, ◌≤◌}
+use Prim.Native.Nat.{◌+◌, ◌≤◌}
 use native.Mathlib.Omega.{arith}
 use lib.ListN.{get_or}
 use borrow.Author.Rules.{rules}
-use Rattle.buffer.specs.LoopWrites.{Filling, filling_start, filling_turn, filling_written}
-use Rattle.coder.specs.Weights.{headroom, weight_of}
+use Rattle.buffer.specs.LoopWrites.{filling_start, filling_turn, filling_written}
+use Rattle.coder.specs.Weights.{headroom}
 use Rattle.coder.proofs.Logs.{apart_pos, sum_bounded, taken_le, weight_read}
 use Rattle.coder.proofs.weights.fill_weights.Goals as goal
 

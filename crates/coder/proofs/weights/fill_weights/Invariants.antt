@@ -1,10 +1,7 @@
-use Prim.Native.Nat.{◌+◌, ◌-◌, ◌≤◌}
-use native.Mathlib.Omega.{arith}
+use Prim.Native.Nat.{◌-◌}
 use lib.ListN.{get_or}
-use borrow.Author.Rules.{rules}
-use Rattle.buffer.specs.LoopWrites.{Filling, filling_start, filling_turn, filling_written}
-use Rattle.coder.specs.Weights.{headroom, weight_of}
-use Rattle.coder.proofs.Logs.{apart_pos, sum_bounded, taken_le, weight_read}
+use Rattle.buffer.specs.LoopWrites.{Filling}
+use Rattle.coder.specs.Weights.{weight_of}
 use Rattle.coder.proofs.weights.fill_weights.Given as goal
 
 abbrev pub invariant-loop-i : goal.invariant-loop-i

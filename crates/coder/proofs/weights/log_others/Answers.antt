@@ -1,13 +1,11 @@
 -- `coder::weights::log_others` meets its contract.
-use mathlib.Core.Logic.{⊎_elim}
 use mathlib.Core.Path.{sym}
-use Prim.Native.Nat.{◌-◌}
 use native.Mathlib.Omega.{arith}
-use borrow.Author.Rules.{rules}
 use Rattle.buffer.specs.LoopTests.{summing_start, summing_end}
 use Rattle.coder.specs.Weights.{log_others}
-use Rattle.coder.proofs.Logs.{apart_pos, LogSumming, log_sum_le, log_sum_self, log_sum_other}
+use Rattle.coder.proofs.Logs.{apart_pos, log_sum_le, log_sum_self, log_sum_other}
 use Rattle.coder.proofs.weights.log_others.Goals as goal
+use Rattle.coder.proofs.weights.log_others.Goals.{then-p-c, else-p-c}
 
 pub loop-i-init : goal.loop-i-init
 loop-i-init c =
@@ -26,10 +24,10 @@ loop-i-preserved c =
     let a = c.args in
     let inv = c.loop-i.invariant in
     let under = c.loop-i-test.true in
-    ⊎_elim
-    (λ w. rw w.2 (log_sum_other a.c a.points.now inv _ under w.0.taken w.1.ensures.0))
-    (λ w. rw w.1 (log_sum_self a.c a.points.now inv under w.0.left))
-    c.if-p-c.branch
+    elim c.if-p-c.branch [
+      | then-p-c w ↦ rw w.s-is (log_sum_other a.c a.points.now inv _ under w.if-p-c.true w.log_in-s.ensures.0)
+      | else-p-c w ↦ rw w.s-is (log_sum_self a.c a.points.now inv under w.if-p-c.false)
+    ]
 
 pub returns : goal.returns
 unfolding log_others

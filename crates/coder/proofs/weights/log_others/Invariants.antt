@@ -1,11 +1,5 @@
-use mathlib.Core.Logic.{⊎_elim}
-use mathlib.Core.Path.{sym}
 use Prim.Native.Nat.{◌-◌}
-use native.Mathlib.Omega.{arith}
-use borrow.Author.Rules.{rules}
-use Rattle.buffer.specs.LoopTests.{summing_start, summing_end}
-use Rattle.coder.specs.Weights.{log_others}
-use Rattle.coder.proofs.Logs.{apart_pos, LogSumming, log_sum_le, log_sum_self, log_sum_other}
+use Rattle.coder.proofs.Logs.{LogSumming}
 use Rattle.coder.proofs.weights.log_others.Given as goal
 
 abbrev pub invariant-loop-i : goal.invariant-loop-i
