@@ -1,0 +1,15 @@
+use borrow.Author.Rules.{rules}
+use Prim.Native.Nat.{◌-◌}
+use mathlib.Core.Path.{refl}
+use native.Mathlib.Omega.{arith}
+use Rattle.encoding.specs.Made.{is_unit}
+use Rattle.encoding.proofs.RankLoop.{Making, making_start, making_long, making_turn, making_end}
+use Rattle.encoding.proofs.make_unit.Given as goal
+
+abbrev pub invariant-loop-r : goal.invariant-loop-r
+invariant-loop-r l =
+    Making (is_unit l.c) l.initial.s l.s l.r
+
+abbrev pub decreases-loop-r : goal.decreases-loop-r
+decreases-loop-r l =
+    l.b - l.r

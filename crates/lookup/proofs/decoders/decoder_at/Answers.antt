@@ -1,0 +1,11 @@
+-- `lookup::decoders::decoder_at` meets its contract.
+use native.Mathlib.Omega.{arith}
+use borrow.Author.Rules.{rules}
+use Rattle.group.specs.RebuildingLaws.{members_within}
+use Rattle.lookup.specs.GroupLaws.{missing_four}
+use Rattle.lookup.proofs.decoders.decoder_at.Goals as goal
+
+pub weights-weights-requires : goal.weights-weights-requires
+weights-weights-requires c =
+    let p = c.requires in
+    (p.2, rw c.members-members.ensures (members_within (missing_four p.0)), omega arith)

@@ -1,0 +1,9 @@
+-- `lookup::state` meets its contract.
+use mathlib.Core.Path.{◌∙◌}
+use borrow.Author.Rules.{rules}
+use Rattle.lookup.specs.States.{state_byte}
+use Rattle.lookup.proofs.state.Goals as goal
+
+pub returns : goal.returns
+returns c =
+    rw c.wide.ensures.0 at c.byte_at.ensures ∙ state_byte c.args.s.now c.args.w

@@ -1,0 +1,7 @@
+-- `soundness::is_sound` meets its contract.
+use borrow.Author.Rules.{rules}
+use Rattle.soundness.proofs.is_sound.Goals as goal
+
+pub returns : goal.returns
+returns c =
+    c.survey_of-survey.ensures.tested

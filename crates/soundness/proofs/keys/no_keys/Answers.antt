@@ -1,0 +1,31 @@
+-- `soundness::keys::no_keys` meets its contract.
+use Prim.Native.Nat.{◌-◌}
+use mathlib.Core.Path.{ap, ◌∙◌}
+use native.Mathlib.Omega.{arith}
+use lib.Dec.{eqb}
+use borrow.Author.Rules.{rules}
+use Rattle.buffer.specs.ByteOrderLaws.{le_be_zero}
+use Rattle.buffer.specs.LoopTests.{GatheringBehind, gathering_behind, gathering_behind_turn, gathering_end}
+use Rattle.buffer.specs.Strided.{strided32}
+use Rattle.group.specs.Widths.{check_bytes}
+use Rattle.soundness.specs.Keys.{turned_keys, no_keys}
+use Rattle.soundness.proofs.keys.no_keys.Goals as goal
+
+pub loop-r-init : goal.loop-r-init
+loop-r-init c =
+    gathering_behind c.requires.1
+
+pub turned_key-any-requires : goal.turned_key-any-requires
+turned_key-any-requires c =
+    c.requires.0.fits c.loop-r.r c.loop-r-test.true
+
+pub loop-r-preserved : goal.loop-r-preserved
+unfolding turned_keys strided32
+loop-r-preserved c =
+    gathering_behind_turn c.turned_key-any.result c.loop-r.invariant c.loop-r-test.true
+    (ap (λ k. eqb k 0) c.turned_key-any.ensures ∙ le_be_zero _ (λ i. omega (arith, c.shared_slice_known-1.given i)) _)
+
+pub returns : goal.returns
+unfolding no_keys
+returns c =
+    gathering_end c.loop-r.invariant.gathering c.loop-r-test.false

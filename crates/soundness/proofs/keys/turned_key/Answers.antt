@@ -1,0 +1,9 @@
+-- `soundness::keys::turned_key` meets its contract.
+use borrow.Author.Rules.{rules}
+use Rattle.soundness.specs.Keys.{turned_keys}
+use Rattle.soundness.proofs.keys.turned_key.Goals as goal
+
+pub returns : goal.returns
+unfolding turned_keys
+returns c =
+    c.low32.ensures

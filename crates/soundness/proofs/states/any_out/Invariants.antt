@@ -1,0 +1,15 @@
+use Prim.Native.Nat.{◌+◌, ◌-◌, ◌/◌}
+use mathlib.Core.Path.{refl}
+use lib.Dec.{eqb}
+use borrow.Author.Rules.{rules}
+use Rattle.buffer.specs.Bytes.{byte}
+use Rattle.buffer.specs.LoopTests.{Gathering, gathering_start, gathering_turn, gathering_end}
+use Rattle.soundness.proofs.states.any_out.Given as goal
+
+abbrev pub invariant-loop-i : goal.invariant-loop-i
+invariant-loop-i l =
+    Gathering (λ k. eqb (byte l.s (8 + k) / 2) 0) 28 l.i l.any
+
+abbrev pub decreases-loop-i : goal.decreases-loop-i
+decreases-loop-i l =
+    28 - l.i

@@ -1,0 +1,16 @@
+use Prim.Native.Nat.{◌+◌, ◌-◌}
+use mathlib.Core.Path.{ap₂, ◌∙◌}
+use borrow.Author.Rules.{rules}
+use Rattle.buffer.specs.LoopTests.{Gathering, gathering_start, gathering_turn, gathering_end}
+use Rattle.buffer.specs.Bytes.{byte}
+use Rattle.model.specs.Sound.{state_fits}
+use Rattle.soundness.specs.Pieces.{check_fits}
+use Rattle.soundness.proofs.states.checks_unfit.Given as goal
+
+abbrev pub invariant-loop-c : goal.invariant-loop-c
+invariant-loop-c l =
+    Gathering (check_fits l.s) 12 l.c l.any
+
+abbrev pub decreases-loop-c : goal.decreases-loop-c
+decreases-loop-c l =
+    12 - l.c

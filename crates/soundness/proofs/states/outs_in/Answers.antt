@@ -1,0 +1,8 @@
+-- `soundness::states::outs_in` meets its contract.
+use borrow.Author.Rules.{rules}
+use Rattle.soundness.proofs.Endings.{group_outs}
+use Rattle.soundness.proofs.states.outs_in.Goals as goal
+
+pub returns : goal.returns
+returns c =
+    group_outs c.args.s.now c.args.g c.wide-group.ensures.0 c.out_from.ensures.0 c.out_from-2.ensures.0

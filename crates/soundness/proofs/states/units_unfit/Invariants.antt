@@ -1,0 +1,17 @@
+use Prim.Native.Nat.{◌+◌, ◌-◌}
+use mathlib.Core.Path.{ap, ◌∙◌}
+use lib.Dec.{ltb}
+use borrow.Author.Rules.{rules}
+use Rattle.buffer.specs.LoopTests.{Gathering, gathering_start, gathering_turn, gathering_end}
+use Rattle.buffer.specs.Bytes.{byte}
+use Rattle.model.specs.Sound.{state_fits}
+use Rattle.soundness.specs.Pieces.{data_fits}
+use Rattle.soundness.proofs.states.units_unfit.Given as goal
+
+abbrev pub invariant-loop-u : goal.invariant-loop-u
+invariant-loop-u l =
+    Gathering (data_fits l.s) 16 l.u l.any
+
+abbrev pub decreases-loop-u : goal.decreases-loop-u
+decreases-loop-u l =
+    16 - l.u
