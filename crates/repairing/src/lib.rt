@@ -35,16 +35,16 @@ fn rebuild_unit(s: &mut [u8], u: u8, c: u8, fills: [u8; 16], table: &[u8; 256])
 }
 
 // Rebuilds the data units of group g that are out, each record from the first four members in service at its rank. The first check unit in service,
-// first_check, lists their keys.
-fn rebuild_units(s: &mut [u8], g: u8, first_check: u8, fills: [u8; 16], table: &[u8; 256])
-    requires { Repairable s.old g × Counts s.old g fills × (table.now ≡ products) × (first_check ≡ first_check (view s.old) g) }
+// check, lists their keys.
+fn rebuild_units(s: &mut [u8], g: u8, check: u8, fills: [u8; 16], table: &[u8; 256])
+    requires { Repairable s.old g × Counts s.old g fills × (table.now ≡ products) × (check ≡ first_check (view s.old) g) }
     ensures { s.new ≡ bytes (units_rebuilt (view s.old) g) }
 {
     let mut p: u8 = 0;
     while p < 4 {
         let u = 4 * g + p;
         if lookup::state(s, u) == 2 {
-            rebuild_unit(s, u, first_check, fills, table);
+            rebuild_unit(s, u, check, fills, table);
         }
         p += 1;
     }
@@ -92,14 +92,14 @@ fn serve_units(s: &mut [u8], g: u8)
     put_in_service(&mut s[checks_at..checks_at + 3]);
 }
 
-// Repairs group g, which is not beyond recovery and has first_check for its first check unit in service. fills are the numbers of keys listed for each
+// Repairs group g, which is not beyond recovery and has check for its first check unit in service. fills are the numbers of keys listed for each
 // data unit.
-fn repair_group(s: &mut [u8], g: u8, first_check: u8, fills: [u8; 16])
-    requires { Repairable s.old g × Counts s.old g fills × (first_check ≡ first_check (view s.old) g) }
+fn repair_group(s: &mut [u8], g: u8, check: u8, fills: [u8; 16])
+    requires { Repairable s.old g × Counts s.old g fills × (check ≡ first_check (view s.old) g) }
     ensures { s.new ≡ bytes (repaired (view s.old) g) }
 {
     let table = group::table();
-    rebuild_units(s, g, first_check, fills, &table);
+    rebuild_units(s, g, check, fills, &table);
     make_units(s, g);
     serve_units(s, g);
 }

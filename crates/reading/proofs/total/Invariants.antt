@@ -1,0 +1,14 @@
+use Prim.Native.Nat.{◌*◌, ◌-◌, ◌≤◌}
+use native.Mathlib.Omega.{arith}
+use lib.ListN.{get_or}
+use borrow.Author.Rules.{rules}
+use Rattle.buffer.specs.LoopTests.{Summing, summing_start, summing_turn, summing_end}
+use Rattle.reading.proofs.total.Given as goal
+
+abbrev pub invariant-loop-u : goal.invariant-loop-u
+invariant-loop-u l =
+    (l.n ≤ 255 * l.u) × Summing (λ i. get_or l.fills i 0) 16 l.u l.n
+
+abbrev pub decreases-loop-u : goal.decreases-loop-u
+decreases-loop-u l =
+    16 - l.u

@@ -1,0 +1,14 @@
+use borrow.Author.Rules.{rules}
+use mathlib.Core.Path.{◌∙◌}
+use mathlib.Core.Logic.{⊎_elim}
+use Prim.Native.Nat.{◌-◌}
+use Rattle.repairing.proofs.Remaking.{Remaking, remaking_start, remaking_unit, remaking_off, remaking_on, remaking_end}
+use Rattle.repairing.proofs.make_units.Given as goal
+
+abbrev pub invariant-loop-j : goal.invariant-loop-j
+invariant-loop-j l =
+    Remaking l.initial.s l.g l.s l.j
+
+abbrev pub decreases-loop-j : goal.decreases-loop-j
+decreases-loop-j l =
+    3 - l.j

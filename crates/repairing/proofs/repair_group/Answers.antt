@@ -1,0 +1,17 @@
+-- `repairing::repair_group` meets its contract.
+use Rattle.repairing.proofs.Repaired.{group_rebuilt, group_made, group_repaired}
+use borrow.Author.Rules.{rules}
+use Rattle.repairing.proofs.repair_group.Goals as goal
+
+pub make_units-requires : goal.make_units-requires
+make_units-requires c =
+    group_rebuilt c.requires.0 c.rebuild_units.ensures
+
+pub serve_units-requires : goal.serve_units-requires
+serve_units-requires c =
+    group_made c.requires.0 c.rebuild_units.ensures c.make_units.ensures
+
+pub returns : goal.returns
+returns c =
+    group_repaired c.requires.0 c.rebuild_units.ensures c.make_units.ensures
+    c.serve_units.ensures
