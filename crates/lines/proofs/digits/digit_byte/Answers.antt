@@ -1,6 +1,5 @@
 -- `digits::digit_byte` meets its contract.
 use mathlib.Core.Path.{sym}
-use borrow.Author.Rules.{rules}
 use Rattle.lines.specs.DigitLaws.{digit_of_number, digit_of_letter}
 use Rattle.lines.proofs.digits.digit_byte.Goals as goal
 

@@ -1,8 +1,6 @@
 -- `digits::number` meets its contract.
-use Prim.Native.Nat.{◌-◌}
 use native.Mathlib.Omega.{arith}
-use borrow.Author.Rules.{rules}
-use Rattle.lines.proofs.Reading.{Reading, reading_start, reading_turn, reading_room, reading_fail, reading_end}
+use Rattle.lines.proofs.Reading.{reading_start, reading_turn, reading_room, reading_fail, reading_end}
 use Rattle.lines.proofs.digits.number.Goals as goal
 
 pub loop-i-init : goal.loop-i-init

@@ -1,7 +1,5 @@
 use Prim.Native.Nat.{◌-◌}
-use native.Mathlib.Omega.{arith}
-use borrow.Author.Rules.{rules}
-use Rattle.lines.proofs.Reading.{Reading, reading_start, reading_turn, reading_room, reading_fail, reading_end}
+use Rattle.lines.proofs.Reading.{Reading}
 use Rattle.lines.proofs.digits.number.Given as goal
 
 abbrev pub invariant-loop-i : goal.invariant-loop-i

@@ -4,7 +4,6 @@ use mathlib.Core.List.{[], ◌∷◌}
 use native.Mathlib.Omega.{arith}
 use lib.ListN.{drop_of_length-le}
 use lib.Seq.{sets-eq}
-use borrow.Author.Rules.{rules}
 use Rattle.lines.specs.Digits.{hex}
 use Rattle.lines.proofs.digits.put_byte.Goals as goal
 

@@ -4,13 +4,12 @@ use mathlib.Core.Path.{◌≡◌, sym, ap, ◌∙◌}
 use mathlib.Core.List.{List, append-nil}
 use native.Mathlib.Omega.{arith}
 use lib.ListN.{length, drop_of_length-le}
-use borrow.Author.Rules.{rules}
 use Rattle.buffer.specs.Bytes.{byte, part, splice}
 use Rattle.buffer.specs.SpliceLaws.{length_part}
 use Rattle.buffer.specs.LoopWrites.{Appending, appending_start, appending_turn, appending_end}
 use Rattle.buffer.specs.Table.{tab}
 use Rattle.buffer.specs.TableLaws.{length_tab}
-use Rattle.lines.specs.Digits.{hex, hex_bytes}
+use Rattle.lines.specs.Digits.{hex_bytes}
 use Rattle.lines.specs.DigitLaws.{length_hex, length_hex_bytes}
 use Rattle.lines.proofs.digits.put_bytes.Invariants.{pairs}
 use Rattle.lines.proofs.digits.put_bytes.Goals as goal

@@ -1,11 +1,8 @@
 -- `digits::read_field` meets its contract.
-use Prim.Native.Nat.{◌-◌}
 use mathlib.Core.Path.{refl}
 use native.Mathlib.Omega.{arith}
-use borrow.Author.Rules.{rules}
 use Rattle.buffer.specs.Bytes.{zeros}
-use Rattle.group.specs.Widths.{field_bytes}
-use Rattle.lines.proofs.Reading.{ok, not_ok, FieldRead, field_read_start, field_read_turn, field_read_fail, field_read_end, two_digits}
+use Rattle.lines.proofs.Reading.{ok, not_ok, field_read_start, field_read_turn, field_read_fail, field_read_end, two_digits}
 use Rattle.lines.proofs.digits.read_field.Goals as goal
 
 pub loop-i-init : goal.loop-i-init

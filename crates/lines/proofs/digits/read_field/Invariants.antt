@@ -1,10 +1,6 @@
 use Prim.Native.Nat.{◌-◌}
-use mathlib.Core.Path.{refl}
-use native.Mathlib.Omega.{arith}
-use borrow.Author.Rules.{rules}
-use Rattle.buffer.specs.Bytes.{zeros}
 use Rattle.group.specs.Widths.{field_bytes}
-use Rattle.lines.proofs.Reading.{ok, not_ok, FieldRead, field_read_start, field_read_turn, field_read_fail, field_read_end, two_digits}
+use Rattle.lines.proofs.Reading.{FieldRead}
 use Rattle.lines.proofs.digits.read_field.Given as goal
 
 abbrev pub invariant-loop-i : goal.invariant-loop-i

@@ -1,6 +1,5 @@
 -- `line::length_of` meets its contract.
 use native.Mathlib.Omega.{arith}
-use borrow.Author.Rules.{rules}
 use borrow.Author.Tests.{eq-eqb, ne_eqb}
 use Rattle.buffer.specs.Choice.{pick}
 use Rattle.lines.specs.Line.{length_of}

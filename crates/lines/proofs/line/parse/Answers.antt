@@ -1,8 +1,6 @@
 -- `line::parse` meets its contract.
 use mathlib.Core.Path.{sym, ◌∙◌}
 use native.Mathlib.Omega.{arith}
-use borrow.Author.Rules.{rules}
-use Rattle.buffer.specs.TestLaws.{is_yes, is_no}
 use Rattle.lines.proofs.Parsing.{Argued, unknown, misfit, bare, room, field_length, no_space, no_number, numbered, no_second_space, no_field, with_field, field_ok, field_not_ok}
 use Rattle.lines.proofs.Reading.{ok, not_ok}
 use Rattle.lines.proofs.line.parse.Goals as goal

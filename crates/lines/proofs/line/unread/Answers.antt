@@ -1,5 +1,4 @@
 -- `line::unread` meets its contract.
-use borrow.Author.Rules.{rules}
 use Rattle.lines.specs.Line.{unreadable}
 use Rattle.lines.proofs.line.unread.Goals as goal
 

@@ -1,5 +1,4 @@
 -- `output::put_record` meets its contract.
-use borrow.Author.Rules.{rules}
 use Rattle.lines.proofs.Writing.{record_line_lem}
 use Rattle.lines.proofs.output.put_record.Goals as goal
 

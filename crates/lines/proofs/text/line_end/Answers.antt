@@ -1,5 +1,5 @@
 -- `text::line_end` meets its contract.
-use Prim.Native.Nat.{ℕ, ◌-◌, ◌≤◌, ◌<◌}
+use Prim.Native.Nat.{ℕ, ◌<◌}
 use mathlib.Core.Path.{◌≡◌, sym}
 use mathlib.Core.Bool.{Bool, false, ◌&&◌}
 use mathlib.Core.List.{List}
@@ -11,7 +11,7 @@ use borrow.Author.Tests.{le-leb, lt-leb, eq-eqb, ne_eqb}
 use Rattle.buffer.specs.TestLaws.{and-true, and_false_first, and_false_second}
 use Rattle.buffer.specs.RangeLaws.{first_none}
 use Rattle.buffer.specs.Bytes.{byte}
-use Rattle.buffer.specs.LoopTests.{Missing, missing_turn, missing_found, missing_end}
+use Rattle.buffer.specs.LoopTests.{missing_turn, missing_found, missing_end}
 use Rattle.lines.specs.Found.{line_end}
 use Rattle.lines.proofs.text.line_end.Goals as goal
 

@@ -1,17 +1,9 @@
-use Prim.Native.Nat.{ℕ, ◌-◌, ◌≤◌, ◌<◌}
-use mathlib.Core.Path.{◌≡◌, sym}
-use mathlib.Core.Bool.{Bool, false, ◌&&◌}
+use Prim.Native.Nat.{ℕ, ◌-◌, ◌≤◌}
+use mathlib.Core.Bool.{Bool, ◌&&◌}
 use mathlib.Core.List.{List}
-use native.Mathlib.Omega.{arith}
 use lib.Dec.{eqb, leb}
-use lib.ListN.{length}
-use borrow.Author.Rules.{rules}
-use borrow.Author.Tests.{le-leb, lt-leb, eq-eqb, ne_eqb}
-use Rattle.buffer.specs.TestLaws.{and-true, and_false_first, and_false_second}
-use Rattle.buffer.specs.RangeLaws.{first_none}
 use Rattle.buffer.specs.Bytes.{byte}
-use Rattle.buffer.specs.LoopTests.{Missing, missing_turn, missing_found, missing_end}
-use Rattle.lines.specs.Found.{line_end}
+use Rattle.buffer.specs.LoopTests.{Missing}
 use Rattle.lines.proofs.text.line_end.Given as goal
 
 -- byte 0A at a place, from a given one on
