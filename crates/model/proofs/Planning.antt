@@ -19,7 +19,7 @@ use Rattle.buffer.specs.Bytes.{zeros}
 use Rattle.group.specs.Widths.{slot_bytes}
 use Rattle.moves.specs.declared.Move.{Move}
 use Rattle.moves.specs.Moves.{no_move, same_moves}
-use Rattle.moves.specs.MovesLaws.{same_moves_lem, moves_same}
+use Rattle.moves.proofs.MovesLaws.{same_moves_lem, moves_same}
 use Rattle.model.specs.Units.{split_pointer, moves}
 use Rattle.model.specs.UnitLaws.{split_below}
 use Rattle.model.specs.Layout.{Store, view, units_in, key_of}
