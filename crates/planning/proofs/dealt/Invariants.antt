@@ -5,7 +5,7 @@ use mathlib.Core.Path.{refl}
 use native.Mathlib.Omega.{arith}
 use Rattle.moves.specs.Drafts.{most_moves}
 use Rattle.model.specs.Layout.{view}
-use Rattle.model.specs.ReadLaws.{fill_le}
+use Rattle.model.proofs.ReadLaws.{fill_le}
 use Rattle.model.specs.StoreLaws.{size_of}
 use Rattle.planning.proofs.Dealing.{Dealing, dealing_start, dealing_turn, dealing_end}
 use Rattle.planning.proofs.dealt.Given as goal
