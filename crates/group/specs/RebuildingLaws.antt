@@ -16,9 +16,9 @@ use Rattle.code.specs.Matrix.{within, different}
 use Rattle.code.specs.Lists.{four, within_four}
 use Rattle.code.specs.Columns.{FourColumns, column_at}
 use Rattle.code.specs.Weights.{weights_of, mixed}
-use Rattle.code.specs.WeightsLaws.{weights_within}
+use Rattle.code.proofs.WeightsLaws.{weights_within}
 use Rattle.code.specs.Bytes.{encode_bytes}
-use Rattle.code.specs.BytesLaws.{bytes_of, rebuilt_bytes_have, bytes_fixed, encode_data}
+use Rattle.code.proofs.BytesLaws.{bytes_of, rebuilt_bytes_have, bytes_fixed, encode_data}
 use Rattle.group.specs.Body.{IsBody, Bodies}
 use Rattle.group.specs.Parity.{body_at, parity}
 use Rattle.group.specs.ParityLaws.{length_at}

@@ -14,7 +14,7 @@ use Rattle.buffer.specs.ByteLaws.{be32_left}
 use Rattle.buffer.specs.Table.{tab}
 use Rattle.buffer.specs.TableLaws.{tab_ext, tab_parts}
 use Rattle.code.specs.Matrix.{within}
-use Rattle.code.specs.WeightsLaws.{weights_within}
+use Rattle.code.proofs.WeightsLaws.{weights_within}
 use Rattle.group.specs.Widths.{key_bytes, keys_bytes, field_bytes, slot_bytes, check_bytes}
 use Rattle.group.specs.Rebuilding.{weighed, rebuilt}
 use Rattle.group.specs.Four.{four_bodies}

@@ -7,8 +7,8 @@ use lib.ListN.{take, drop}
 use lib.Seq.{drop-drop, drop_at}
 use borrow.Author.Tests.{eq-eqb}
 use Rattle.code.specs.Columns.{FourColumns}
-use Rattle.code.specs.Fixing.{fixes}
-use Rattle.code.specs.Rebuilding.{answered, only, returned}
+use Rattle.code.proofs.Fixing.{fixes}
+use Rattle.code.proofs.Rebuilding.{answered, only, returned}
 use Rattle.buffer.specs.Bytes.{bytes32, part}
 use Rattle.buffer.specs.Table.{tab}
 use Rattle.group.specs.Widths.{keys_bytes, body_bytes}
