@@ -20,7 +20,7 @@ use Rattle.code.proofs.Halves.{mixed_bound, encode_mixed}
 use Rattle.group.specs.Body.{IsBody, Bodies, scale_body}
 use Rattle.group.specs.BodyLaws.{length_scale, byte_scale}
 use Rattle.group.specs.Parity.{body_at}
-use Rattle.group.specs.ParityLaws.{sum4_ext, length_sum4, byte_sum4}
+use Rattle.group.proofs.ParityLaws.{sum4_ext, length_sum4, byte_sum4}
 use Rattle.group.specs.Rebuilding.{weighed}
 
 -- byte k of each of the four
