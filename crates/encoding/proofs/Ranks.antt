@@ -13,8 +13,8 @@ use Rattle.buffer.specs.SpliceLaws.{length_part}
 use Rattle.buffer.specs.TableLaws.{Wide}
 use Rattle.group.specs.Widths.{key_bytes, field_bytes, slot_bytes}
 use Rattle.group.specs.Parity.{parity}
-use Rattle.group.specs.ParityLaws.{parity_ext}
-use Rattle.group.specs.CheckRecordLaws.{length_key}
+use Rattle.group.proofs.ParityLaws.{parity_ext}
+use Rattle.group.proofs.CheckRecordLaws.{length_key}
 use Rattle.group.specs.Four.{four_bodies}
 use Rattle.lookup.specs.SlotLaws.{drop_part}
 use Rattle.model.specs.Layout.{view, slot_at}

@@ -7,7 +7,7 @@ use Rattle.std.proofs.Math.Bool.{and-or_distrib_left, and-or_distrib_right}
 use Rattle.buffer.specs.Choice.{pick}
 use Rattle.buffer.specs.ChoiceLaws.{by-pick, pick-false, pick-or}
 use Rattle.group.specs.Widths.{field_bytes, check_bytes}
-use Rattle.group.specs.CheckRecordLaws.{check_record_ext, length_check_record}
+use Rattle.group.proofs.CheckRecordLaws.{check_record_ext, length_check_record}
 use Rattle.model.specs.Layout.{Store, bytes, view}
 use Rattle.model.specs.Places.{Long}
 use Rattle.model.specs.Parts.{with_checks}

@@ -18,8 +18,8 @@ use Rattle.group.specs.Widths.{field_bytes}
 use Rattle.group.specs.Body.{scale_body}
 use Rattle.group.specs.BodyLaws.{length_scale, byte_scale}
 use Rattle.group.specs.Parity.{coefficient, body_at, parity}
-use Rattle.group.specs.ParityLaws.{byte_sum4, length_parity}
-use Rattle.group.specs.ExchangeLaws.{exchanged, parity_exchanged}
+use Rattle.group.proofs.ParityLaws.{byte_sum4, length_parity}
+use Rattle.group.proofs.ExchangeLaws.{exchanged, parity_exchanged}
 use Rattle.group.specs.Four.{four_bodies}
 use Rattle.group.specs.ScaledRow.{scaled_row}
 use Rattle.group.specs.FirstSums.{first_sum}

@@ -4,16 +4,10 @@ pub mod Body
 pub mod BodyLaws
 pub mod Four
 pub mod Parity
-pub mod ParityLaws
 pub mod CutLaws
-pub mod ExchangeLaws
 pub mod ScaledRow
 pub mod FirstSums
 pub mod CheckRecord
-pub mod CheckRecordLaws
-pub mod FollowLaws
 pub mod Members
 pub mod MembersLaws
 pub mod Rebuilding
-pub mod WeighedLaws
-pub mod RebuildingLaws

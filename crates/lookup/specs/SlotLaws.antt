@@ -14,11 +14,11 @@ use Rattle.buffer.specs.ByteLaws.{be32_left}
 use Rattle.buffer.specs.Table.{tab}
 use Rattle.buffer.specs.TableLaws.{tab_ext, tab_parts}
 use Rattle.code.specs.Matrix.{within}
-use Rattle.code.specs.WeightsLaws.{weights_within}
+use Rattle.code.proofs.WeightsLaws.{weights_within}
 use Rattle.group.specs.Widths.{key_bytes, keys_bytes, field_bytes, slot_bytes, check_bytes}
 use Rattle.group.specs.Rebuilding.{weighed, rebuilt}
 use Rattle.group.specs.Four.{four_bodies}
-use Rattle.group.specs.WeighedLaws.{length_weighed, weighed_ext}
+use Rattle.group.proofs.WeighedLaws.{length_weighed, weighed_ext}
 use Rattle.model.specs.Layout.{view, slot_at, check_at, key_of}
 use Rattle.model.specs.Reads.{serves_in, holds, first_check, listed_key, listed_fill, missing_in, whole_slot, beyond_in}
 use Rattle.model.proofs.ReadLaws.{own_key, whole_own}

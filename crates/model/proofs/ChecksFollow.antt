@@ -19,8 +19,8 @@ use Rattle.group.specs.Widths.{key_bytes, field_bytes, keys_bytes, slot_bytes}
 use Rattle.group.specs.Body.{add_body, scale_body}
 use Rattle.group.specs.BodyLaws.{add_assoc, add_self, add_zeros, add_back, scale_sum, scale_zeros}
 use Rattle.group.specs.Parity.{coefficient, adjusted}
-use Rattle.group.specs.ParityLaws.{coefficient_bound, parity_ext, parity_error}
-use Rattle.group.specs.CheckRecordLaws.{length_key, length_body, patched_parity, patched_listed}
+use Rattle.group.proofs.ParityLaws.{coefficient_bound, parity_ext, parity_error}
+use Rattle.group.proofs.CheckRecordLaws.{length_key, length_body, patched_parity, patched_listed}
 use Rattle.model.specs.Layout.{Store}
 use Rattle.model.specs.LayoutLaws.{Shaped, Same}
 use Rattle.model.specs.Changes.{written}

@@ -7,15 +7,15 @@ use lib.ListN.{take, drop}
 use lib.Seq.{drop-drop, drop_at}
 use borrow.Author.Tests.{eq-eqb}
 use Rattle.code.specs.Columns.{FourColumns}
-use Rattle.code.specs.Fixing.{fixes}
-use Rattle.code.specs.Rebuilding.{answered, only, returned}
+use Rattle.code.proofs.Fixing.{fixes}
+use Rattle.code.proofs.Rebuilding.{answered, only, returned}
 use Rattle.buffer.specs.Bytes.{bytes32, part}
 use Rattle.buffer.specs.Table.{tab}
 use Rattle.group.specs.Widths.{keys_bytes, body_bytes}
 use Rattle.group.specs.Parity.{body_at, parity}
-use Rattle.group.specs.ParityLaws.{at_ext}
+use Rattle.group.proofs.ParityLaws.{at_ext}
 use Rattle.group.specs.CutLaws.{take_at_column, drop_at_column}
-use Rattle.group.specs.RebuildingLaws.{bodies_fixed, rebuilt_from_is, rebuilt_from_has, rebuilt_from_back}
+use Rattle.group.proofs.RebuildingLaws.{bodies_fixed, rebuilt_from_is, rebuilt_from_has, rebuilt_from_back}
 use Rattle.model.specs.Layout.{Store, view, store_bytes}
 use Rattle.model.specs.Field.{body_of}
 use Rattle.model.proofs.FieldLaws.{stamp_bytes_lem}

@@ -17,7 +17,7 @@ use Rattle.buffer.specs.Bytes.{byte, zeros, part}
 use Rattle.buffer.specs.ByteLaws.{length_zeros}
 use Rattle.buffer.specs.SpliceLaws.{length_part, part_part}
 use Rattle.group.specs.Widths.{key_bytes, field_bytes, slot_bytes}
-use Rattle.group.specs.CheckRecordLaws.{length_body}
+use Rattle.group.proofs.CheckRecordLaws.{length_body}
 use Rattle.model.specs.UnitLaws.{unit_below}
 use Rattle.model.specs.Layout.{Store, view, slot_at, units_in}
 use Rattle.model.specs.LayoutLaws.{view_shaped}

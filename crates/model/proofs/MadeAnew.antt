@@ -8,7 +8,7 @@ use lib.Dec.{eqb, ltb}
 use borrow.Author.Tests.{eq-eqb, lt-ltb}
 use Rattle.buffer.specs.ChoiceLaws.{pick_true}
 use Rattle.buffer.specs.TestLaws.{and-true}
-use Rattle.group.specs.CheckRecordLaws.{check_record_ext}
+use Rattle.group.proofs.CheckRecordLaws.{check_record_ext}
 use Rattle.model.specs.Units.{touched}
 use Rattle.model.specs.Layout.{Store, view, units_in, level_in}
 use Rattle.model.specs.LayoutLaws.{Same}

@@ -12,7 +12,7 @@ use Rattle.buffer.specs.Choice.{pick}
 use Rattle.buffer.specs.ChoiceLaws.{by-test, by-pick, pick-false}
 use Rattle.buffer.specs.TestLaws.{and_second, and_false_second}
 use Rattle.group.specs.Widths.{field_bytes, check_bytes}
-use Rattle.group.specs.CheckRecordLaws.{length_check_record}
+use Rattle.group.proofs.CheckRecordLaws.{length_check_record}
 use Rattle.model.specs.Layout.{Store, view, units_in, level_in}
 use Rattle.model.specs.LayoutLaws.{Shaped, Same}
 use Rattle.model.specs.Reads.{state_in}

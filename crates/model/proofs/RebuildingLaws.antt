@@ -10,7 +10,7 @@ use Rattle.buffer.specs.ChoiceLaws.{by-test, pick_true, pick-ext}
 use Rattle.buffer.specs.Bytes.{part}
 use Rattle.group.specs.Widths.{key_bytes, keys_bytes}
 use Rattle.group.specs.MembersLaws.{serves_data, serves_ext}
-use Rattle.group.specs.RebuildingLaws.{rebuilt_ext}
+use Rattle.group.proofs.RebuildingLaws.{rebuilt_ext}
 use Rattle.model.specs.Layout.{Store}
 use Rattle.model.specs.Reads.{missing_in, serves_in, holds, whole_slot, keys_lost_in, beyond_in}
 use Rattle.model.proofs.LossLaws.{missing_out, keys_kept, unit_keys_kept, four_serve, rank_kept, whole_kept}

@@ -19,7 +19,7 @@ use Rattle.group.specs.Body.{IsBody}
 use Rattle.group.specs.Members.{first_four}
 use Rattle.group.specs.MembersLaws.{first_four_lem, serves_data}
 use Rattle.group.specs.Rebuilding.{rebuilt}
-use Rattle.group.specs.RebuildingLaws.{rebuilt_is, rebuilt_has, rebuilt_own}
+use Rattle.group.proofs.RebuildingLaws.{rebuilt_is, rebuilt_has, rebuilt_own}
 use Rattle.model.specs.Layout.{Store, view, slot_at, check_at, key_of}
 use Rattle.model.specs.Reads.{listed_key, listed_fill, missing_in, serves_in, holds, whole_slot, rebuildable_in, keys_lost_in}
 use Rattle.model.proofs.ReadLaws.{listed_some, own_bytes, whole_own}

@@ -12,7 +12,7 @@ use Rattle.group.specs.Widths.{key_bytes, field_bytes, slot_bytes, check_bytes}
 use Rattle.group.specs.Body.{add_body}
 use Rattle.group.specs.BodyLaws.{length_add}
 use Rattle.group.specs.CheckRecord.{patched}
-use Rattle.group.specs.CheckRecordLaws.{length_key, length_body, length_patched}
+use Rattle.group.proofs.CheckRecordLaws.{length_key, length_body, length_patched}
 use Rattle.model.specs.Layout.{Store, bytes, view, slot_of}
 use Rattle.model.specs.LayoutLaws.{Shaped, Same, bytes_ext, view_bytes}
 use Rattle.model.specs.Changes.{written}

@@ -10,7 +10,7 @@ use Rattle.buffer.specs.Choice.{pick}
 use Rattle.buffer.specs.ChoiceLaws.{pick_true, pick-ext}
 use Rattle.buffer.specs.TestLaws.{and_first}
 use Rattle.group.specs.CheckRecord.{check_record}
-use Rattle.group.specs.CheckRecordLaws.{check_record_ext}
+use Rattle.group.proofs.CheckRecordLaws.{check_record_ext}
 use Rattle.model.specs.Layout.{Store, bytes, view}
 use Rattle.model.specs.Parts.{with_slots, with_checks}
 use Rattle.model.specs.LayoutLaws.{Shaped, Same, bytes_ext, view_shaped, view_bytes}

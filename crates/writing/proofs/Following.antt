@@ -16,7 +16,7 @@ use Rattle.buffer.specs.Bytes.{byte, part, splice}
 use Rattle.group.specs.Widths.{key_bytes, field_bytes, slot_bytes, check_bytes}
 use Rattle.group.specs.Body.{add_body}
 use Rattle.group.specs.CheckRecord.{patched}
-use Rattle.group.specs.CheckRecordLaws.{length_key, length_patched}
+use Rattle.group.proofs.CheckRecordLaws.{length_key, length_patched}
 use Rattle.model.specs.Layout.{Store, bytes, view, slot_at, check_at}
 use Rattle.model.specs.Places.{SlotIn, data_units, check_units}
 use Rattle.model.specs.Parts.{with_slots, with_checks}

@@ -2,7 +2,7 @@
 use mathlib.Core.Path.{◌∙◌, sym, subst}
 use Prim.Native.Nat.{ℕ, ◌<◌}
 use native.Mathlib.Omega.{arith}
-use Rattle.code.specs.WeightsLaws.{combination_bound}
+use Rattle.code.proofs.WeightsLaws.{combination_bound}
 use Rattle.code.proofs.Checks.{each_within}
 use Rattle.code.proofs.Sums.{xor4, combination_is}
 use borrow.Author.Rules.{rules}

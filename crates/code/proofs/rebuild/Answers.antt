@@ -4,7 +4,7 @@ use mathlib.Core.List.{List}
 use Prim.Native.Nat.{ℕ}
 use borrow.Author.Tests.{not-true, not-false}
 use Rattle.code.specs.Matrix.{Rebuilds}
-use Rattle.code.specs.Rebuilding.{refuses, grants}
+use Rattle.code.proofs.Rebuilding.{refuses, grants}
 use borrow.Author.Rules.{rules}
 use Rattle.code.proofs.rebuild.Goals as goal
 

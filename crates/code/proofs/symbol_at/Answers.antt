@@ -3,7 +3,7 @@ use mathlib.Core.Path.{◌∙◌, ap}
 use mathlib.Core.List.{List}
 use Prim.Native.Nat.{ℕ}
 use Rattle.code.specs.Weights.{combination}
-use Rattle.code.specs.Rebuilding.{accepted_within, accepted_symbols}
+use Rattle.code.proofs.Rebuilding.{accepted_within, accepted_symbols}
 use Rattle.code.proofs.symbol_at.Goals as goal
 
 pub weights-requires : goal.weights-requires

@@ -5,7 +5,7 @@ use Prim.Native.Nat.{ℕ}
 use native.Mathlib.Omega.{arith}
 use Rattle.code.specs.Matrix.{within}
 use Rattle.code.specs.Weights.{weights_of}
-use Rattle.code.specs.WeightsLaws.{weights_within}
+use Rattle.code.proofs.WeightsLaws.{weights_within}
 use Rattle.code.proofs.Checks.{each_within}
 use Rattle.code.proofs.Sums.{four_path}
 use borrow.Author.Rules.{rules}

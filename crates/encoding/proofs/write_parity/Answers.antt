@@ -8,7 +8,7 @@ use lib.Bits.{bit_xor}
 use lib.ListN.{drop}
 use Rattle.buffer.specs.Bytes.{splice}
 use Rattle.group.specs.Widths.{key_bytes, field_bytes}
-use Rattle.group.specs.ExchangeLaws.{exchanged, parity_exchanged}
+use Rattle.group.proofs.ExchangeLaws.{exchanged, parity_exchanged}
 use Rattle.model.specs.Layout.{view}
 use Rattle.encoding.proofs.Ranks.{slot_field, exchanged_low, exchanged_before, parity_four}
 use Rattle.encoding.proofs.write_parity.Goals as goal

@@ -8,7 +8,7 @@ use borrow.Author.Rules.{rules}
 use Rattle.buffer.specs.Bytes.{byte}
 use Rattle.buffer.specs.LoopWrites.{Filling, filling_start, filling_turn, filling_read, filling_end}
 use Rattle.code.specs.Scaling.{scale}
-use Rattle.group.specs.ParityLaws.{add_scaled_entries}
+use Rattle.group.proofs.ParityLaws.{add_scaled_entries}
 use Rattle.group.proofs.add_scaled.Goals as goal
 
 pub loop-i-init : goal.loop-i-init

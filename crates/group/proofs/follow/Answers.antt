@@ -6,7 +6,7 @@ use borrow.Author.Rules.{rules}
 use Rattle.buffer.specs.Bytes.{part, splice}
 use Rattle.group.specs.Widths.{field_bytes}
 use Rattle.group.specs.Body.{add_body, scale_body}
-use Rattle.group.specs.FollowLaws.{patched_steps}
+use Rattle.group.proofs.FollowLaws.{patched_steps}
 use Rattle.group.proofs.follow.Goals as goal
 
 pub add_scaled-requires : goal.add_scaled-requires

@@ -10,7 +10,7 @@ use Rattle.buffer.specs.RangeLaws.{below-four}
 use Rattle.buffer.specs.LoopWrites.{Filling, filling_start, filling_turn, filling_end}
 use Rattle.code.specs.Weights.{mixed}
 use Rattle.group.specs.Four.{four_bodies}
-use Rattle.group.specs.WeighedLaws.{weighed_entries}
+use Rattle.group.proofs.WeighedLaws.{weighed_entries}
 use Rattle.group.proofs.rebuild_body.Goals as goal
 
 pub loop-i-init : goal.loop-i-init

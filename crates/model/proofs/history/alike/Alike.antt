@@ -17,7 +17,7 @@ use Rattle.buffer.specs.RangeLaws.{first_ext, count_ext}
 use Rattle.buffer.specs.Bytes.{byte, zeros, part}
 use Rattle.buffer.specs.ByteLaws.{length_zeros}
 use Rattle.group.specs.Widths.{key_bytes, keys_bytes, slot_bytes, check_bytes}
-use Rattle.group.specs.CheckRecordLaws.{listed_first}
+use Rattle.group.proofs.CheckRecordLaws.{listed_first}
 use Rattle.group.specs.Members.{outs}
 use Rattle.model.specs.Units.{unit_of}
 use Rattle.model.specs.Layout.{Store, bytes, view, units_in, level_in, key_of}

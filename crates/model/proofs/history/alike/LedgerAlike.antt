@@ -18,7 +18,7 @@ use Rattle.buffer.specs.Table.{tab}
 use Rattle.buffer.specs.TableLaws.{tab_ext, tab_parts}
 use Rattle.group.specs.Widths.{key_bytes, field_bytes, keys_bytes, slot_bytes, check_bytes}
 use Rattle.group.specs.Parity.{parity}
-use Rattle.group.specs.CheckRecordLaws.{length_key, listed_first}
+use Rattle.group.proofs.CheckRecordLaws.{length_key, listed_first}
 use Rattle.model.specs.Layout.{Store, view, store_bytes, slot_at, check_at, units_in, level_in, key_of, front_of}
 use Rattle.model.specs.LayoutLaws.{Shaped, view_shaped, key_first}
 use Rattle.model.specs.Reads.{fill_in, listed_key, listed_fill}

@@ -18,9 +18,9 @@ use Rattle.group.specs.Widths.{key_bytes, field_bytes, keys_bytes}
 use Rattle.group.specs.Members.{first_four}
 use Rattle.group.specs.MembersLaws.{Members, first_four_lem}
 use Rattle.group.specs.Rebuilding.{rebuilt}
-use Rattle.group.specs.WeighedLaws.{length_weighed}
+use Rattle.group.proofs.WeighedLaws.{length_weighed}
 use Rattle.group.specs.CheckRecord.{check_record}
-use Rattle.group.specs.CheckRecordLaws.{length_body, length_check_record, check_record_keys}
+use Rattle.group.proofs.CheckRecordLaws.{length_body, length_check_record, check_record_keys}
 use Rattle.model.specs.Layout.{Store, key_of}
 use Rattle.model.specs.LayoutLaws.{Shaped}
 use Rattle.model.specs.Reads.{first_check, listed_key, missing_in, serves_in, holds, whole_slot, rebuildable_in, keys_lost_in, beyond_in}

@@ -14,7 +14,7 @@ use Rattle.buffer.specs.Table.{upd}
 use Rattle.group.specs.Widths.{key_bytes, field_bytes, slot_bytes, check_bytes}
 use Rattle.group.specs.Body.{add_body}
 use Rattle.group.specs.CheckRecord.{patched}
-use Rattle.group.specs.CheckRecordLaws.{length_key, patched_keys}
+use Rattle.group.proofs.CheckRecordLaws.{length_key, patched_keys}
 use Rattle.model.specs.Layout.{Store}
 use Rattle.model.specs.Changes.{written, erased, unit_lost}
 use Rattle.model.specs.ChangeLaws.{length_follow}

@@ -13,7 +13,7 @@ use Rattle.group.specs.Widths.{key_bytes, field_bytes, keys_bytes}
 use Rattle.group.specs.MembersLaws.{serves_data, serves_check}
 use Rattle.group.specs.Parity.{parity}
 use Rattle.group.specs.Rebuilding.{rebuilt}
-use Rattle.group.specs.RebuildingLaws.{rebuilds}
+use Rattle.group.proofs.RebuildingLaws.{rebuilds}
 use Rattle.model.specs.Layout.{Store, view}
 use Rattle.model.specs.LayoutLaws.{Same}
 use Rattle.model.specs.Reads.{listed_key, missing_in, serves_in, holds, whole_slot}

@@ -13,9 +13,9 @@ use Rattle.buffer.specs.TableLaws.{Wide, tab_ext, length_tab, part_chunk, upd-ma
 use Rattle.group.specs.Widths.{key_bytes, field_bytes, slot_bytes, keys_bytes, check_bytes}
 use Rattle.group.specs.Body.{add_body}
 use Rattle.group.specs.Parity.{parity}
-use Rattle.group.specs.ParityLaws.{parity_ext}
+use Rattle.group.proofs.ParityLaws.{parity_ext}
 use Rattle.group.specs.CheckRecord.{check_record, patched}
-use Rattle.group.specs.CheckRecordLaws.{length_check_record, check_record_zeros, patched_upd}
+use Rattle.group.proofs.CheckRecordLaws.{length_check_record, check_record_zeros, patched_upd}
 use Rattle.model.specs.Layout.{key_of}
 use Rattle.model.specs.history.Ledger.{Rec, empty}
 use Rattle.model.specs.history.Picture.{record_bytes, check_over}

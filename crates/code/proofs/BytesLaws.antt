@@ -8,11 +8,11 @@ use Rattle.field.specs.ByteLaws.{scale_one, scale_zero}
 use Rattle.code.specs.Matrix.{matrix, entry, encode, within, different}
 use Rattle.code.specs.Columns.{column}
 use Rattle.code.specs.Lists.{four, each_four, within_at, get_d_map}
-use Rattle.code.specs.Fixing.{fixes}
+use Rattle.code.proofs.Fixing.{fixes}
 use Rattle.code.specs.Weights.{weights_of, mixed, data_of}
-use Rattle.code.specs.WeightsLaws.{weights_within, rebuilt_has}
+use Rattle.code.proofs.WeightsLaws.{weights_within, rebuilt_has}
 use Rattle.code.specs.Bytes.{encode_bytes}
-use Rattle.code.specs.Halves.{Half, high, low, encode_mixed, encode_half}
+use Rattle.code.proofs.Halves.{Half, high, low, encode_mixed, encode_half}
 
 -- the data bytes rebuilt from the bytes ys at the columns cs
 abbrev pub bytes_of : List ℕ → List ℕ → List ℕ

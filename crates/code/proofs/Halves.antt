@@ -16,7 +16,7 @@ use Rattle.code.specs.Columns.{column}
 use Rattle.code.specs.MatrixLaws.{column_within}
 use Rattle.code.specs.Lists.{four, within_head, within_tail, within_cons, within_map}
 use Rattle.code.specs.Weights.{combination, mixed}
-use Rattle.code.specs.WeightsLaws.{combination_bound}
+use Rattle.code.proofs.WeightsLaws.{combination_bound}
 use Rattle.code.specs.Bytes.{encode_bytes}
 
 -- ---- sums of weighted bytes

@@ -9,7 +9,7 @@ use Rattle.code.specs.Matrix.{matrix, entry}
 use Rattle.group.specs.Body.{add_body, scale_body}
 use Rattle.group.specs.BodyLaws.{add_comm, add_assoc}
 use Rattle.group.specs.Parity.{coefficient, sum4, body_at, parity}
-use Rattle.group.specs.ParityLaws.{sum4_ext}
+use Rattle.group.proofs.ParityLaws.{sum4_ext}
 
 -- the places exchanged, as check place j wants them
 abbrev pub exchanged : ℕ → ℕ → ℕ

@@ -16,11 +16,11 @@ use Rattle.code.specs.MatrixLaws.{column_within}
 use Rattle.code.specs.Lists.{four, within_four}
 use Rattle.code.specs.Weights.{mixed}
 use Rattle.code.specs.Bytes.{encode_bytes}
-use Rattle.code.specs.Halves.{mixed_bound, encode_mixed}
+use Rattle.code.proofs.Halves.{mixed_bound, encode_mixed}
 use Rattle.group.specs.Body.{IsBody, Bodies, scale_body}
 use Rattle.group.specs.BodyLaws.{length_scale, byte_scale}
 use Rattle.group.specs.Parity.{body_at}
-use Rattle.group.specs.ParityLaws.{sum4_ext, length_sum4, byte_sum4}
+use Rattle.group.proofs.ParityLaws.{sum4_ext, length_sum4, byte_sum4}
 use Rattle.group.specs.Rebuilding.{weighed}
 
 -- byte k of each of the four

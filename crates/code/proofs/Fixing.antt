@@ -13,7 +13,7 @@ use Rattle.code.specs.Lists.{four, all_four, within_head, within_tail}
 use Rattle.code.specs.Symbols.{numbers, symbols, numbers_symbols, length_symbols}
 use Rattle.code.specs.Point.{point, places}
 use Rattle.code.specs.PointLaws.{distinct_points, distinct_places}
-use Rattle.code.specs.Rule.{encode_is}
+use Rattle.code.proofs.Rule.{encode_is}
 
 encode_symbols : (ds : List Symbol) → length ds ≡ 4 → (c : ℕ) → c < 17 → (lagrange gf16 [] places ds (point c)).0 ≡ encode (numbers ds) c
 encode_symbols = four (λ ds. (c : ℕ) → c < 17 → (lagrange gf16 [] places ds (point c)).0 ≡ encode (numbers ds) c) encode_is

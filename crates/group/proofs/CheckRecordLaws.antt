@@ -17,7 +17,7 @@ use Rattle.buffer.specs.TableLaws.{Wide, length_tab, tab_ext, tab_parts, tab_zer
 use Rattle.group.specs.Widths.{key_bytes, keys_bytes}
 use Rattle.group.specs.Body.{add_body}
 use Rattle.group.specs.Parity.{parity, adjusted}
-use Rattle.group.specs.ParityLaws.{parity_ext, length_parity, parity_zeros, length_adjusted, parity_upd}
+use Rattle.group.proofs.ParityLaws.{parity_ext, length_parity, parity_zeros, length_adjusted, parity_upd}
 use Rattle.group.specs.CheckRecord.{check_record, patched}
 
 -- ---- the two parts of a slot

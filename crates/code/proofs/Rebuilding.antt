@@ -7,10 +7,10 @@ use Rattle.code.specs.Matrix.{encode, within, different, accepted, Rebuilds}
 use Rattle.code.specs.Lists.{both_first, both_second, within_map, get_d_map}
 use Rattle.code.specs.Columns.{column, FourColumns}
 use Rattle.code.specs.MatrixLaws.{column_within}
-use Rattle.code.specs.Fixing.{fixes}
+use Rattle.code.proofs.Fixing.{fixes}
 use Rattle.code.specs.Weights.{data_of}
-use Rattle.code.specs.WeightsLaws.{combination_bound, data_within, rebuilt_has}
-use Rattle.code.specs.Halves.{encode_column}
+use Rattle.code.proofs.WeightsLaws.{combination_bound, data_within, rebuilt_has}
+use Rattle.code.proofs.Halves.{encode_column}
 
 -- what is accepted
 pub accepted_within : (cs ys : List ℕ) → accepted cs ys ≡ true → within 16 cs ≡ true

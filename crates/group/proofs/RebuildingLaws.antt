@@ -16,13 +16,13 @@ use Rattle.code.specs.Matrix.{within, different}
 use Rattle.code.specs.Lists.{four, within_four}
 use Rattle.code.specs.Columns.{FourColumns, column_at}
 use Rattle.code.specs.Weights.{weights_of, mixed}
-use Rattle.code.specs.WeightsLaws.{weights_within}
+use Rattle.code.proofs.WeightsLaws.{weights_within}
 use Rattle.code.specs.Bytes.{encode_bytes}
-use Rattle.code.specs.BytesLaws.{bytes_of, rebuilt_bytes_have, bytes_fixed, encode_data}
+use Rattle.code.proofs.BytesLaws.{bytes_of, rebuilt_bytes_have, bytes_fixed, encode_data}
 use Rattle.group.specs.Body.{IsBody, Bodies}
 use Rattle.group.specs.Parity.{body_at, parity}
-use Rattle.group.specs.ParityLaws.{length_at}
-use Rattle.group.specs.WeighedLaws.{across, across_at, across_within, byte_weighed, weighed_is, weighed_ext, byte_at, is_at}
+use Rattle.group.proofs.ParityLaws.{length_at}
+use Rattle.group.proofs.WeighedLaws.{across, across_at, across_within, byte_weighed, weighed_is, weighed_ext, byte_at, is_at}
 use Rattle.group.specs.Members.{first_four}
 use Rattle.group.specs.MembersLaws.{Members, four_ext, first_four_lem, data_chosen}
 use Rattle.group.specs.Rebuilding.{weighed, rebuilt_from, rebuilt}

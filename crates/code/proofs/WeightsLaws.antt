@@ -16,7 +16,7 @@ use Rattle.code.specs.Lists.{four, each_four, within_head, within_tail, within_f
 use Rattle.code.specs.Symbols.{numbers, symbol}
 use Rattle.code.specs.Point.{point, places}
 use Rattle.code.specs.PointLaws.{distinct_points, distinct_places}
-use Rattle.code.specs.Rule.{encode_is}
+use Rattle.code.proofs.Rule.{encode_is}
 use Rattle.code.specs.Weights.{weight_of, weights_of, combination, data_of}
 
 -- ---- weights and sums of products are symbols

@@ -10,7 +10,7 @@ use Rattle.group.specs.Widths.{key_bytes, keys_bytes}
 use Rattle.group.specs.Body.{add_body, scale_body}
 use Rattle.group.specs.Parity.{coefficient, adjusted}
 use Rattle.group.specs.CheckRecord.{patched}
-use Rattle.group.specs.CheckRecordLaws.{length_keyed}
+use Rattle.group.proofs.CheckRecordLaws.{length_keyed}
 
 module _ (n j p : ℕ) (p4 : p < 4) (key change old : List ℕ) (k : length key ≡ key_bytes) (e : length old ≡ keys_bytes + n) where
   keyed : List ℕ
