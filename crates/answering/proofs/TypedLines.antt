@@ -9,7 +9,6 @@ use Rattle.buffer.specs.ChoiceLaws.{by-test}
 use Rattle.buffer.specs.Bytes.{byte}
 use Rattle.buffer.specs.ByteLaws.{byte_past, byte_zeros}
 use Rattle.group.specs.Widths.{field_bytes}
-use Rattle.model.specs.history.Table.{number}
 use Rattle.model.specs.history.Typed.{Bytes, Typed}
 use Rattle.lines.specs.Line.{Line, unreadable, digits_of, Proper, readable, parsed}
 use Rattle.lines.specs.LineLaws.{parsed_proper, parsed_refused}

@@ -4,7 +4,6 @@ use Rattle.std.specs.Prelude.{ℕ, zero, suc, ◌≡◌, refl, take, drop}
 use Rattle.std.proofs.Common.{ap}
 use mathlib.Core.List.{List, [], ◌∷◌, map, zip_with}
 use Rattle.std.specs.Int.Bits.{bit_xor}
-use Rattle.code.specs.Matrix.{entry}
 use Rattle.code.specs.Scaling.{scale}
 use Rattle.group.specs.Body.{add_body, scale_body}
 use Rattle.group.specs.BodyLaws.{add_comm}

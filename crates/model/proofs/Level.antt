@@ -1,5 +1,5 @@
 -- The level takes hold everywhere: in every sound store, and in histories by the raises granted since the layout.
-use Prim.Native.Nat.{ℕ, suc, ◌+◌, ◌*◌, ◌-◌, ◌/◌, ◌%◌, ◌<◌}
+use Prim.Native.Nat.{ℕ, suc, ◌+◌, ◌*◌, ◌/◌, ◌%◌, ◌<◌}
 use mathlib.Core.Path.{◌≡◌, refl, sym, ap, ◌∙◌}
 use mathlib.Core.List.{List, [], ◌∷◌}
 use mathlib.Core.Bool.{Bool, true}
@@ -14,7 +14,6 @@ use Rattle.model.specs.Layout.{Store, view, store_bytes, units_in, level_in}
 use Rattle.model.specs.Reads.{checks_in}
 use Rattle.model.specs.Sound.{check_placed, sound}
 use Rattle.model.proofs.SoundSays.{units_few, level_few, by-fitting, check_states}
-use Rattle.model.specs.Changes.{raised}
 use Rattle.model.specs.Numbers.{Call, teach, correct, erase, read, read_in_place, list, unit_out, repair, grow, shrink, raise}
 use Rattle.model.specs.Perform.{lay_out_number, lay_out}
 use Rattle.model.specs.Level.{EachGroupHas, LevelEverywhere}

@@ -1,7 +1,7 @@
 -- Laws of losses, for those who read or rebuild: which records are missing; what a group that is not beyond recovery has, a check unit that lists the
 -- keys of each unit that is out and four members in service at each rank; the first rank decides for all (`first_rank`); with no data unit out nothing
 -- is beyond recovery (`none_beyond`).
-use Prim.Native.Nat.{ℕ, ◌+◌, ◌*◌, ◌-◌, ◌/◌, ◌%◌, ◌≤◌, ◌<◌}
+use Prim.Native.Nat.{ℕ, ◌+◌, ◌*◌, ◌/◌, ◌%◌, ◌≤◌, ◌<◌}
 use Rattle.std.specs.Prelude.{◌≡◌, ◌≢◌, true, false, ◌||◌}
 use Rattle.std.proofs.Math.Path.{ap}
 use Rattle.std.proofs.Common.{◌∙◌}

@@ -5,7 +5,7 @@ use Rattle.std.proofs.Math.Path.{ap}
 use Rattle.buffer.specs.ChoiceLaws.{pick_true, pick-false}
 use Rattle.model.specs.Layout.{Store, view}
 use Rattle.model.specs.Sound.{sound}
-use Rattle.model.specs.Numbers.{Call, teach, correct, erase, unit_out, repair, grow, shrink, raise, first_of, refusals_in, number_in}
+use Rattle.model.specs.Numbers.{Call, first_of, refusals_in, number_in}
 use Rattle.model.specs.RowLaws.{Free, first_free, numbered_in}
 use Rattle.model.specs.Perform.{plain, reply, outcome, perform, answer_in, after_in, granted_in}
 

@@ -8,7 +8,7 @@ use lib.ListN.{get_or}
 use borrow.Author.Tests.{ltb-false, not-false}
 use Rattle.model.specs.Layout.{view}
 use Rattle.model.specs.Reads.{first_check}
-use Rattle.model.specs.Numbers.{Call, repair, first_of, refusals_in}
+use Rattle.model.specs.Numbers.{Call, first_of, refusals_in}
 use Rattle.model.specs.PerformLaws.{none_holds}
 use Rattle.soundness.specs.Survey.{Surveyed}
 use Rattle.soundness.specs.SurveyLaws.{found_sized, group_counts, first_check_read}

@@ -23,7 +23,7 @@ use Rattle.model.specs.Reads.{fill_in, outs_in, units_out_in}
 use Rattle.model.proofs.ReadLaws.{units_out_groups}
 use Rattle.model.specs.Sound.{sound}
 use Rattle.model.specs.SoundLaws.{same_true}
-use Rattle.model.specs.Numbers.{Call, grow, shrink, raise, first_of, refusals_in}
+use Rattle.model.specs.Numbers.{Call, first_of, refusals_in}
 use Rattle.model.specs.RowLaws.{row_pair, first_free}
 use Rattle.model.specs.PerformLaws.{none_holds}
 use Rattle.model.proofs.SoundSays.{zeroed_says, clauses}

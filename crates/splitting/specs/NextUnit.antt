@@ -6,7 +6,7 @@ use Rattle.buffer.specs.Bytes.{byte}
 use Rattle.model.specs.Layout.{view, units_in}
 use Rattle.model.specs.StoreLaws.{units_of}
 use Rattle.model.specs.Sound.{sound}
-use Rattle.model.specs.Numbers.{Call, grow, refusals_in, number_in}
+use Rattle.model.specs.Numbers.{Call, refusals_in, number_in}
 use Rattle.model.specs.PerformLaws.{none_holds}
 use Rattle.lookup.specs.Sized.{Sized}
 use Rattle.lookup.specs.SizedLaws.{sound_sized}

@@ -13,7 +13,7 @@ use Rattle.group.specs.Widths.{field_bytes}
 use Rattle.model.specs.Layout.{bytes, view, slot_of}
 use Rattle.model.specs.Places.{SlotIn}
 use Rattle.model.specs.Reads.{home_in, fill_in, rank_in}
-use Rattle.model.specs.Numbers.{Call, teach, correct, erase, unit_out, first_of, refusals_in}
+use Rattle.model.specs.Numbers.{Call, first_of, refusals_in}
 use Rattle.model.specs.Changes.{written, erased, unit_lost}
 use Rattle.model.specs.Perform.{plain, outcome, perform, granted_in}
 use Rattle.model.specs.PerformLaws.{Plain, of_teach, of_correct, of_erase, refused, granted, none_holds}

@@ -1,7 +1,6 @@
 -- `answer` meets its contract.
 use mathlib.Core.Path.{◌≡◌, refl, ap, ◌∙◌}
 use native.Mathlib.Omega.{arith}
-use borrow.Author.Rules.{rules}
 use Rattle.buffer.specs.Choice.{pick}
 use Rattle.lines.specs.Line.{Line}
 use Rattle.model.specs.Perform.{reply, granted_in, answer_in, perform}

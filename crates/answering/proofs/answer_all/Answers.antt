@@ -1,11 +1,11 @@
 -- `answer_all` meets its contract.
-use Prim.Native.Nat.{◌-◌, ◌≤◌}
-use mathlib.Core.Path.{◌≡◌, sym, ◌∙◌}
+use Prim.Native.Nat.{◌≤◌}
+use mathlib.Core.Path.{sym, ◌∙◌}
 use native.Mathlib.Omega.{arith}
 use lib.ListN.{length}
 use lib.Seq.{length-take-le}
 use borrow.Author.Rules.{rules}
-use Rattle.answering.proofs.Turns.{Reached, reached_start, printed_fits, reached_turn, reached_end}
+use Rattle.answering.proofs.Turns.{reached_start, printed_fits, reached_turn, reached_end}
 use Rattle.answering.proofs.answer_all.Goals as goal
 
 pub loop-at-init : goal.loop-at-init

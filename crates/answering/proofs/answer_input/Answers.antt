@@ -2,7 +2,6 @@
 use mathlib.Core.Path.{sym}
 use native.Mathlib.Omega.{arith}
 use lib.Seq.{length-take-le}
-use borrow.Author.Rules.{rules}
 use Rattle.answering.proofs.answer_input.Goals as goal
 
 pub slice_bounds-answer_all-end : goal.slice_bounds-answer_all-end

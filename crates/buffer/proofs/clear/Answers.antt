@@ -1,13 +1,12 @@
 -- `buffer::clear` meets its contract.
 use mathlib.Core.Path.{refl, sym, ◌∙◌}
-use Prim.Native.Nat.{ℕ, ◌-◌}
 use native.Mathlib.Omega.{arith}
 use lib.ListN.{length, length-set}
 use borrow.Author.Rules.{rules}
 use Rattle.buffer.specs.Bytes.{zeros}
 use Rattle.buffer.specs.ByteLaws.{byte_zeros, length_zeros}
 use Rattle.buffer.specs.RangeLaws.{entries_of}
-use Rattle.buffer.specs.LoopWrites.{Filling, filling_start, filling_turn, filling_end}
+use Rattle.buffer.specs.LoopWrites.{filling_start, filling_turn, filling_end}
 use Rattle.buffer.proofs.clear.Goals as goal
 
 pub loop-i-init : goal.loop-i-init

@@ -1,12 +1,6 @@
-use mathlib.Core.Path.{refl, sym, ◌∙◌}
 use Prim.Native.Nat.{ℕ, ◌-◌}
-use native.Mathlib.Omega.{arith}
-use lib.ListN.{length, length-set}
-use borrow.Author.Rules.{rules}
-use Rattle.buffer.specs.Bytes.{zeros}
-use Rattle.buffer.specs.ByteLaws.{byte_zeros, length_zeros}
-use Rattle.buffer.specs.RangeLaws.{entries_of}
-use Rattle.buffer.specs.LoopWrites.{Filling, filling_start, filling_turn, filling_end}
+use lib.ListN.{length}
+use Rattle.buffer.specs.LoopWrites.{Filling}
 use Rattle.buffer.proofs.clear.Given as goal
 
 abbrev pub invariant-loop-i : goal.invariant-loop-i

@@ -1,12 +1,10 @@
 -- `buffer::copy` meets its contract.
 use mathlib.Core.Path.{refl, sym, ◌∙◌}
-use Prim.Native.Nat.{◌-◌}
 use native.Mathlib.Omega.{arith}
 use lib.ListN.{length, length-set}
 use borrow.Author.Rules.{rules}
-use Rattle.buffer.specs.Bytes.{byte}
 use Rattle.buffer.specs.RangeLaws.{entries_of}
-use Rattle.buffer.specs.LoopWrites.{Filling, filling_start, filling_turn, filling_end}
+use Rattle.buffer.specs.LoopWrites.{filling_start, filling_turn, filling_end}
 use Rattle.buffer.proofs.copy.Goals as goal
 
 pub loop-i-init : goal.loop-i-init

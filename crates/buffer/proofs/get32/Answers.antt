@@ -1,6 +1,5 @@
 -- `buffer::get32` meets its contract.
 use mathlib.Core.Path.{sym}
-use borrow.Author.Rules.{rules}
 use Rattle.buffer.specs.Bytes.{be32}
 use Rattle.buffer.specs.ByteLaws.{be32_past}
 use Rattle.buffer.proofs.get32.Goals as goal

@@ -1,12 +1,7 @@
 -- `buffer::is_zero` meets its contract.
 use mathlib.Core.Path.{refl}
-use Prim.Native.Nat.{◌-◌}
-use lib.Dec.{eqb}
-use lib.ListN.{length}
-use borrow.Author.Rules.{rules}
-use Rattle.buffer.specs.Bytes.{byte}
 use Rattle.buffer.specs.Loops.{all_zero}
-use Rattle.buffer.specs.LoopTests.{Gathering, gathering_start, gathering_turn, gathering_end}
+use Rattle.buffer.specs.LoopTests.{gathering_start, gathering_turn, gathering_end}
 use Rattle.buffer.proofs.is_zero.Goals as goal
 
 pub loop-i-init : goal.loop-i-init

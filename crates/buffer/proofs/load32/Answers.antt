@@ -1,7 +1,6 @@
 -- `buffer::load32` meets its contract.
 use mathlib.Core.Path.{ap, ◌∙◌}
 use native.Mathlib.Omega.{arith}
-use borrow.Author.Rules.{rules}
 use Rattle.buffer.specs.ByteOrder.{turn}
 use Rattle.buffer.specs.ByteOrderLaws.{turn_le}
 use Rattle.buffer.proofs.load32.Goals as goal

@@ -1,5 +1,4 @@
 -- `buffer::low32` meets its contract.
-use borrow.Author.Rules.{rules}
 use Rattle.buffer.specs.ByteOrder.{le32}
 use Rattle.buffer.proofs.low32.Goals as goal
 

@@ -1,5 +1,4 @@
 -- `buffer::put32` meets its contract.
-use borrow.Author.Rules.{rules}
 use native.Mathlib.Omega.{arith}
 use mathlib.Core.Path.{◌∙◌}
 use lib.ListN.{length-set, drop_of_length-le}

@@ -1,8 +1,6 @@
 -- `code::acceptable` meets its contract: the three tests are those of `accepted`, in its order.
 use mathlib.Core.Path.{sym, ◌∙◌}
-use borrow.Author.Tests.{not-true, not-false}
 use Rattle.code.proofs.Checks.{not_columns, repeated, symbols_last}
-use borrow.Author.Rules.{rules}
 use Rattle.code.proofs.acceptable.Goals as goal
 
 pub returns-then-not-all_within : goal.returns-then-not-all_within

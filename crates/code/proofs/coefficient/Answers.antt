@@ -2,7 +2,6 @@
 use mathlib.Core.Path.{refl}
 use Rattle.code.specs.Matrix.{entry, matrix}
 use Rattle.code.specs.MatrixLaws.{entry_bound}
-use borrow.Author.Rules.{rules}
 use Rattle.code.proofs.coefficient.Goals as goal
 
 pub returns : goal.returns

@@ -2,7 +2,6 @@
 use mathlib.Core.Path.{ap₂, ◌∙◌}
 use Rattle.field.specs.Gf16.{product}
 use Rattle.code.proofs.Differences.{gaps_are}
-use borrow.Author.Rules.{rules}
 use Rattle.code.proofs.gaps.Goals as goal
 
 pub returns : goal.returns

@@ -2,7 +2,6 @@
 use mathlib.Core.Path.{sym, subst, ◌∙◌}
 use mathlib.Core.List.{List}
 use Prim.Native.Nat.{ℕ}
-use borrow.Author.Tests.{not-true, not-false}
 use Rattle.code.specs.Matrix.{Rebuilds}
 use Rattle.code.proofs.Rebuilding.{refuses, grants}
 use borrow.Author.Rules.{rules}

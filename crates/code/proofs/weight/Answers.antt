@@ -3,7 +3,6 @@ use mathlib.Core.Path.{ap, ap₂, ◌∙◌}
 use Rattle.field.specs.Gf16.{product}
 use Rattle.field.specs.Inverse.{inverse}
 use Rattle.code.proofs.Differences.{weight_is}
-use borrow.Author.Rules.{rules}
 use Rattle.code.proofs.weight.Goals as goal
 
 pub returns : goal.returns

@@ -1,15 +1,12 @@
 -- `encoding::copy_keys` meets its contract.
-use borrow.Author.Rules.{rules}
-use Prim.Native.Nat.{ℕ, ◌+◌, ◌*◌, ◌-◌}
+use Prim.Native.Nat.{◌+◌, ◌*◌}
 use mathlib.Core.Path.{sym, ◌∙◌}
 use native.Mathlib.Omega.{arith}
 use native.Mathlib.Nat.{add-sub_cancel_left}
-use lib.ListN.{take}
 use Rattle.buffer.specs.Bytes.{part, splice}
 use Rattle.buffer.specs.TableLaws.{length_tab}
-use Rattle.buffer.specs.LoopWrites.{Appending, appending_start, appending_turn, appended_at, appended_all}
+use Rattle.buffer.specs.LoopWrites.{appending_start, appending_turn, appended_at, appended_all}
 use Rattle.group.specs.Widths.{key_bytes}
-use Rattle.model.specs.Layout.{view}
 use Rattle.encoding.proofs.Ranks.{slot_parts, rank_slot, key_wide}
 use Rattle.encoding.proofs.copy_keys.Goals as goal
 

@@ -1,12 +1,10 @@
 -- `encoding::make_group` meets its contract.
-use borrow.Author.Rules.{rules}
-use Prim.Native.Nat.{◌-◌}
 use mathlib.Core.Path.{sym, ◌∙◌}
 use native.Mathlib.Omega.{arith}
 use Rattle.model.specs.Layout.{view}
 use Rattle.encoding.specs.Made.{in_state, in_group}
 use Rattle.encoding.specs.MadeLaws.{tests_kept}
-use Rattle.encoding.proofs.RankLoop.{Making, making_start, making_long, making_turn, making_end, nothing_made}
+use Rattle.encoding.proofs.RankLoop.{making_start, making_long, making_turn, making_end, nothing_made}
 use Rattle.encoding.proofs.make_group.Goals as goal
 
 pub returns-then-first_check-g : goal.returns-then-first_check-g

@@ -1,11 +1,7 @@
-use borrow.Author.Rules.{rules}
 use Prim.Native.Nat.{◌-◌}
-use mathlib.Core.Path.{sym, ◌∙◌}
-use native.Mathlib.Omega.{arith}
 use Rattle.model.specs.Layout.{view}
 use Rattle.encoding.specs.Made.{in_state, in_group}
-use Rattle.encoding.specs.MadeLaws.{tests_kept}
-use Rattle.encoding.proofs.RankLoop.{Making, making_start, making_long, making_turn, making_end, nothing_made}
+use Rattle.encoding.proofs.RankLoop.{Making}
 use Rattle.encoding.proofs.make_group.Given as goal
 
 abbrev pub invariant-loop-r : goal.invariant-loop-r

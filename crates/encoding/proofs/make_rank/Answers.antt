@@ -1,5 +1,4 @@
 -- `encoding::make_rank` meets its contract.
-use borrow.Author.Rules.{rules}
 use native.Mathlib.Omega.{arith}
 use Prim.Native.Nat.{◌+◌, ◌*◌}
 use Rattle.model.specs.Layout.{view}

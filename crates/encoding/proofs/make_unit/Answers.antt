@@ -1,10 +1,8 @@
 -- `encoding::make_unit` meets its contract.
-use borrow.Author.Rules.{rules}
-use Prim.Native.Nat.{◌-◌}
 use mathlib.Core.Path.{refl}
 use native.Mathlib.Omega.{arith}
 use Rattle.encoding.specs.Made.{is_unit}
-use Rattle.encoding.proofs.RankLoop.{Making, making_start, making_long, making_turn, making_end}
+use Rattle.encoding.proofs.RankLoop.{making_start, making_long, making_turn, making_end}
 use Rattle.encoding.proofs.make_unit.Goals as goal
 
 pub loop-r-init : goal.loop-r-init

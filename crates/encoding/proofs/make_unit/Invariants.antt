@@ -1,9 +1,6 @@
-use borrow.Author.Rules.{rules}
 use Prim.Native.Nat.{◌-◌}
-use mathlib.Core.Path.{refl}
-use native.Mathlib.Omega.{arith}
 use Rattle.encoding.specs.Made.{is_unit}
-use Rattle.encoding.proofs.RankLoop.{Making, making_start, making_long, making_turn, making_end}
+use Rattle.encoding.proofs.RankLoop.{Making}
 use Rattle.encoding.proofs.make_unit.Given as goal
 
 abbrev pub invariant-loop-r : goal.invariant-loop-r

@@ -2,9 +2,8 @@
 use mathlib.Core.Path.{refl, sym, ◌∙◌}
 use Prim.Native.Nat.{◌-◌, ◌<◌}
 use native.Mathlib.Omega.{arith}
-use borrow.Author.Rules.{rules}
-use Rattle.field256.specs.Powers.{order, power}
-use Rattle.field256.proofs.Logging.{Logging, logging_start, Place, place_at, logging_turn, logging_end}
+use Rattle.field256.specs.Powers.{power}
+use Rattle.field256.proofs.Logging.{logging_start, Place, place_at, logging_turn, logging_end}
 use Rattle.field256.proofs.fill_logs.Goals as goal
 
 pub loop-i-init : goal.loop-i-init

@@ -1,9 +1,6 @@
-use mathlib.Core.Path.{refl, sym, ◌∙◌}
-use Prim.Native.Nat.{◌-◌, ◌<◌}
-use native.Mathlib.Omega.{arith}
-use borrow.Author.Rules.{rules}
-use Rattle.field256.specs.Powers.{order, power}
-use Rattle.field256.proofs.Logging.{Logging, logging_start, Place, place_at, logging_turn, logging_end}
+use Prim.Native.Nat.{◌-◌}
+use Rattle.field256.specs.Powers.{order}
+use Rattle.field256.proofs.Logging.{Logging}
 use Rattle.field256.proofs.fill_logs.Given as goal
 
 abbrev pub invariant-loop-i : goal.invariant-loop-i

@@ -1,12 +1,8 @@
-use mathlib.Core.Path.{refl, sym, ap₂, ◌∙◌}
 use Prim.Native.Nat.{◌-◌}
-use native.Mathlib.Omega.{arith}
 use lib.Bits.{bit_xor}
-use lib.ListN.{length, length-set}
-use borrow.Author.Rules.{rules}
+use lib.ListN.{length}
 use Rattle.buffer.specs.Bytes.{byte}
-use Rattle.buffer.specs.LoopWrites.{Filling, filling_start, filling_turn, filling_read, filling_end}
-use Rattle.group.specs.BodyLaws.{add_entries}
+use Rattle.buffer.specs.LoopWrites.{Filling}
 use Rattle.group.proofs.add.Given as goal
 
 abbrev pub invariant-loop-i : goal.invariant-loop-i

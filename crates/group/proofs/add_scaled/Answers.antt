@@ -1,13 +1,10 @@
 -- `group::add_scaled` meets its contract.
 use mathlib.Core.Path.{sym, ap₂, ◌∙◌}
-use Prim.Native.Nat.{◌-◌}
 use native.Mathlib.Omega.{arith}
 use lib.Bits.{bit_xor}
-use lib.ListN.{length, length-set}
+use lib.ListN.{length-set}
 use borrow.Author.Rules.{rules}
-use Rattle.buffer.specs.Bytes.{byte}
-use Rattle.buffer.specs.LoopWrites.{Filling, filling_start, filling_turn, filling_read, filling_end}
-use Rattle.code.specs.Scaling.{scale}
+use Rattle.buffer.specs.LoopWrites.{filling_start, filling_turn, filling_read, filling_end}
 use Rattle.group.proofs.ParityLaws.{add_scaled_entries}
 use Rattle.group.proofs.add_scaled.Goals as goal
 

@@ -1,13 +1,9 @@
-use mathlib.Core.Path.{sym, ap₂, ◌∙◌}
 use Prim.Native.Nat.{◌-◌}
-use native.Mathlib.Omega.{arith}
 use lib.Bits.{bit_xor}
-use lib.ListN.{length, length-set}
-use borrow.Author.Rules.{rules}
+use lib.ListN.{length}
 use Rattle.buffer.specs.Bytes.{byte}
-use Rattle.buffer.specs.LoopWrites.{Filling, filling_start, filling_turn, filling_read, filling_end}
+use Rattle.buffer.specs.LoopWrites.{Filling}
 use Rattle.code.specs.Scaling.{scale}
-use Rattle.group.proofs.ParityLaws.{add_scaled_entries}
 use Rattle.group.proofs.add_scaled.Given as goal
 
 abbrev pub invariant-loop-i : goal.invariant-loop-i

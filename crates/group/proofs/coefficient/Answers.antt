@@ -1,6 +1,5 @@
 -- `group::coefficient` meets its contract.
 use mathlib.Core.Path.{◌∙◌}
-use borrow.Author.Rules.{rules}
 use Rattle.group.specs.Parity.{coefficient}
 use Rattle.group.proofs.coefficient.Goals as goal
 

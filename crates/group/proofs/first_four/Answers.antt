@@ -5,7 +5,6 @@ use mathlib.Core.List.{[], ◌∷◌}
 use Prim.Native.Nat.{ℕ, suc, ◌+◌}
 use native.Mathlib.Numerals.{add-one}
 use lib.Dec.{eqb}
-use borrow.Author.Rules.{rules}
 use Rattle.buffer.specs.Bytes.{byte}
 use Rattle.group.specs.Members.{serves, next, first_four}
 use Rattle.group.proofs.first_four.Goals as goal

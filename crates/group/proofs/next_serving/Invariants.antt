@@ -1,11 +1,8 @@
-use mathlib.Core.Path.{◌≡◌, sym, ap, ◌∙◌}
 use Prim.Native.Nat.{◌+◌, ◌-◌}
-use native.Mathlib.Omega.{arith}
 use lib.Dec.{eqb}
-use borrow.Author.Rules.{rules}
 use Rattle.buffer.specs.Bytes.{byte}
-use Rattle.buffer.specs.LoopTests.{Missing, missing_start, missing_turn, missing_found, missing_end}
-use Rattle.group.specs.Members.{serves, next}
+use Rattle.buffer.specs.LoopTests.{Missing}
+use Rattle.group.specs.Members.{serves}
 use Rattle.group.proofs.next_serving.Given as goal
 
 abbrev pub invariant-loop-k : goal.invariant-loop-k

@@ -1,12 +1,8 @@
 -- `group::ones` meets its contract.
 use mathlib.Core.Path.{refl}
-use mathlib.Core.Logic.{⊎_elim}
-use Prim.Native.Nat.{◌-◌}
-use lib.Dec.{eqb}
 use borrow.Author.Rules.{rules}
-use Rattle.buffer.specs.Bytes.{byte}
 use Rattle.buffer.specs.TestLaws.{is_eq, is_ne}
-use Rattle.buffer.specs.LoopTests.{Counting, counting_start, counting_more, counting_same, counting_end}
+use Rattle.buffer.specs.LoopTests.{counting_start, counting_more, counting_same, counting_end}
 use Rattle.group.proofs.ones.Goals as goal
 use Rattle.group.proofs.ones.Goals.{then-byte_at-eq1, else-byte_at-eq1}
 

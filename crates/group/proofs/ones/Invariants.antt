@@ -1,11 +1,7 @@
-use mathlib.Core.Path.{refl}
-use mathlib.Core.Logic.{⊎_elim}
 use Prim.Native.Nat.{◌-◌}
 use lib.Dec.{eqb}
-use borrow.Author.Rules.{rules}
 use Rattle.buffer.specs.Bytes.{byte}
-use Rattle.buffer.specs.TestLaws.{is_eq, is_ne}
-use Rattle.buffer.specs.LoopTests.{Counting, counting_start, counting_more, counting_same, counting_end}
+use Rattle.buffer.specs.LoopTests.{Counting}
 use Rattle.group.proofs.ones.Given as goal
 
 abbrev pub invariant-loop-i : goal.invariant-loop-i

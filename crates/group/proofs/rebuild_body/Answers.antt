@@ -1,14 +1,10 @@
 -- `group::rebuild_body` meets its contract.
 use mathlib.Core.Path.{sym, ◌∙◌}
-use mathlib.Core.List.{[], ◌∷◌}
-use Prim.Native.Nat.{◌-◌}
 use native.Mathlib.Omega.{arith}
 use lib.ListN.{length, length-set}
 use borrow.Author.Rules.{rules}
-use Rattle.buffer.specs.Bytes.{byte}
 use Rattle.buffer.specs.RangeLaws.{below-four}
-use Rattle.buffer.specs.LoopWrites.{Filling, filling_start, filling_turn, filling_end}
-use Rattle.code.specs.Weights.{mixed}
+use Rattle.buffer.specs.LoopWrites.{filling_start, filling_turn, filling_end}
 use Rattle.group.specs.Four.{four_bodies}
 use Rattle.group.proofs.WeighedLaws.{weighed_entries}
 use Rattle.group.proofs.rebuild_body.Goals as goal

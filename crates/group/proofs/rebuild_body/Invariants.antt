@@ -1,15 +1,9 @@
-use mathlib.Core.Path.{sym, ◌∙◌}
 use mathlib.Core.List.{[], ◌∷◌}
 use Prim.Native.Nat.{◌-◌}
-use native.Mathlib.Omega.{arith}
-use lib.ListN.{length, length-set}
-use borrow.Author.Rules.{rules}
+use lib.ListN.{length}
 use Rattle.buffer.specs.Bytes.{byte}
-use Rattle.buffer.specs.RangeLaws.{below-four}
-use Rattle.buffer.specs.LoopWrites.{Filling, filling_start, filling_turn, filling_end}
+use Rattle.buffer.specs.LoopWrites.{Filling}
 use Rattle.code.specs.Weights.{mixed}
-use Rattle.group.specs.Four.{four_bodies}
-use Rattle.group.proofs.WeighedLaws.{weighed_entries}
 use Rattle.group.proofs.rebuild_body.Given as goal
 
 abbrev pub invariant-loop-i : goal.invariant-loop-i

@@ -1,7 +1,6 @@
 -- `group::rebuildable` meets its contract.
 use mathlib.Core.Path.{ap₂}
 use lib.Dec.{leb}
-use borrow.Author.Rules.{rules}
 use Rattle.group.specs.Members.{checks_serving, rebuildable}
 use Rattle.group.proofs.rebuildable.Goals as goal
 

@@ -1,12 +1,6 @@
-use mathlib.Core.Path.{refl, ap, ◌∙◌}
-use Prim.Native.Nat.{ℕ, ◌+◌, ◌*◌, ◌≤◌}
-use native.Mathlib.Omega.{arith}
+use Prim.Native.Nat.{ℕ}
 use lib.Dec.{eqb}
-use lib.ListN.{length}
-use borrow.Author.Rules.{rules}
-use Rattle.buffer.specs.Bytes.{be32}
-use Rattle.buffer.specs.LoopTests.{Seeking, seeking_start, seeking_hit, seeking_miss, seeking_end}
-use Rattle.buffer.specs.TestLaws.{is_eq, is_ne}
+use Rattle.buffer.specs.LoopTests.{Seeking}
 use Rattle.buffer.specs.Strided.{strided32}
 use Rattle.lookup.proofs.find.Given as goal
 

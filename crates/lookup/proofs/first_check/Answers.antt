@@ -1,10 +1,9 @@
 -- `lookup::first_check` meets its contract.
-use Prim.Native.Nat.{◌+◌, ◌*◌, ◌-◌}
+use Prim.Native.Nat.{◌+◌, ◌*◌}
 use mathlib.Core.Path.{ap, refl}
-use lib.Dec.{eqb}
 use borrow.Author.Rules.{rules}
 use Rattle.buffer.specs.TestLaws.{is_eq, is_ne}
-use Rattle.buffer.specs.LoopTests.{Missing, missing_start, missing_turn, missing_found, missing_end}
+use Rattle.buffer.specs.LoopTests.{missing_start, missing_turn, missing_found, missing_end}
 use Rattle.buffer.specs.Bytes.{byte}
 use Rattle.model.specs.Layout.{view}
 use Rattle.model.specs.Reads.{first_check}

@@ -1,12 +1,7 @@
 use Prim.Native.Nat.{◌+◌, ◌*◌, ◌-◌}
-use mathlib.Core.Path.{ap, refl}
 use lib.Dec.{eqb}
-use borrow.Author.Rules.{rules}
-use Rattle.buffer.specs.TestLaws.{is_eq, is_ne}
-use Rattle.buffer.specs.LoopTests.{Missing, missing_start, missing_turn, missing_found, missing_end}
+use Rattle.buffer.specs.LoopTests.{Missing}
 use Rattle.buffer.specs.Bytes.{byte}
-use Rattle.model.specs.Layout.{view}
-use Rattle.model.specs.Reads.{first_check}
 use Rattle.lookup.proofs.first_check.Given as goal
 
 abbrev pub invariant-loop-j : goal.invariant-loop-j

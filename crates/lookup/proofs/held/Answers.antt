@@ -1,7 +1,6 @@
 -- `lookup::held` meets its contract.
 use mathlib.Core.Path.{sym, ◌∙◌}
 use native.Mathlib.Omega.{arith}
-use borrow.Author.Rules.{rules}
 use Rattle.buffer.specs.Bytes.{byte}
 use Rattle.group.specs.Widths.{field_bytes}
 use Rattle.lookup.specs.Parts.{handed_back}

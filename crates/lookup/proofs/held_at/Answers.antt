@@ -1,6 +1,5 @@
 -- `lookup::held_at` meets its contract.
 use native.Mathlib.Omega.{arith}
-use borrow.Author.Rules.{rules}
 use borrow.Author.Tests.{lt-ltb, le-ltb}
 use Rattle.buffer.specs.ChoiceLaws.{pick_true, pick-false}
 use Rattle.lookup.specs.Slots.{held_at}

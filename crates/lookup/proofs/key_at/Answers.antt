@@ -1,7 +1,6 @@
 -- `lookup::key_at` meets its contract.
 use mathlib.Core.Path.{ap, ◌∙◌}
 use native.Mathlib.Omega.{arith}
-use borrow.Author.Rules.{rules}
 use Rattle.buffer.specs.Bytes.{be32}
 use Rattle.lookup.specs.SizedLaws.{slot_fits}
 use Rattle.lookup.specs.KeyLaws.{slot_key}

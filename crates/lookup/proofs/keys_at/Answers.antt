@@ -1,6 +1,5 @@
 -- `lookup::keys_at` meets its contract.
 use native.Mathlib.Omega.{arith}
-use borrow.Author.Rules.{rules}
 use Rattle.lookup.proofs.keys_at.Goals as goal
 
 pub returns : goal.returns

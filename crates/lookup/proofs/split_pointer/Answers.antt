@@ -1,6 +1,5 @@
 -- `lookup::split_pointer` meets its contract.
 use native.Mathlib.Omega.{arith}
-use borrow.Author.Rules.{rules}
 use Rattle.model.specs.Units.{split_pointer}
 use Rattle.model.specs.UnitLaws.{power_most}
 use Rattle.lookup.proofs.split_pointer.Goals as goal

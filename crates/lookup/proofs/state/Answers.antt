@@ -1,6 +1,5 @@
 -- `lookup::state` meets its contract.
 use mathlib.Core.Path.{◌∙◌}
-use borrow.Author.Rules.{rules}
 use Rattle.lookup.specs.States.{state_byte}
 use Rattle.lookup.proofs.state.Goals as goal
 

@@ -5,7 +5,6 @@ use Prim.Native.Nat.{ℕ, ◌+◌, ◌*◌, ◌-◌, ◌%◌, ◌≤◌, ◌<◌
 use native.Mathlib.Omega.{arith}
 use native.Mathlib.Nat.{mod-lt, le_trans, lt_of_le_of_lt}
 use lib.Dec.{lit<}
-use borrow.Author.Rules.{rules}
 use Rattle.model.specs.Units.{unit_of}
 use Rattle.model.specs.UnitLaws.{unit_below}
 use Rattle.lookup.specs.Below.{bit_mul_le, add_bit_mul_le}

@@ -1,5 +1,4 @@
 -- `planning::counted` meets its contract.
-use borrow.Author.Rules.{rules}
 use Prim.Native.Nat.{ℕ}
 use native.Mathlib.Omega.{arith}
 use Rattle.buffer.specs.ChoiceLaws.{pick_true, pick-false}

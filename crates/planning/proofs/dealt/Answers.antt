@@ -1,6 +1,5 @@
 -- `planning::dealt` meets its contract.
-use borrow.Author.Rules.{rules}
-use Prim.Native.Nat.{◌-◌, ◌≤◌}
+use Prim.Native.Nat.{◌≤◌}
 use Rattle.lookup.specs.Sized.{Sized}
 use mathlib.Core.Path.{refl}
 use native.Mathlib.Omega.{arith}
@@ -8,7 +7,7 @@ use Rattle.moves.specs.Drafts.{most_moves}
 use Rattle.model.specs.Layout.{view}
 use Rattle.model.proofs.ReadLaws.{fill_le}
 use Rattle.model.specs.StoreLaws.{size_of}
-use Rattle.planning.proofs.Dealing.{Dealing, dealing_start, dealing_turn, dealing_end}
+use Rattle.planning.proofs.Dealing.{dealing_start, dealing_turn, dealing_end}
 use Rattle.planning.proofs.dealt.Goals as goal
 
 pub loop-r-init : goal.loop-r-init

@@ -1,13 +1,5 @@
-use borrow.Author.Rules.{rules}
-use Prim.Native.Nat.{◌-◌, ◌≤◌}
-use Rattle.lookup.specs.Sized.{Sized}
-use mathlib.Core.Path.{refl}
-use native.Mathlib.Omega.{arith}
-use Rattle.moves.specs.Drafts.{most_moves}
-use Rattle.model.specs.Layout.{view}
-use Rattle.model.proofs.ReadLaws.{fill_le}
-use Rattle.model.specs.StoreLaws.{size_of}
-use Rattle.planning.proofs.Dealing.{Dealing, dealing_start, dealing_turn, dealing_end}
+use Prim.Native.Nat.{◌-◌}
+use Rattle.planning.proofs.Dealing.{Dealing}
 use Rattle.planning.proofs.dealt.Given as goal
 
 abbrev pub invariant-loop-r : goal.invariant-loop-r

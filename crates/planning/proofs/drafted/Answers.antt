@@ -1,5 +1,4 @@
 -- `planning::drafted` meets its contract. What is known at a place is said once, and the needs behind it use it.
-use borrow.Author.Rules.{rules}
 use borrow.Author.Tests.{eq-eqb}
 use Prim.Native.Nat.{ℕ}
 use mathlib.Core.List.{List}

@@ -1,6 +1,4 @@
 -- `planning::grow_if` meets its contract.
-use borrow.Author.Rules.{rules}
-use borrow.Author.Tests.{not-true, not-false}
 use mathlib.Core.Path.{sym, ◌∙◌}
 use Rattle.planning.proofs.Strokes.{grow_refused, not_agreed, grows, counts}
 use Rattle.planning.proofs.grow_if.Goals as goal

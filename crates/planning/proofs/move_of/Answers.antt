@@ -1,5 +1,4 @@
 -- `planning::move_of` meets its contract.
-use borrow.Author.Rules.{rules}
 use mathlib.Core.Path.{sym}
 use Rattle.buffer.specs.ChoiceLaws.{pick_true, pick-false}
 use Rattle.planning.specs.Drafted.{move_from}

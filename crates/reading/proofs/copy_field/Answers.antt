@@ -2,7 +2,6 @@
 use mathlib.Core.Path.{◌≡◌, sym, ap, ◌∙◌}
 use Prim.Native.Nat.{◌+◌}
 use native.Mathlib.Omega.{arith}
-use borrow.Author.Rules.{rules}
 use Rattle.buffer.specs.Bytes.{byte}
 use Rattle.group.specs.Widths.{key_bytes, field_bytes}
 use Rattle.model.specs.Layout.{slot_at}

@@ -1,6 +1,5 @@
 -- `reading::list` meets its contract.
 use mathlib.Core.Path.{refl, ◌∙◌}
-use borrow.Author.Rules.{rules}
 use Rattle.reading.specs.Rows.{list_rows}
 use Rattle.reading.proofs.Verdicts.{whole_learned}
 use Rattle.reading.proofs.Answers.{list_refused, list_granted}

@@ -1,7 +1,6 @@
 -- `reading::read` meets its contract.
 use mathlib.Core.Path.{refl, sym, ◌∙◌}
 use native.Mathlib.Omega.{arith}
-use borrow.Author.Rules.{rules}
 use Rattle.soundness.specs.SurveyLaws.{group_counts}
 use Rattle.lookup.specs.GroupLaws.{readable_counted}
 use Rattle.reading.specs.Rows.{read_rows}

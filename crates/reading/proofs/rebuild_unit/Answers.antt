@@ -1,16 +1,13 @@
 -- `reading::rebuild_unit` meets its contract. What is known at a place is said once, and the needs behind it use it.
-use mathlib.Core.Path.{◌≡◌, sym, ap, ◌∙◌}
-use Prim.Native.Nat.{◌*◌, ◌-◌, ◌<◌}
+use mathlib.Core.Path.{sym, ap, ◌∙◌}
 use native.Mathlib.Omega.{arith}
-use borrow.Author.Rules.{rules}
 use Rattle.buffer.specs.Bytes.{splice}
 use Rattle.buffer.specs.TableLaws.{length_tab}
-use Rattle.buffer.specs.LoopWrites.{Appending, appending_start, appending_turn, appending_end}
+use Rattle.buffer.specs.LoopWrites.{appending_start, appending_turn, appending_end}
 use Rattle.group.specs.Widths.{slot_bytes}
 use Rattle.model.specs.Layout.{view}
 use Rattle.model.specs.Reads.{whole_slot}
 use Rattle.lookup.specs.Groups.{Rebuildable}
-use Rattle.lookup.specs.Decoders.{DecoderOf}
 use Rattle.lookup.specs.DecoderLaws.{next_rank}
 use Rattle.lookup.specs.SlotLaws.{length_missing}
 use Rattle.buffer.specs.SpliceLaws.{length_lent, put_lent}

@@ -1,19 +1,10 @@
-use mathlib.Core.Path.{◌≡◌, sym, ap, ◌∙◌}
+use mathlib.Core.Path.{◌≡◌}
 use Prim.Native.Nat.{◌*◌, ◌-◌, ◌<◌}
-use native.Mathlib.Omega.{arith}
-use borrow.Author.Rules.{rules}
-use Rattle.buffer.specs.Bytes.{splice}
-use Rattle.buffer.specs.TableLaws.{length_tab}
-use Rattle.buffer.specs.LoopWrites.{Appending, appending_start, appending_turn, appending_end}
+use Rattle.buffer.specs.LoopWrites.{Appending}
 use Rattle.group.specs.Widths.{slot_bytes}
 use Rattle.model.specs.Layout.{view}
 use Rattle.model.specs.Reads.{whole_slot}
-use Rattle.lookup.specs.Groups.{Rebuildable}
 use Rattle.lookup.specs.Decoders.{DecoderOf}
-use Rattle.lookup.specs.DecoderLaws.{next_rank}
-use Rattle.lookup.specs.SlotLaws.{length_missing}
-use Rattle.buffer.specs.SpliceLaws.{length_lent, put_lent}
-use Rattle.reading.proofs.Lists.{filled_whole}
 use Rattle.reading.proofs.rebuild_unit.Given as goal
 
 -- so far r slots are written, and the decoder at hand is that of rank r, if it reaches there

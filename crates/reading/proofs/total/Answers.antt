@@ -1,9 +1,6 @@
 -- `reading::total` meets its contract.
-use Prim.Native.Nat.{◌*◌, ◌-◌, ◌≤◌}
 use native.Mathlib.Omega.{arith}
-use lib.ListN.{get_or}
-use borrow.Author.Rules.{rules}
-use Rattle.buffer.specs.LoopTests.{Summing, summing_start, summing_turn, summing_end}
+use Rattle.buffer.specs.LoopTests.{summing_start, summing_turn, summing_end}
 use Rattle.reading.proofs.total.Goals as goal
 
 pub loop-u-init : goal.loop-u-init

@@ -1,8 +1,6 @@
 use Prim.Native.Nat.{◌*◌, ◌-◌, ◌≤◌}
-use native.Mathlib.Omega.{arith}
 use lib.ListN.{get_or}
-use borrow.Author.Rules.{rules}
-use Rattle.buffer.specs.LoopTests.{Summing, summing_start, summing_turn, summing_end}
+use Rattle.buffer.specs.LoopTests.{Summing}
 use Rattle.reading.proofs.total.Given as goal
 
 abbrev pub invariant-loop-u : goal.invariant-loop-u

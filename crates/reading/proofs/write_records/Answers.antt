@@ -1,12 +1,11 @@
 -- `reading::write_records` meets its contract. What is known at a place is said once, and the needs behind it use it.
 use mathlib.Core.Path.{◌≡◌, ap, ◌∙◌}
-use Prim.Native.Nat.{ℕ, ◌+◌, ◌*◌, ◌-◌, ◌/◌, ◌≤◌}
+use Prim.Native.Nat.{ℕ, ◌+◌, ◌*◌, ◌/◌, ◌≤◌}
 use native.Mathlib.Omega.{arith}
 use lib.ListN.{length, get_or}
-use borrow.Author.Rules.{rules}
 use Rattle.buffer.specs.Bytes.{splice}
 use Rattle.buffer.specs.Table.{tab}
-use Rattle.buffer.specs.LoopWrites.{Appending, appending_start, appending_turn, appending_end}
+use Rattle.buffer.specs.LoopWrites.{appending_start, appending_turn, appending_end}
 use Rattle.model.specs.Layout.{view}
 use Rattle.model.specs.Reads.{listed_fill, whole_slot}
 use Rattle.lookup.specs.KeyLaws.{listed_fill_small}

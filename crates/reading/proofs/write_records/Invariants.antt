@@ -1,18 +1,6 @@
-use mathlib.Core.Path.{◌≡◌, ap, ◌∙◌}
-use Prim.Native.Nat.{ℕ, ◌+◌, ◌*◌, ◌-◌, ◌/◌, ◌≤◌}
-use native.Mathlib.Omega.{arith}
-use lib.ListN.{length, get_or}
-use borrow.Author.Rules.{rules}
-use Rattle.buffer.specs.Bytes.{splice}
-use Rattle.buffer.specs.Table.{tab}
-use Rattle.buffer.specs.LoopWrites.{Appending, appending_start, appending_turn, appending_end}
-use Rattle.model.specs.Layout.{view}
-use Rattle.model.specs.Reads.{listed_fill, whole_slot}
-use Rattle.lookup.specs.KeyLaws.{listed_fill_small}
-use Rattle.lookup.specs.GroupLaws.{whole_readable}
-use Rattle.buffer.specs.SpliceLaws.{length_lent, put_lent}
-use Rattle.group.specs.Widths.{slot_bytes}
-use Rattle.reading.proofs.Lists.{fill_at, first_check_at, group_counted, records, records_long, records_fit, listing_is}
+use Prim.Native.Nat.{◌-◌}
+use Rattle.buffer.specs.LoopWrites.{Appending}
+use Rattle.reading.proofs.Lists.{records}
 use Rattle.reading.proofs.write_records.Given as goal
 
 abbrev pub invariant-loop-u : goal.invariant-loop-u

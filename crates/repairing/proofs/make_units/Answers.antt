@@ -1,9 +1,7 @@
 -- `repairing::make_units` meets its contract.
 use borrow.Author.Rules.{rules}
 use mathlib.Core.Path.{◌∙◌}
-use mathlib.Core.Logic.{⊎_elim}
-use Prim.Native.Nat.{◌-◌}
-use Rattle.repairing.proofs.Remaking.{Remaking, remaking_start, remaking_unit, remaking_off, remaking_on, remaking_end}
+use Rattle.repairing.proofs.Remaking.{remaking_start, remaking_unit, remaking_off, remaking_on, remaking_end}
 use Rattle.repairing.proofs.make_units.Goals as goal
 use Rattle.repairing.proofs.make_units.Goals.{then-s-wide-eq2, else-s-wide-eq2}
 

@@ -1,8 +1,5 @@
-use borrow.Author.Rules.{rules}
-use mathlib.Core.Path.{◌∙◌}
-use mathlib.Core.Logic.{⊎_elim}
 use Prim.Native.Nat.{◌-◌}
-use Rattle.repairing.proofs.Remaking.{Remaking, remaking_start, remaking_unit, remaking_off, remaking_on, remaking_end}
+use Rattle.repairing.proofs.Remaking.{Remaking}
 use Rattle.repairing.proofs.make_units.Given as goal
 
 abbrev pub invariant-loop-j : goal.invariant-loop-j

@@ -1,15 +1,8 @@
-use mathlib.Core.Path.{sym, ◌∙◌}
-use mathlib.Core.Logic.{⊎_elim}
-use mathlib.Core.List.{map}
 use Prim.Native.Nat.{◌-◌}
-use lib.ListN.{length, length-map}
-use lib.Seq.{set-get_or}
-use borrow.Author.Rules.{rules}
+use lib.ListN.{length}
 use Rattle.buffer.specs.Bytes.{byte}
-use Rattle.buffer.specs.RangeLaws.{entries_of}
-use Rattle.buffer.specs.LoopWrites.{Filling, filling_start, filling_turn, filling_read, filling_end}
+use Rattle.buffer.specs.LoopWrites.{Filling}
 use Rattle.repairing.specs.Steps.{in_service}
-use Rattle.repairing.proofs.Serving.{byte_served, served_out, served_in}
 use Rattle.repairing.proofs.put_in_service.Given as goal
 
 abbrev pub invariant-loop-i : goal.invariant-loop-i

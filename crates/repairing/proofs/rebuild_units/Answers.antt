@@ -1,10 +1,8 @@
 -- `repairing::rebuild_units` meets its contract.
 use borrow.Author.Rules.{rules}
 use mathlib.Core.Path.{refl, sym, ◌∙◌}
-use mathlib.Core.Logic.{⊎_elim}
-use Prim.Native.Nat.{◌-◌}
 use Rattle.lookup.specs.States.{state_byte}
-use Rattle.repairing.proofs.Restoring.{Restoring, restoring_start, restoring_unit, restoring_first_check, restoring_off, restoring_on, restoring_end}
+use Rattle.repairing.proofs.Restoring.{restoring_start, restoring_unit, restoring_first_check, restoring_off, restoring_on, restoring_end}
 use Rattle.repairing.proofs.rebuild_units.Goals as goal
 use Rattle.repairing.proofs.rebuild_units.Goals.{then-state-eq2, else-state-eq2}
 

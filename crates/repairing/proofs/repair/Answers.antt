@@ -3,7 +3,6 @@ use native.Mathlib.Omega.{arith}
 use Rattle.model.specs.Perform.{granted_in}
 use Rattle.model.specs.PerformLaws.{of_repair, refused, granted}
 use Rattle.repairing.proofs.Verdicts.{repairable, group_counted, group_first_check}
-use borrow.Author.Rules.{rules}
 use Rattle.repairing.proofs.repair.Goals as goal
 
 pub repair_number-number-requires : goal.repair_number-number-requires

@@ -1,6 +1,5 @@
 -- `repairing::repair_group` meets its contract.
 use Rattle.repairing.proofs.Repaired.{group_rebuilt, group_made, group_repaired}
-use borrow.Author.Rules.{rules}
 use Rattle.repairing.proofs.repair_group.Goals as goal
 
 pub make_units-requires : goal.make_units-requires

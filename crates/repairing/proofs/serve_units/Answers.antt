@@ -2,7 +2,6 @@
 use Prim.Native.Nat.{◌+◌, ◌*◌}
 use native.Mathlib.Nat.{add-sub_cancel_left}
 use native.Mathlib.Omega.{arith}
-use borrow.Author.Rules.{rules}
 use Rattle.buffer.specs.Bytes.{part, splice}
 use Rattle.repairing.proofs.Serving.{units_served}
 use Rattle.repairing.proofs.serve_units.Goals as goal

@@ -1,5 +1,4 @@
 -- `soundness::is_sound` meets its contract.
-use borrow.Author.Rules.{rules}
 use Rattle.soundness.proofs.is_sound.Goals as goal
 
 pub returns : goal.returns

@@ -2,10 +2,8 @@
 use mathlib.Core.Path.{◌≡◌}
 use mathlib.Core.Bool.{and-false}
 use native.Mathlib.Omega.{arith}
-use borrow.Author.Rules.{rules}
 use borrow.Author.Tests.{not-true, not-false}
 use borrow.Author.Tests.{not-false}
-use Rattle.buffer.specs.TestLaws.{is_no, is_yes}
 use Rattle.buffer.specs.Loops.{entries}
 use Rattle.model.specs.Layout.{view}
 use Rattle.model.specs.Reads.{first_check}

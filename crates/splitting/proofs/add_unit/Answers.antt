@@ -1,5 +1,4 @@
 -- `splitting::add_unit` meets its contract.
-use borrow.Author.Rules.{rules}
 use native.Mathlib.Omega.{arith}
 use Rattle.encoding.specs.Holding.{holds_long}
 use Rattle.model.specs.StoreLaws.{level_of}

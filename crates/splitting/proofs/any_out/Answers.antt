@@ -1,5 +1,4 @@
 -- `splitting::any_out` meets its contract.
-use borrow.Author.Rules.{rules}
 use native.Mathlib.Nat.{zero-add}
 use Rattle.buffer.specs.Range.{sum}
 use Rattle.splitting.proofs.any_out.Goals as goal

@@ -1,5 +1,4 @@
 -- `splitting::grow` meets its contract.
-use borrow.Author.Rules.{rules}
 use borrow.Author.Tests.{eq-eqb}
 use mathlib.Core.Path.{refl, sym, ◌∙◌}
 use Rattle.buffer.specs.ChoiceLaws.{pick_true}

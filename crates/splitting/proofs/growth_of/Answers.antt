@@ -1,5 +1,4 @@
 -- `splitting::growth_of` meets its contract. What is known at a place is said once, and the needs behind it use it.
-use borrow.Author.Rules.{rules}
 use borrow.Author.Tests.{eq-eqb, ne_eqb}
 use mathlib.Core.List.{List}
 use Prim.Native.Nat.{ℕ}

@@ -1,5 +1,4 @@
 -- `splitting::pair_crowded` meets its contract.
-use borrow.Author.Rules.{rules}
 use native.Mathlib.Omega.{arith}
 use Rattle.splitting.specs.Steps.{pair_crowded}
 use Rattle.splitting.proofs.pair_crowded.Goals as goal

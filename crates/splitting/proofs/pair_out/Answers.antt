@@ -1,6 +1,5 @@
 -- `splitting::pair_out` meets its contract.
 use mathlib.Core.Path.{◌∙◌}
-use borrow.Author.Rules.{rules}
 use native.Mathlib.Omega.{arith}
 use Rattle.splitting.proofs.Rows.{pair_read}
 use Rattle.splitting.proofs.pair_out.Goals as goal

@@ -1,5 +1,4 @@
 -- `splitting::raise` meets its contract.
-use borrow.Author.Rules.{rules}
 use Rattle.model.specs.Perform.{granted_in}
 use Rattle.model.specs.PerformLaws.{of_raise, refused, granted}
 use Rattle.splitting.proofs.Rows.{raises}

@@ -1,5 +1,4 @@
 -- `splitting::raise_number` meets its contract.
-use borrow.Author.Rules.{rules}
 use borrow.Author.Tests.{not-false}
 use Rattle.buffer.specs.Choice.{pick}
 use Rattle.model.specs.Numbers.{first_of, refusals_in}

@@ -1,5 +1,4 @@
 -- `splitting::remove_unit` meets its contract.
-use borrow.Author.Rules.{rules}
 use native.Mathlib.Omega.{arith}
 use Rattle.encoding.specs.Holding.{holds_long}
 use Rattle.splitting.proofs.Removed.{merged_holds, marked_holds, states_hold, wiped_holds, all_removed}

@@ -1,5 +1,4 @@
 -- `splitting::shrink` meets its contract. What is known at a place is said once, and the needs behind it use it.
-use borrow.Author.Rules.{rules}
 use mathlib.Core.List.{List}
 use mathlib.Core.Path.{ap, ◌∙◌}
 use native.Mathlib.Omega.{arith}

@@ -1,5 +1,4 @@
 -- `writing::change_of` meets its contract.
-use borrow.Author.Rules.{rules}
 use Rattle.writing.proofs.change_of.Goals as goal
 
 pub returns : goal.returns

@@ -4,7 +4,6 @@ use mathlib.Core.Path.{refl}
 use lib.ListN.{length, get_or}
 use Rattle.buffer.specs.Bytes.{part, splice}
 use Rattle.writing.proofs.Lost.{unit_within, lost_unit}
-use borrow.Author.Rules.{rules}
 use Rattle.writing.proofs.clear_unit.Goals as goal
 
 -- the part that is cleared starts before it ends, and ends within the store

@@ -1,6 +1,5 @@
 -- `writing::correct` meets its contract.
 use borrow.Author.Tests.{eqb-true}
-use borrow.Author.Rules.{rules}
 use Rattle.model.specs.RowLaws.{row_holds}
 use Rattle.writing.proofs.Granted.{of_correcting, refused_first, refused_then, granted_then, own_slot, corrected}
 use Rattle.writing.proofs.correct.Goals as goal

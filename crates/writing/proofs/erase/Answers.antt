@@ -1,6 +1,5 @@
 -- `writing::erase` meets its contract.
 use native.Mathlib.Omega.{arith}
-use borrow.Author.Rules.{rules}
 use Rattle.model.specs.RowLaws.{row_holds}
 use Rattle.writing.proofs.Granted.{of_erasing, refused_first, refused_then, granted_then, present, own_slot, last_slot, removed}
 use Rattle.writing.proofs.erase.Goals as goal

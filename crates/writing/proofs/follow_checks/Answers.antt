@@ -1,15 +1,14 @@
 -- `writing::follow_checks` meets its contract.
-use Prim.Native.Nat.{◌+◌, ◌*◌, ◌-◌, ◌/◌}
+use Prim.Native.Nat.{◌+◌, ◌*◌, ◌/◌}
 use native.Mathlib.Omega.{arith}
 use native.Mathlib.Nat.{add-sub_cancel_left}
 use mathlib.Core.Path.{refl, ◌∙◌}
-use mathlib.Core.Logic.{⊎_elim}
 use lib.ListN.{length, get_or}
 use borrow.Author.Rules.{rules}
 use Rattle.buffer.specs.Bytes.{part, splice}
 use Rattle.model.specs.Places.{check_units}
 use Rattle.model.specs.LayoutLaws.{rank_within}
-use Rattle.writing.proofs.Following.{Following, following_start, following_on, following_off, following_end}
+use Rattle.writing.proofs.Following.{following_start, following_on, following_off, following_end}
 use Rattle.writing.proofs.follow_checks.Goals as goal
 use Rattle.writing.proofs.follow_checks.Goals.{then-s-wide-eq1, else-s-wide-eq1}
 

@@ -1,14 +1,5 @@
-use Prim.Native.Nat.{◌+◌, ◌*◌, ◌-◌, ◌/◌}
-use native.Mathlib.Omega.{arith}
-use native.Mathlib.Nat.{add-sub_cancel_left}
-use mathlib.Core.Path.{refl, ◌∙◌}
-use mathlib.Core.Logic.{⊎_elim}
-use lib.ListN.{length, get_or}
-use borrow.Author.Rules.{rules}
-use Rattle.buffer.specs.Bytes.{part, splice}
-use Rattle.model.specs.Places.{check_units}
-use Rattle.model.specs.LayoutLaws.{rank_within}
-use Rattle.writing.proofs.Following.{Following, following_start, following_on, following_off, following_end}
+use Prim.Native.Nat.{◌-◌}
+use Rattle.writing.proofs.Following.{Following}
 use Rattle.writing.proofs.follow_checks.Given as goal
 
 abbrev pub invariant-loop-j : goal.invariant-loop-j

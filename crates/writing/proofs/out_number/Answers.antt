@@ -1,7 +1,6 @@
 -- `writing::out_number` meets its contract.
 use Rattle.buffer.specs.Choice.{pick}
 use Rattle.model.specs.Numbers.{first_of, refusals_in}
-use borrow.Author.Rules.{rules}
 use Rattle.writing.proofs.out_number.Goals as goal
 
 pub returns-then-above : goal.returns-then-above

@@ -5,7 +5,6 @@ use Rattle.buffer.specs.Bytes.{bytes32, splice}
 use Rattle.buffer.specs.ByteLaws.{length_bytes32}
 use Rattle.buffer.specs.SpliceLaws.{splice_next, splice_whole}
 use Rattle.model.specs.Layout.{slot_of}
-use borrow.Author.Rules.{rules}
 use Rattle.group.specs.Widths.{key_bytes, field_bytes, slot_bytes}
 use Rattle.writing.proofs.put_record.Goals as goal
 

@@ -1,7 +1,6 @@
 -- `writing::teach` meets its contract.
 use mathlib.Core.Path.{◌∙◌}
 use borrow.Author.Tests.{eqb-true}
-use borrow.Author.Rules.{rules}
 use Rattle.model.specs.RowLaws.{row_holds, row_fails}
 use Rattle.writing.proofs.Granted.{of_teaching, refused_first, refused_then, granted_then, next_slot, taught}
 use Rattle.writing.proofs.teach.Goals as goal

@@ -2,7 +2,6 @@
 use native.Mathlib.Omega.{arith}
 use mathlib.Core.Path.{sym, ◌∙◌}
 use Rattle.writing.proofs.Lost.{data_at, checks_at}
-use borrow.Author.Rules.{rules}
 use Rattle.writing.proofs.unit_at.Goals as goal
 
 pub returns-then-w-lt16 : goal.returns-then-w-lt16

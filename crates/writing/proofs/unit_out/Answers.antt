@@ -3,7 +3,6 @@ use native.Mathlib.Omega.{arith}
 use mathlib.Core.Path.{refl}
 use Rattle.model.specs.PerformLaws.{of_out, refused, granted}
 use Rattle.writing.proofs.Granted.{sized, loses, lost}
-use borrow.Author.Rules.{rules}
 use Rattle.writing.proofs.unit_out.Goals as goal
 
 pub returns-then-number-ne0 : goal.returns-then-number-ne0

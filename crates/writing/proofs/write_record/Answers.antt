@@ -1,5 +1,4 @@
 -- `writing::write_record` meets its contract.
-use borrow.Author.Rules.{rules}
 use Rattle.writing.proofs.write_record.Goals as goal
 
 pub returns : goal.returns

@@ -3,7 +3,6 @@ use Prim.Native.Nat.{◌+◌, ◌*◌, ◌≤◌}
 use mathlib.Core.Path.{◌≡◌, ◌∙◌}
 use native.Mathlib.Omega.{arith}
 use lib.ListN.{length, length-take, length-drop}
-use borrow.Author.Rules.{rules}
 use Rattle.model.specs.Layout.{view}
 use Rattle.lines.specs.Put.{record_line_bytes}
 use Rattle.lines.specs.OutputLaws.{length_number_line, put_behind}

@@ -1,7 +1,6 @@
 -- `records::next` meets its contract.
 use mathlib.Core.Path.{refl, sym, ◌∙◌}
 use native.Mathlib.Numerals.{add-one}
-use borrow.Author.Rules.{rules}
 use Rattle.buffer.specs.ChoiceLaws.{pick_true, pick-false}
 use Rattle.buffer.specs.TestLaws.{is_eq, is_ne}
 use Rattle.answering.specs.Places.{rank_behind}

@@ -1,13 +1,12 @@
 -- `records::put_records` meets its contract.
-use Prim.Native.Nat.{ℕ, suc, ◌+◌, ◌*◌, ◌-◌, ◌≤◌}
+use Prim.Native.Nat.{ℕ, suc, ◌+◌, ◌*◌, ◌≤◌}
 use mathlib.Core.Path.{◌≡◌, refl, sym, ap, ◌∙◌}
 use mathlib.Core.List.{List}
 use native.Mathlib.Omega.{arith}
 use native.Mathlib.Numerals.{add-one}
 use lib.ListN.{length}
-use borrow.Author.Rules.{rules}
 use Rattle.buffer.specs.Bytes.{be32, splice}
-use Rattle.buffer.specs.LoopWrites.{Appending, appending_start, appending_turn, appending_end}
+use Rattle.buffer.specs.LoopWrites.{appending_start, appending_turn, appending_end}
 use Rattle.buffer.specs.SpliceLaws.{length_lent, put_lent, part_lent}
 use Rattle.group.specs.Widths.{slot_bytes}
 use Rattle.model.specs.Units.{unit_of}

@@ -1,18 +1,10 @@
-use Prim.Native.Nat.{ℕ, suc, ◌+◌, ◌*◌, ◌-◌, ◌≤◌}
-use mathlib.Core.Path.{◌≡◌, refl, sym, ap, ◌∙◌}
+use Prim.Native.Nat.{ℕ, ◌*◌, ◌-◌}
+use mathlib.Core.Path.{◌≡◌}
 use mathlib.Core.List.{List}
-use native.Mathlib.Omega.{arith}
-use native.Mathlib.Numerals.{add-one}
-use lib.ListN.{length}
-use borrow.Author.Rules.{rules}
-use Rattle.buffer.specs.Bytes.{be32, splice}
-use Rattle.buffer.specs.LoopWrites.{Appending, appending_start, appending_turn, appending_end}
-use Rattle.buffer.specs.SpliceLaws.{length_lent, put_lent, part_lent}
+use Rattle.buffer.specs.LoopWrites.{Appending}
 use Rattle.group.specs.Widths.{slot_bytes}
-use Rattle.model.specs.Units.{unit_of}
 use Rattle.lines.specs.Put.{record_line_bytes}
-use Rattle.lines.specs.OutputLaws.{length_record_line}
-use Rattle.answering.specs.Places.{unit_at, rank_behind, unit_before, rank_before, listed_line}
+use Rattle.answering.specs.Places.{unit_at, unit_before, rank_before, listed_line}
 use Rattle.answering.proofs.records.put_records.Given as goal
 
 -- before record i: where it stands, the place of the record before it, and the lines so far

@@ -1,11 +1,7 @@
 -- `group::parities::fill` meets its contract.
 use borrow.Author.Rules.{rules}
-use Prim.Native.Nat.{◌-◌}
 use native.Mathlib.Omega.{arith}
-use Rattle.buffer.specs.Bytes.{byte}
-use Rattle.buffer.specs.LoopWrites.{Filling, filling_start, filling_turn}
-use Rattle.group.specs.Widths.{field_bytes}
-use Rattle.group.specs.Parity.{parity}
+use Rattle.buffer.specs.LoopWrites.{filling_start, filling_turn}
 use Rattle.group.specs.Four.{four_bodies}
 use Rattle.group.proofs.ParitySums.{parity_place, parity_filled}
 use Rattle.group.proofs.parities.fill.Goals as goal

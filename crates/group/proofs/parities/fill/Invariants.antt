@@ -1,12 +1,9 @@
-use borrow.Author.Rules.{rules}
 use Prim.Native.Nat.{◌-◌}
-use native.Mathlib.Omega.{arith}
 use Rattle.buffer.specs.Bytes.{byte}
-use Rattle.buffer.specs.LoopWrites.{Filling, filling_start, filling_turn}
+use Rattle.buffer.specs.LoopWrites.{Filling}
 use Rattle.group.specs.Widths.{field_bytes}
 use Rattle.group.specs.Parity.{parity}
 use Rattle.group.specs.Four.{four_bodies}
-use Rattle.group.proofs.ParitySums.{parity_place, parity_filled}
 use Rattle.group.proofs.parities.fill.Given as goal
 
 abbrev pub invariant-loop-i : goal.invariant-loop-i

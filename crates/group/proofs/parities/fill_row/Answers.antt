@@ -1,9 +1,7 @@
 -- `group::parities::fill_row` meets its contract.
-use borrow.Author.Rules.{rules}
-use Prim.Native.Nat.{◌-◌}
 use mathlib.Core.Path.{ap, ◌∙◌}
 use Rattle.buffer.specs.Loops.{entries}
-use Rattle.buffer.specs.LoopWrites.{Filling, filling_start, filling_turn, filling_end}
+use Rattle.buffer.specs.LoopWrites.{filling_start, filling_turn, filling_end}
 use Rattle.code.specs.Scaling.{scale}
 use Rattle.group.specs.ScaledRow.{scaled_row}
 use Rattle.group.proofs.parities.fill_row.Goals as goal

@@ -1,7 +1,6 @@
 -- `group::parities::mix_low` meets its contract.
 use Prim.Native.Nat.{◌%◌}
 use native.Mathlib.Omega.{arith}
-use borrow.Author.Rules.{rules}
 use Rattle.group.proofs.ParitySums.{row_byte}
 use Rattle.group.proofs.parities.mix_low.Goals as goal
 

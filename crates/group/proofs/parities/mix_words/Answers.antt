@@ -1,7 +1,6 @@
 -- `group::parities::mix_words` meets its contract.
 use Prim.Native.Nat.{ℕ}
 use mathlib.Core.Path.{◌∙◌}
-use borrow.Author.Rules.{rules}
 use Rattle.buffer.specs.Loops.{entries}
 use Rattle.buffer.specs.ByteOrder.{low_byte}
 use Rattle.group.specs.FirstSums.{first_sums}

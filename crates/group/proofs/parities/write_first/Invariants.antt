@@ -1,23 +1,11 @@
-use Prim.Native.Nat.{ℕ, ◌+◌, ◌-◌, ◌%◌, ◌≤◌, ◌<◌}
+use Prim.Native.Nat.{ℕ, ◌-◌, ◌%◌, ◌≤◌}
 use mathlib.Core.List.{List}
-use mathlib.Core.Path.{◌≡◌, sym, ap, ◌∙◌}
-use borrow.Author.Rules.{rules}
-use native.Mathlib.Nat.{add_assoc}
-use native.Mathlib.Omega.{arith}
-use lib.ListN.{length}
+use mathlib.Core.Path.{◌≡◌}
 use Rattle.buffer.specs.Bytes.{byte, part}
-use Rattle.buffer.specs.ByteLaws.{byte_part}
-use Rattle.buffer.specs.ByteOrder.{le32, low_byte}
-use Rattle.buffer.specs.ByteOrderLaws.{byte_le}
-use Rattle.buffer.specs.Loops.{entries}
-use Rattle.buffer.specs.RangeLaws.{length_entries, entries_ext}
-use Rattle.buffer.specs.SpliceLaws.{length_part, length_lent, put_lent}
-use Rattle.buffer.specs.LoopWrites.{FillingFrom, from_start, from_turn, from_read}
+use Rattle.buffer.specs.LoopWrites.{FillingFrom}
 use Rattle.group.specs.Widths.{field_bytes}
 use Rattle.group.specs.Parity.{parity}
 use Rattle.group.specs.Four.{four_bodies}
-use Rattle.group.specs.FirstSums.{first_sums}
-use Rattle.group.proofs.ParitySums.{parity_place, parity_entries}
 use Rattle.group.proofs.parities.write_first.Given as goal
 
 -- the parity that is written

@@ -1,5 +1,4 @@
 -- `lookup::decoders::changes_at` meets its contract.
-use borrow.Author.Rules.{rules}
 use Rattle.model.specs.Layout.{view}
 use Rattle.lookup.specs.Decoders.{changes_at}
 use Rattle.lookup.proofs.decoders.changes_at.Goals as goal

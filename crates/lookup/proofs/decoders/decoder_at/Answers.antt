@@ -1,6 +1,5 @@
 -- `lookup::decoders::decoder_at` meets its contract.
 use native.Mathlib.Omega.{arith}
-use borrow.Author.Rules.{rules}
 use Rattle.group.proofs.RebuildingLaws.{members_within}
 use Rattle.lookup.specs.GroupLaws.{missing_four}
 use Rattle.lookup.proofs.decoders.decoder_at.Goals as goal

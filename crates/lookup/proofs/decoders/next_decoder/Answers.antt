@@ -1,5 +1,4 @@
 -- `lookup::decoders::next_decoder` meets its contract.
-use borrow.Author.Rules.{rules}
 use Rattle.lookup.proofs.decoders.next_decoder.Goals as goal
 
 pub returns-then-r-last : goal.returns-then-r-last

@@ -1,11 +1,10 @@
 -- `lookup::losses::beyond` meets its contract.
-use Prim.Native.Nat.{◌+◌, ◌*◌, ◌-◌, ◌/◌}
+use Prim.Native.Nat.{◌+◌, ◌*◌, ◌/◌}
 use mathlib.Core.Path.{◌≡◌, sym, ap, ◌∙◌}
 use native.Mathlib.Omega.{arith}
-use borrow.Author.Rules.{rules}
-use Rattle.buffer.specs.LoopTests.{Missing, missing_start, missing_turn}
+use Rattle.buffer.specs.LoopTests.{missing_start, missing_turn}
 use Rattle.model.specs.Layout.{view}
-use Rattle.model.specs.Reads.{first_check, keys_lost_in}
+use Rattle.model.specs.Reads.{first_check}
 use Rattle.model.proofs.LossLaws.{none_out_near}
 use Rattle.lookup.specs.GroupLaws.{all_counted, beyond_lost, beyond_rank}
 use Rattle.lookup.proofs.losses.beyond.Goals as goal

@@ -1,12 +1,7 @@
-use Prim.Native.Nat.{◌+◌, ◌*◌, ◌-◌, ◌/◌}
-use mathlib.Core.Path.{◌≡◌, sym, ap, ◌∙◌}
-use native.Mathlib.Omega.{arith}
-use borrow.Author.Rules.{rules}
-use Rattle.buffer.specs.LoopTests.{Missing, missing_start, missing_turn}
+use Prim.Native.Nat.{◌+◌, ◌*◌, ◌-◌}
+use Rattle.buffer.specs.LoopTests.{Missing}
 use Rattle.model.specs.Layout.{view}
-use Rattle.model.specs.Reads.{first_check, keys_lost_in}
-use Rattle.model.proofs.LossLaws.{none_out_near}
-use Rattle.lookup.specs.GroupLaws.{all_counted, beyond_lost, beyond_rank}
+use Rattle.model.specs.Reads.{keys_lost_in}
 use Rattle.lookup.proofs.losses.beyond.Given as goal
 
 abbrev pub invariant-loop-p : goal.invariant-loop-p

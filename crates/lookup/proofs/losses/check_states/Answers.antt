@@ -1,7 +1,6 @@
 -- `lookup::losses::check_states` meets its contract.
 use Prim.Native.Nat.{◌+◌, ◌*◌}
 use native.Mathlib.Omega.{arith}
-use borrow.Author.Rules.{rules}
 use Rattle.lookup.specs.Parts.{handed_back}
 use Rattle.lookup.proofs.losses.check_states.Goals as goal
 

@@ -1,6 +1,5 @@
 -- `lookup::losses::keys_lost` meets its contract.
 use mathlib.Core.Path.{sym}
-use borrow.Author.Rules.{rules}
 use Rattle.lookup.specs.GroupLaws.{lost_no, lost_none_serves}
 use Rattle.lookup.proofs.losses.keys_lost.Goals as goal
 

@@ -1,12 +1,8 @@
 -- `lookup::losses::lost` meets its contract.
-use Prim.Native.Nat.{◌-◌}
 use mathlib.Core.Path.{sym, ap, ◌∙◌}
 use native.Mathlib.Omega.{arith}
 use lib.ListN.{get_or}
-use borrow.Author.Rules.{rules}
-use Rattle.buffer.specs.LoopTests.{Missing, missing_start, missing_turn}
-use Rattle.model.specs.Layout.{view}
-use Rattle.model.specs.Reads.{beyond_in}
+use Rattle.buffer.specs.LoopTests.{missing_start, missing_turn}
 use Rattle.lookup.specs.GroupLaws.{lost_some, lost_none}
 use Rattle.lookup.proofs.losses.lost.Goals as goal
 

@@ -1,12 +1,7 @@
 use Prim.Native.Nat.{◌-◌}
-use mathlib.Core.Path.{sym, ap, ◌∙◌}
-use native.Mathlib.Omega.{arith}
-use lib.ListN.{get_or}
-use borrow.Author.Rules.{rules}
-use Rattle.buffer.specs.LoopTests.{Missing, missing_start, missing_turn}
+use Rattle.buffer.specs.LoopTests.{Missing}
 use Rattle.model.specs.Layout.{view}
 use Rattle.model.specs.Reads.{beyond_in}
-use Rattle.lookup.specs.GroupLaws.{lost_some, lost_none}
 use Rattle.lookup.proofs.losses.lost.Given as goal
 
 abbrev pub invariant-loop-g : goal.invariant-loop-g

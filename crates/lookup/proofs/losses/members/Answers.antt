@@ -1,6 +1,5 @@
 -- `lookup::losses::members` meets its contract.
 use mathlib.Core.Path.{◌∙◌}
-use borrow.Author.Rules.{rules}
 use Rattle.lookup.specs.GroupLaws.{four_marked}
 use Rattle.lookup.proofs.losses.members.Goals as goal
 

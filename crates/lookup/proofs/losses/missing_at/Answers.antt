@@ -1,6 +1,5 @@
 -- `lookup::losses::missing_at` meets its contract.
 use mathlib.Core.List.{[], ◌∷◌}
-use borrow.Author.Rules.{rules}
 use Rattle.buffer.specs.Loops.{entries}
 use Rattle.lookup.proofs.losses.missing_at.Goals as goal
 

@@ -1,6 +1,5 @@
 -- `lookup::losses::rebuildable` meets its contract.
 use mathlib.Core.Path.{◌∙◌}
-use borrow.Author.Rules.{rules}
 use Rattle.lookup.specs.GroupLaws.{rank_marked}
 use Rattle.lookup.proofs.losses.rebuildable.Goals as goal
 

@@ -10,7 +10,6 @@ use lib.Seq.{take_at, take-add, drop-cons, drop-drop, length-take-le, get_or-tak
 use borrow.Author.Tests.{eqb-true, ltb-true, ltb-false}
 use Rattle.buffer.specs.ChoiceLaws.{by-test, pick_true}
 use Rattle.buffer.specs.TestLaws.{not-both, and-true, and_first, and_second, and_false_first}
-use Rattle.buffer.specs.Range.{first}
 use Rattle.buffer.specs.Bytes.{byte, bytes32, zeros, part}
 use Rattle.buffer.specs.ByteLaws.{bytes32_be32, be32_zeros}
 use Rattle.buffer.specs.SpliceLaws.{length_part, part_whole}

@@ -3,9 +3,7 @@ use Prim.Native.Nat.{◌+◌, ◌*◌, ◌/◌, ◌≤◌}
 use mathlib.Core.Path.{◌≡◌, ap₂, ◌∙◌}
 use native.Mathlib.Nat.{mul-le-mul_right}
 use native.Mathlib.Omega.{arith}
-use borrow.Author.Rules.{rules}
 use Rattle.buffer.specs.Bytes.{byte}
-use Rattle.buffer.specs.TestLaws.{is_no, is_yes}
 use Rattle.model.specs.Layout.{slot_at}
 use Rattle.soundness.specs.Pieces.{zero_between, groups_in, behind_zero}
 use mathlib.Core.Path.{sym}

@@ -1,12 +1,10 @@
 -- `soundness::absent::columns_empty` meets its contract.
-use Prim.Native.Nat.{◌*◌, ◌-◌, ◌/◌, ◌≤◌}
+use Prim.Native.Nat.{◌/◌, ◌≤◌}
 use native.Mathlib.Omega.{arith}
-use borrow.Author.Rules.{rules}
 use Rattle.buffer.specs.Bytes.{byte}
-use Rattle.buffer.specs.TestLaws.{is_no, is_yes}
 use Rattle.buffer.specs.LoopTests.{passing_end}
-use Rattle.soundness.specs.Pieces.{groups_in, none_behind, columns_empty}
-use Rattle.soundness.proofs.Runs.{Behind, behind_start, behind_turn, behind_fail}
+use Rattle.soundness.specs.Pieces.{groups_in, columns_empty}
+use Rattle.soundness.proofs.Runs.{behind_start, behind_turn, behind_fail}
 use Rattle.soundness.proofs.Endings.{kept_at}
 use mathlib.Core.Path.{sym, ◌∙◌}
 use Rattle.soundness.proofs.absent.columns_empty.Goals as goal

@@ -1,5 +1,4 @@
 -- `soundness::absent::zero_stretch` meets its contract.
-use borrow.Author.Rules.{rules}
 use Rattle.buffer.specs.Bytes.{part}
 use Rattle.soundness.specs.Pieces.{zero_between}
 use Rattle.soundness.proofs.absent.zero_stretch.Goals as goal

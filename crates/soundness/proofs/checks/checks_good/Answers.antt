@@ -1,11 +1,9 @@
 -- `soundness::checks::checks_good` meets its contract.
-use Prim.Native.Nat.{◌*◌, ◌-◌, ◌/◌, ◌≤◌}
+use Prim.Native.Nat.{◌/◌, ◌≤◌}
 use native.Mathlib.Omega.{arith}
-use borrow.Author.Rules.{rules}
 use Rattle.buffer.specs.Bytes.{byte}
-use Rattle.buffer.specs.TestLaws.{is_no, is_yes}
-use Rattle.buffer.specs.LoopTests.{Passing, passing_start, passing_turn, passing_fail, passing_end}
-use Rattle.soundness.specs.Pieces.{groups_in, check_good}
+use Rattle.buffer.specs.LoopTests.{passing_start, passing_turn, passing_fail, passing_end}
+use Rattle.soundness.specs.Pieces.{groups_in}
 use Rattle.soundness.proofs.Endings.{kept_at}
 use mathlib.Core.Path.{sym, ◌∙◌}
 use Rattle.soundness.proofs.checks.checks_good.Goals as goal

@@ -1,12 +1,6 @@
-use Prim.Native.Nat.{◌*◌, ◌-◌, ◌/◌, ◌≤◌}
-use native.Mathlib.Omega.{arith}
-use borrow.Author.Rules.{rules}
-use Rattle.buffer.specs.Bytes.{byte}
-use Rattle.buffer.specs.TestLaws.{is_no, is_yes}
-use Rattle.buffer.specs.LoopTests.{Passing, passing_start, passing_turn, passing_fail, passing_end}
+use Prim.Native.Nat.{◌*◌, ◌-◌}
+use Rattle.buffer.specs.LoopTests.{Passing}
 use Rattle.soundness.specs.Pieces.{groups_in, check_good}
-use Rattle.soundness.proofs.Endings.{kept_at}
-use mathlib.Core.Path.{sym, ◌∙◌}
 use Rattle.soundness.proofs.checks.checks_good.Given as goal
 
 abbrev pub invariant-loop-c : goal.invariant-loop-c

@@ -1,14 +1,11 @@
 -- `soundness::few::count_units` meets its contract.
-use Prim.Native.Nat.{◌-◌, ◌/◌}
+use Prim.Native.Nat.{◌/◌}
 use mathlib.Core.Path.{refl}
 use native.Mathlib.Omega.{arith}
-use borrow.Author.Rules.{rules}
-use Rattle.buffer.specs.Bytes.{byte}
 use Rattle.buffer.specs.Loops.{entries}
 use Rattle.buffer.specs.LoopTests.{passing_end}
-use Rattle.soundness.specs.Pieces.{unit_good}
 use Rattle.soundness.proofs.Endings.{kept_at}
-use Rattle.soundness.proofs.Counting.{not_counted, counted, Tallying, tallying_start, tallying_turn, tallying_fail, tallying_end}
+use Rattle.soundness.proofs.Counting.{not_counted, counted, tallying_start, tallying_turn, tallying_fail, tallying_end}
 use Rattle.soundness.proofs.few.count_units.Goals as goal
 
 pub loop-u-init : goal.loop-u-init

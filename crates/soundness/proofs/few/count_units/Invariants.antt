@@ -1,13 +1,7 @@
-use Prim.Native.Nat.{◌-◌, ◌/◌}
-use mathlib.Core.Path.{refl}
-use native.Mathlib.Omega.{arith}
-use borrow.Author.Rules.{rules}
+use Prim.Native.Nat.{◌-◌}
 use Rattle.buffer.specs.Bytes.{byte}
-use Rattle.buffer.specs.Loops.{entries}
-use Rattle.buffer.specs.LoopTests.{passing_end}
 use Rattle.soundness.specs.Pieces.{unit_good}
-use Rattle.soundness.proofs.Endings.{kept_at}
-use Rattle.soundness.proofs.Counting.{not_counted, counted, Tallying, tallying_start, tallying_turn, tallying_fail, tallying_end}
+use Rattle.soundness.proofs.Counting.{Tallying}
 use Rattle.soundness.proofs.few.count_units.Given as goal
 
 abbrev pub invariant-loop-u : goal.invariant-loop-u

@@ -5,7 +5,6 @@ use borrow.Author.Rules.{rules}
 use Rattle.buffer.specs.Choice.{pick}
 use Rattle.buffer.specs.Bytes.{byte}
 use Rattle.buffer.specs.Strided.{strided32}
-use Rattle.buffer.specs.TestLaws.{is_no, is_yes}
 use Rattle.group.specs.Widths.{check_bytes}
 use Rattle.soundness.specs.Pieces.{unit_zero, lost}
 use Rattle.soundness.proofs.Endings.{is_unkept, is_kept, unit_zero_lem}

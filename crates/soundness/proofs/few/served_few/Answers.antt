@@ -3,7 +3,6 @@ use mathlib.Core.Path.{◌≡◌}
 use mathlib.Core.Bool.{◌&&◌}
 use native.Mathlib.Omega.{arith}
 use borrow.Author.Rules.{rules}
-use Rattle.buffer.specs.TestLaws.{is_no, is_yes}
 use Rattle.buffer.specs.Strided.{within_fewer}
 use Rattle.soundness.specs.Pieces.{data_fill, rest_zero, served}
 use Rattle.soundness.proofs.Located.{within_slots}

@@ -2,7 +2,6 @@
 use mathlib.Core.Path.{ap, ◌∙◌}
 use lib.Bits.{bit_and}
 use lib.Dec.{eqb}
-use borrow.Author.Rules.{rules}
 use Rattle.soundness.proofs.Joined.{xor_same}
 use Rattle.soundness.proofs.Masks.{kept_bits}
 use Rattle.soundness.proofs.keys.astray.Goals as goal

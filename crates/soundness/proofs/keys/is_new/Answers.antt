@@ -1,14 +1,13 @@
 -- `soundness::keys::is_new` meets its contract.
-use Prim.Native.Nat.{◌+◌, ◌-◌, ◌≤◌}
+use Prim.Native.Nat.{◌+◌, ◌≤◌}
 use mathlib.Core.Bool.{not}
 use mathlib.Core.Path.{◌≡◌, refl, ap, ◌∙◌}
 use native.Mathlib.Omega.{arith}
-use lib.Dec.{eqb}
 use lib.ListN.{length}
 use Rattle.buffer.specs.TestLaws.{is_eq, is_ne}
 use Rattle.buffer.specs.ByteOrder.{le32}
 use Rattle.soundness.specs.Keys.{is_new, turned_keys}
-use Rattle.soundness.proofs.Stepping.{Stepping, still_fits, stepping_start, rank_before_lem, stepping_turn, stepping_fail, stepping_end}
+use Rattle.soundness.proofs.Stepping.{still_fits, stepping_start, rank_before_lem, stepping_turn, stepping_fail, stepping_end}
 use Rattle.soundness.proofs.keys.is_new.Goals as goal
 
 pub loop-q-init : goal.loop-q-init

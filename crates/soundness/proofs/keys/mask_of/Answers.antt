@@ -3,7 +3,6 @@ use mathlib.Core.Path.{◌∙◌}
 use Prim.Native.Nat.{ℕ, ◌-◌, ◌%◌, ◌≤◌}
 use native.Mathlib.Omega.{arith}
 use native.Mathlib.Nat.{mod-lt, lt_of_le_of_lt}
-use borrow.Author.Rules.{rules}
 use Rattle.lookup.specs.Below.{bit_mul_le, add_bit_mul_le}
 use Rattle.lookup.specs.UnitLaws.{bit_exactly}
 use Rattle.soundness.proofs.Masks.{mask_by_bit}

@@ -1,12 +1,8 @@
 -- `soundness::keys::own_keys` meets its contract.
-use Prim.Native.Nat.{◌-◌}
 use mathlib.Core.Path.{◌∙◌}
 use native.Mathlib.Omega.{arith}
-use lib.Dec.{eqb}
-use borrow.Author.Rules.{rules}
-use Rattle.buffer.specs.LoopTests.{GatheringBehind, gathering_behind, gathering_behind_turn, gathering_end}
-use Rattle.model.specs.Units.{unit_of}
-use Rattle.soundness.specs.Keys.{turned_keys, own_from}
+use Rattle.buffer.specs.LoopTests.{gathering_behind, gathering_behind_turn, gathering_end}
+use Rattle.soundness.specs.Keys.{own_from}
 use Rattle.soundness.proofs.Masks.{mask_small, own_test}
 use Rattle.soundness.proofs.Turned.{own_from_turned}
 use Rattle.soundness.proofs.keys.own_keys.Goals as goal

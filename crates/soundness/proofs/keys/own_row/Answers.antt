@@ -2,7 +2,6 @@
 use mathlib.Core.Path.{ap}
 use Prim.Native.Nat.{ℕ, ◌+◌}
 use native.Mathlib.Omega.{arith}
-use borrow.Author.Rules.{rules}
 use Rattle.soundness.proofs.Masks.{own_test}
 use Rattle.soundness.proofs.Turned.{row_turned}
 use Rattle.soundness.proofs.keys.own_row.Goals as goal

@@ -1,10 +1,6 @@
 -- `soundness::keys::own_rows` meets its contract.
-use Prim.Native.Nat.{◌-◌}
 use native.Mathlib.Omega.{arith}
-use borrow.Author.Rules.{rules}
-use Rattle.buffer.specs.TestLaws.{is_no, is_yes}
-use Rattle.buffer.specs.LoopTests.{Passing, passing_start, passing_turn, passing_fail, passing_end}
-use Rattle.soundness.specs.Keys.{own_row}
+use Rattle.buffer.specs.LoopTests.{passing_start, passing_turn, passing_fail, passing_end}
 use Rattle.soundness.proofs.Masks.{mask_small}
 use mathlib.Core.Path.{sym, ◌∙◌}
 use Rattle.soundness.proofs.keys.own_rows.Goals as goal

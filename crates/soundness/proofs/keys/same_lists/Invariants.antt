@@ -1,17 +1,9 @@
-use Prim.Native.Nat.{ℕ, ◌+◌, ◌*◌, ◌-◌, ◌<◌}
-use mathlib.Core.Bool.{Bool, ◌&&◌}
+use Prim.Native.Nat.{ℕ, ◌+◌, ◌*◌, ◌-◌}
+use mathlib.Core.Bool.{Bool}
 use mathlib.Core.List.{List}
-use mathlib.Core.Path.{sym, ap₂, ◌∙◌}
-use native.Mathlib.Omega.{arith}
-use lib.Bits.{bit_xor}
-use borrow.Author.Rules.{rules}
-use Rattle.buffer.specs.Bytes.{byte}
-use Rattle.buffer.specs.TestLaws.{or_zero}
-use Rattle.buffer.specs.RangeLaws.{all_both}
-use Rattle.buffer.specs.LoopTests.{Gathering, gathering_start, gathering_turn, gathering_end}
+use Rattle.buffer.specs.LoopTests.{Gathering}
 use Rattle.group.specs.Widths.{check_bytes}
-use Rattle.soundness.specs.Keys.{same_pair, same_lists}
-use Rattle.soundness.proofs.Words.{same_words}
+use Rattle.soundness.specs.Keys.{same_pair}
 use Rattle.soundness.proofs.keys.same_lists.Given as goal
 
 abbrev front : List ℕ → ℕ → ℕ → ℕ → Bool

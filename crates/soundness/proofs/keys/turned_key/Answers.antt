@@ -1,5 +1,4 @@
 -- `soundness::keys::turned_key` meets its contract.
-use borrow.Author.Rules.{rules}
 use Rattle.soundness.specs.Keys.{turned_keys}
 use Rattle.soundness.proofs.keys.turned_key.Goals as goal
 

@@ -1,6 +1,5 @@
 -- `soundness::places::beside` meets its contract.
 use native.Mathlib.Omega.{arith}
-use borrow.Author.Rules.{rules}
 use Rattle.soundness.proofs.Located.{beside_own, beside_listed}
 use Rattle.soundness.proofs.Endings.{is_unkept, is_kept}
 use Rattle.soundness.proofs.places.beside.Goals as goal

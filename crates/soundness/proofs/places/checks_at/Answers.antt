@@ -1,6 +1,5 @@
 -- `soundness::places::checks_at` meets its contract.
 use native.Mathlib.Omega.{arith}
-use borrow.Author.Rules.{rules}
 use Rattle.soundness.proofs.Located.{row_within}
 use Rattle.soundness.proofs.places.checks_at.Goals as goal
 

@@ -1,6 +1,5 @@
 -- `soundness::places::column_at` meets its contract.
 use native.Mathlib.Omega.{arith}
-use borrow.Author.Rules.{rules}
 use Rattle.soundness.proofs.Located.{column_place}
 use Rattle.soundness.proofs.places.column_at.Goals as goal
 

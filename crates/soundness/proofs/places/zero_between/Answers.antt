@@ -1,5 +1,4 @@
 -- `soundness::places::zero_between` meets its contract.
-use borrow.Author.Rules.{rules}
 use Rattle.buffer.specs.Bytes.{part}
 use Rattle.soundness.specs.Pieces.{zero_between}
 use Rattle.soundness.proofs.places.zero_between.Goals as goal

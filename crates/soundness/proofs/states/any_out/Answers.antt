@@ -1,10 +1,6 @@
 -- `soundness::states::any_out` meets its contract.
-use Prim.Native.Nat.{◌+◌, ◌-◌, ◌/◌}
 use mathlib.Core.Path.{refl}
-use lib.Dec.{eqb}
-use borrow.Author.Rules.{rules}
-use Rattle.buffer.specs.Bytes.{byte}
-use Rattle.buffer.specs.LoopTests.{Gathering, gathering_start, gathering_turn, gathering_end}
+use Rattle.buffer.specs.LoopTests.{gathering_start, gathering_turn, gathering_end}
 use Rattle.soundness.proofs.states.any_out.Goals as goal
 
 pub loop-i-init : goal.loop-i-init

@@ -1,9 +1,7 @@
 use Prim.Native.Nat.{◌+◌, ◌-◌, ◌/◌}
-use mathlib.Core.Path.{refl}
 use lib.Dec.{eqb}
-use borrow.Author.Rules.{rules}
 use Rattle.buffer.specs.Bytes.{byte}
-use Rattle.buffer.specs.LoopTests.{Gathering, gathering_start, gathering_turn, gathering_end}
+use Rattle.buffer.specs.LoopTests.{Gathering}
 use Rattle.soundness.proofs.states.any_out.Given as goal
 
 abbrev pub invariant-loop-i : goal.invariant-loop-i

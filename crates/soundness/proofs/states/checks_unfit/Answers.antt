@@ -1,11 +1,9 @@
 -- `soundness::states::checks_unfit` meets its contract.
-use Prim.Native.Nat.{◌+◌, ◌-◌}
+use Prim.Native.Nat.{◌+◌}
 use mathlib.Core.Path.{ap₂, ◌∙◌}
-use borrow.Author.Rules.{rules}
-use Rattle.buffer.specs.LoopTests.{Gathering, gathering_start, gathering_turn, gathering_end}
+use Rattle.buffer.specs.LoopTests.{gathering_start, gathering_turn, gathering_end}
 use Rattle.buffer.specs.Bytes.{byte}
 use Rattle.model.specs.Sound.{state_fits}
-use Rattle.soundness.specs.Pieces.{check_fits}
 use Rattle.soundness.proofs.states.checks_unfit.Goals as goal
 
 pub loop-c-init : goal.loop-c-init

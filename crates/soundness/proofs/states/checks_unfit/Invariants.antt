@@ -1,9 +1,5 @@
-use Prim.Native.Nat.{◌+◌, ◌-◌}
-use mathlib.Core.Path.{ap₂, ◌∙◌}
-use borrow.Author.Rules.{rules}
-use Rattle.buffer.specs.LoopTests.{Gathering, gathering_start, gathering_turn, gathering_end}
-use Rattle.buffer.specs.Bytes.{byte}
-use Rattle.model.specs.Sound.{state_fits}
+use Prim.Native.Nat.{◌-◌}
+use Rattle.buffer.specs.LoopTests.{Gathering}
 use Rattle.soundness.specs.Pieces.{check_fits}
 use Rattle.soundness.proofs.states.checks_unfit.Given as goal
 

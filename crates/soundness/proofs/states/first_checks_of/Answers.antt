@@ -1,6 +1,5 @@
 -- `soundness::states::first_checks_of` meets its contract.
 use mathlib.Core.List.{[], ◌∷◌}
-use borrow.Author.Rules.{rules}
 use Rattle.buffer.specs.Loops.{entries}
 use Rattle.soundness.proofs.states.first_checks_of.Goals as goal
 

@@ -1,5 +1,4 @@
 -- `soundness::states::has_check` meets its contract.
-use borrow.Author.Rules.{rules}
 use borrow.Author.Tests.{lt-ltb, le-ltb}
 use Rattle.model.specs.Sound.{check_placed}
 use Rattle.soundness.proofs.states.has_check.Goals as goal

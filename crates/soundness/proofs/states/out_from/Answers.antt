@@ -1,12 +1,10 @@
 -- `soundness::states::out_from` meets its contract.
 use mathlib.Core.Path.{refl, ap}
-use mathlib.Core.Logic.{⊎_elim}
-use Prim.Native.Nat.{◌+◌, ◌-◌}
-use lib.Dec.{eqb}
+use Prim.Native.Nat.{◌+◌}
 use borrow.Author.Rules.{rules}
 use Rattle.buffer.specs.Bytes.{byte}
 use Rattle.buffer.specs.TestLaws.{is_eq, is_ne}
-use Rattle.buffer.specs.LoopTests.{Counting, counting_start, counting_more, counting_same, counting_end}
+use Rattle.buffer.specs.LoopTests.{counting_start, counting_more, counting_same, counting_end}
 use Rattle.soundness.proofs.states.out_from.Goals as goal
 use Rattle.soundness.proofs.states.out_from.Goals.{then-s-at-eq2, else-s-at-eq2}
 

@@ -1,5 +1,4 @@
 -- `soundness::states::outs_in` meets its contract.
-use borrow.Author.Rules.{rules}
 use Rattle.soundness.proofs.Endings.{group_outs}
 use Rattle.soundness.proofs.states.outs_in.Goals as goal
 

@@ -1,7 +1,6 @@
 -- `soundness::states::states_hold` meets its contract.
 use mathlib.Core.Bool.{◌&&◌}
 use mathlib.Core.Path.{ap₂, ◌∙◌}
-use borrow.Author.Rules.{rules}
 use Rattle.buffer.specs.TestLaws.{or_zero}
 use Rattle.soundness.proofs.states.states_hold.Goals as goal
 

@@ -1,12 +1,10 @@
 -- `soundness::states::units_unfit` meets its contract.
-use Prim.Native.Nat.{◌+◌, ◌-◌}
+use Prim.Native.Nat.{◌+◌}
 use mathlib.Core.Path.{ap, ◌∙◌}
 use lib.Dec.{ltb}
-use borrow.Author.Rules.{rules}
-use Rattle.buffer.specs.LoopTests.{Gathering, gathering_start, gathering_turn, gathering_end}
+use Rattle.buffer.specs.LoopTests.{gathering_start, gathering_turn, gathering_end}
 use Rattle.buffer.specs.Bytes.{byte}
 use Rattle.model.specs.Sound.{state_fits}
-use Rattle.soundness.specs.Pieces.{data_fits}
 use Rattle.soundness.proofs.states.units_unfit.Goals as goal
 
 pub loop-u-init : goal.loop-u-init

@@ -1,10 +1,5 @@
-use Prim.Native.Nat.{◌+◌, ◌-◌}
-use mathlib.Core.Path.{ap, ◌∙◌}
-use lib.Dec.{ltb}
-use borrow.Author.Rules.{rules}
-use Rattle.buffer.specs.LoopTests.{Gathering, gathering_start, gathering_turn, gathering_end}
-use Rattle.buffer.specs.Bytes.{byte}
-use Rattle.model.specs.Sound.{state_fits}
+use Prim.Native.Nat.{◌-◌}
+use Rattle.buffer.specs.LoopTests.{Gathering}
 use Rattle.soundness.specs.Pieces.{data_fits}
 use Rattle.soundness.proofs.states.units_unfit.Given as goal
 

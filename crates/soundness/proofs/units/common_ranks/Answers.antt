@@ -1,5 +1,4 @@
 -- `soundness::units::common_ranks` meets its contract.
-use borrow.Author.Rules.{rules}
 use Rattle.soundness.proofs.Together.{common}
 use Rattle.soundness.proofs.units.common_ranks.Goals as goal
 

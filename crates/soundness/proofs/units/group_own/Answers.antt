@@ -1,15 +1,12 @@
 -- `soundness::units::group_own` meets its contract. What is known at a place is said once, and the needs behind it use it.
-use Prim.Native.Nat.{ℕ, ◌+◌, ◌*◌, ◌-◌, ◌≤◌, ◌<◌}
+use Prim.Native.Nat.{ℕ, ◌+◌, ◌*◌, ◌≤◌, ◌<◌}
 use mathlib.Core.Path.{◌≡◌, refl}
-use mathlib.Core.Logic.{⊎_elim}
 use native.Mathlib.Omega.{arith}
-use borrow.Author.Rules.{rules}
-use Rattle.buffer.specs.TestLaws.{is_no, is_yes}
-use Rattle.buffer.specs.LoopTests.{Passing, passing_start, passing_turn, passing_fail, passing_end}
+use Rattle.buffer.specs.LoopTests.{passing_start, passing_turn, passing_fail, passing_end}
 use Rattle.soundness.specs.Pieces.{unit_fill}
 use Rattle.soundness.proofs.Counting.{unit_fill_most}
 use Rattle.soundness.proofs.Endings.{is_kept}
-use Rattle.soundness.proofs.Together.{place_own, OwnUpTo, none_up_to, fill_at, kept_in, ranks_own, ranks_astray, place_own_lem, place_absent}
+use Rattle.soundness.proofs.Together.{place_own, none_up_to, fill_at, kept_in, ranks_own, ranks_astray, place_own_lem, place_absent}
 use mathlib.Core.Path.{sym, ◌∙◌}
 use Rattle.soundness.proofs.units.group_own.Goals as goal
 use Rattle.soundness.proofs.units.group_own.Goals.{then-f-gt0+else-not-own_rows, else-f-gt0, then-u-s+else-not-own_listed, else-u-s}

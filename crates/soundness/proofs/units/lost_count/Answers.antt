@@ -1,10 +1,8 @@
 -- `soundness::units::lost_count` meets its contract. What is known at a place is said once, and the needs behind it use it.
 use mathlib.Core.Path.{◌≡◌, ◌∙◌}
 use native.Mathlib.Omega.{arith}
-use borrow.Author.Rules.{rules}
 use Rattle.buffer.specs.Choice.{pick}
 use Rattle.buffer.specs.Bytes.{byte}
-use Rattle.buffer.specs.TestLaws.{is_no, is_yes}
 use Rattle.buffer.specs.Strided.{Within}
 use Rattle.group.specs.Widths.{check_bytes}
 use Rattle.soundness.specs.Keys.{matched}

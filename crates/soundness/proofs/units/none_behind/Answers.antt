@@ -1,5 +1,4 @@
 -- `soundness::units::none_behind` meets its contract.
-use borrow.Author.Rules.{rules}
 use Rattle.soundness.specs.Pieces.{none_behind}
 use Rattle.soundness.proofs.Endings.{is_unkept, is_kept, column_none}
 use Rattle.soundness.proofs.units.none_behind.Goals as goal

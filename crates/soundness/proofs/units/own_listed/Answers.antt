@@ -3,9 +3,7 @@ use Prim.Native.Nat.{ℕ, ◌≤◌}
 use mathlib.Core.Path.{◌≡◌, sym, ◌∙◌}
 use mathlib.Core.Bool.{and-true}
 use native.Mathlib.Omega.{arith}
-use borrow.Author.Rules.{rules}
 use Rattle.buffer.specs.Bytes.{byte}
-use Rattle.buffer.specs.TestLaws.{is_no, is_yes}
 use Rattle.buffer.specs.Strided.{within_fewer}
 use Rattle.group.specs.Widths.{slot_bytes, check_bytes}
 use Rattle.soundness.specs.Keys.{own_from}

@@ -5,7 +5,7 @@ use native.Mathlib.Omega.{arith}
 use borrow.Author.Rules.{rules}
 use Rattle.buffer.specs.Choice.{pick}
 use Rattle.buffer.specs.Bytes.{byte}
-use Rattle.buffer.specs.TestLaws.{is_no, is_yes, is_le, not_le}
+use Rattle.buffer.specs.TestLaws.{is_le, not_le}
 use Rattle.buffer.specs.Strided.{within_fewer}
 use Rattle.soundness.specs.Keys.{matched}
 use Rattle.soundness.specs.Pieces.{data_keys, beside_keys, data_fill, rest_zero, served}

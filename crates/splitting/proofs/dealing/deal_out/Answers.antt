@@ -1,12 +1,9 @@
 -- `splitting::dealing::deal_out` meets its contract.
-use borrow.Author.Rules.{rules}
 use borrow.Author.Tests.{eq-eqb, ne_eqb}
-use mathlib.Core.Logic.{⊎_elim}
-use Prim.Native.Nat.{◌-◌}
 use native.Mathlib.Omega.{arith}
 use Rattle.encoding.specs.Holding.{holds_step, holds_five, holds_long}
 use Rattle.splitting.proofs.StepLaws.{cleared_change}
-use Rattle.splitting.proofs.DealLoop.{Dealing, dealing_start, deal_goes, deal_stays, deal_places, dealing_end}
+use Rattle.splitting.proofs.DealLoop.{dealing_start, deal_goes, deal_stays, deal_places, dealing_end}
 use Rattle.splitting.proofs.dealing.deal_out.Goals as goal
 use Rattle.splitting.proofs.dealing.deal_out.Goals.{then-goes, else-goes}
 

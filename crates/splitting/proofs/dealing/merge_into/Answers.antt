@@ -1,10 +1,9 @@
 -- `splitting::dealing::merge_into` meets its contract.
-use borrow.Author.Rules.{rules}
-use Prim.Native.Nat.{◌-◌, ◌+◌}
+use Prim.Native.Nat.{◌+◌}
 use native.Mathlib.Omega.{arith}
 use Rattle.encoding.specs.Holding.{holds_step, holds_long}
 use Rattle.splitting.proofs.StepLaws.{cleared_change}
-use Rattle.splitting.proofs.MergeLoop.{Merging, merging_start, merging_turn, merging_from, merging_to, merging_end}
+use Rattle.splitting.proofs.MergeLoop.{merging_start, merging_turn, merging_from, merging_to, merging_end}
 use Rattle.splitting.proofs.dealing.merge_into.Goals as goal
 
 pub loop-t-init : goal.loop-t-init

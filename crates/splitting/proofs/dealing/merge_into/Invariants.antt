@@ -1,9 +1,5 @@
-use borrow.Author.Rules.{rules}
-use Prim.Native.Nat.{◌-◌, ◌+◌}
-use native.Mathlib.Omega.{arith}
-use Rattle.encoding.specs.Holding.{holds_step, holds_long}
-use Rattle.splitting.proofs.StepLaws.{cleared_change}
-use Rattle.splitting.proofs.MergeLoop.{Merging, merging_start, merging_turn, merging_from, merging_to, merging_end}
+use Prim.Native.Nat.{◌-◌}
+use Rattle.splitting.proofs.MergeLoop.{Merging}
 use Rattle.splitting.proofs.dealing.merge_into.Given as goal
 
 abbrev pub invariant-loop-t : goal.invariant-loop-t

@@ -1,5 +1,4 @@
 -- `splitting::dealing::move_record` meets its contract.
-use borrow.Author.Rules.{rules}
 use native.Mathlib.Omega.{arith}
 use native.Mathlib.Nat.{add-sub_cancel_left}
 use Rattle.buffer.specs.Bytes.{part, splice}

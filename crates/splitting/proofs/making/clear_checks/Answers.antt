@@ -1,5 +1,4 @@
 -- `splitting::making::clear_checks` meets its contract.
-use borrow.Author.Rules.{rules}
 use native.Mathlib.Omega.{arith}
 use Prim.Native.Nat.{◌+◌, ◌*◌}
 use Rattle.encoding.specs.Made.{is_unit}

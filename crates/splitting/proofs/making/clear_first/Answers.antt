@@ -1,5 +1,4 @@
 -- `splitting::making::clear_first` meets its contract.
-use borrow.Author.Rules.{rules}
 use mathlib.Core.Path.{ap, ◌∙◌}
 use Rattle.model.specs.Layout.{bytes, view}
 use Rattle.splitting.specs.Steps.{wiped}

@@ -1,7 +1,6 @@
 -- `splitting::raising::add_check` meets its contract.
 use Prim.Native.Nat.{◌+◌}
 use mathlib.Core.Path.{refl, ap}
-use borrow.Author.Rules.{rules}
 use Rattle.splitting.proofs.Raised.{unit_added}
 use Rattle.splitting.proofs.raising.add_check.Goals as goal
 

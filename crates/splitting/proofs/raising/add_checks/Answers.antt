@@ -1,9 +1,7 @@
 -- `splitting::raising::add_checks` meets its contract.
-use Prim.Native.Nat.{◌+◌, ◌*◌, ◌-◌}
-use borrow.Author.Rules.{rules}
 use native.Mathlib.Omega.{arith}
 use Rattle.encoding.specs.Holding.{holds_long, holds_length}
-use Rattle.splitting.proofs.Raised.{Adding, adding_start, adding_turn, adding_end}
+use Rattle.splitting.proofs.Raised.{adding_start, adding_turn, adding_end}
 use Rattle.splitting.proofs.raising.add_checks.Goals as goal
 
 pub loop-g-init : goal.loop-g-init

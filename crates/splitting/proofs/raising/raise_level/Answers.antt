@@ -1,6 +1,5 @@
 -- `splitting::raising::raise_level` meets its contract.
 use mathlib.Core.Path.{refl}
-use borrow.Author.Rules.{rules}
 use Rattle.splitting.proofs.Raised.{level_raised}
 use Rattle.splitting.proofs.raising.raise_level.Goals as goal
 

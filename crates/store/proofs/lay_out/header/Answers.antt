@@ -1,5 +1,4 @@
 -- `lay_out::header` meets its contract.
-use borrow.Author.Rules.{rules}
 use mathlib.Core.Path.{refl}
 use Rattle.buffer.specs.Bytes.{bytes32, zeros}
 use Rattle.model.specs.Layout.{front_of}

@@ -1,5 +1,4 @@
 -- `lay_out::lay_out` meets its contract.
-use borrow.Author.Rules.{rules}
 use Prim.Native.Nat.{ℕ, ◌-◌}
 use mathlib.Core.Path.{sym, ap, ◌∙◌}
 use native.Mathlib.Omega.{arith}
@@ -8,12 +7,6 @@ use Rattle.buffer.specs.SpliceLaws.{length_part}
 use Rattle.model.specs.Layout.{header_bytes, store_bytes}
 use Rattle.model.specs.GrantedLayout.{layout_granted}
 use Rattle.store.proofs.Layouts.{refused, granted, is_zero, laid}
-use Rattle.store.proofs.lay_out.lay_out.Reads as reads
-use Rattle.store.proofs.lay_out.lay_out.Lts as lts
-use Rattle.buffer.proofs.clear.Reads as clear_reads
-use Rattle.buffer.proofs.copy.Reads as copy-reads
-use Rattle.store.proofs.lay_out.header.Reads as header-reads
-use Rattle.store.proofs.lay_out.layout_number.Reads as layout-number-reads
 use Rattle.store.proofs.lay_out.lay_out.Goals as goal
 
 pub returns-then-refused : goal.returns-then-refused

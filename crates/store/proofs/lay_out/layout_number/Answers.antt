@@ -1,5 +1,4 @@
 -- `lay_out::layout_number` meets its contract.
-use borrow.Author.Rules.{rules}
 use Rattle.buffer.specs.Choice.{pick}
 use Rattle.model.specs.Numbers.{first_of}
 use Rattle.model.specs.Perform.{lay_out_number}
