@@ -1,1 +1,2 @@
 pub mod MovesLaws
+pub mod Types
