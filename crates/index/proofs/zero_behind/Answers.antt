@@ -7,16 +7,11 @@ use borrow.Author.Rules.{rules}
 use lib.Seq.{take_all}
 use Rattle.buffer.specs.Loops.{all_zero}
 use Rattle.index.specs.Form.{zero_behind}
-use Rattle.index.proofs.zero_behind.Statement.{statement}
-use Rattle.index.proofs.zero_behind.Tie as tie
+use Rattle.index.proofs.zero_behind.Goals as goal
 
-returns : tie.Need-returns
+pub returns : goal.returns
 unfolding zero_behind
 returns c =
-    let a = c.before.before.before.args in
+    let a = c.args in
     let at : ℕ = 2 + 6 * a.n in
     c.is_zero.ensures ∙ ap all_zero (take_all (length a.x.now - at) (drop at a.x.now) (simp length-drop (omega arith)))
-
-pub zero_behind_spec : {M : Type 1} → statement M
-zero_behind_spec =
-    tie.close (tie.spec (λ c. search rules) (λ c. search rules) (λ c. search rules) (λ c. search rules) (λ c. search rules) (λ c κs. search rules) returns)

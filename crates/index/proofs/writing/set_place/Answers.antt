@@ -6,18 +6,16 @@ use borrow.Author.Rules.{rules}
 use lib.ListN.{set, length-set}
 use Rattle.index.specs.Form.{changed_in}
 use Rattle.index.specs.WriteLaws.{pair_written}
-use Rattle.index.proofs.writing.set_place.Statement.{statement}
-use Rattle.index.proofs.writing.set_place.Tie as tie
+use Rattle.index.proofs.writing.set_place.Goals as goal
 
-returns : tie.Need-returns
+pub bounds-x-at-2 : goal.bounds-x-at-2
+bounds-x-at-2 c =
+    simp length-set (omega arith)
+
+pub returns : goal.returns
 unfolding changed_in
 returns c =
     let a = c.args in
     let at : ℕ = 2 + 6 * a.i in
     let last : at + 5 ≡ at + 4 + 1 = omega arith in
     ap (λ (j : ℕ). set (set a.x.now (at + 4) a.unit) j a.rank) last ∙ pair_written a.x.now (at + 4) a.unit a.rank (omega arith)
-
-pub set_place_spec : {M : Type 1} → statement M
-set_place_spec =
-    tie.close (tie.spec (λ c. search rules) (λ c. search rules) (λ c. search rules) (λ c. search rules) (λ c. search rules)
-    (λ c. simp length-set (omega arith)) (λ c. search rules) returns)
