@@ -2,11 +2,3 @@ pub mod Entries
 pub mod Reading
 pub mod Order
 pub mod Form
-pub mod EntryLaws
-pub mod PlaceLaws
-pub mod ReadingLaws
-pub mod WriteLaws
-pub mod ShiftLaws
-pub mod SearchLaws
-pub mod IndexLaws
-pub mod Example

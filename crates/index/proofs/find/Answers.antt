@@ -2,7 +2,7 @@
 use mathlib.Core.Path.{sym, ◌∙◌}
 use borrow.Author.Rules.{rules}
 use Rattle.index.specs.Form.{place_for, found_at}
-use Rattle.index.specs.SearchLaws.{climbing, found_there, found_not, found_end}
+use Rattle.index.proofs.SearchLaws.{climbing, found_there, found_not, found_end}
 use Rattle.index.proofs.find.Goals as goal
 
 pub returns-then-n-i : goal.returns-then-n-i

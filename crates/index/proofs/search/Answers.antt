@@ -3,7 +3,7 @@ use Prim.Native.Nat.{◌-◌}
 use native.Mathlib.Omega.{arith}
 use Rattle.index.specs.Reading.{read_key}
 use Rattle.index.specs.Form.{place_for}
-use Rattle.index.specs.SearchLaws.{Halving, climbing, halving_start, halving_up, halving_down, halving_end}
+use Rattle.index.proofs.SearchLaws.{Halving, climbing, halving_start, halving_up, halving_down, halving_end}
 use Rattle.index.proofs.search.Goals as goal
 
 pub loop-low-init : goal.loop-low-init

@@ -2,7 +2,7 @@ use Prim.Native.Nat.{◌-◌}
 use native.Mathlib.Omega.{arith}
 use Rattle.index.specs.Reading.{read_key}
 use Rattle.index.specs.Form.{place_for}
-use Rattle.index.specs.SearchLaws.{Halving, climbing, halving_start, halving_up, halving_down, halving_end}
+use Rattle.index.proofs.SearchLaws.{Halving, climbing, halving_start, halving_up, halving_down, halving_end}
 use Rattle.index.proofs.search.Given as goal
 
 abbrev pub invariant-loop-low : goal.invariant-loop-low

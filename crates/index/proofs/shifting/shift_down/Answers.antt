@@ -2,7 +2,7 @@
 use Prim.Native.Nat.{◌-◌}
 use borrow.Author.Rules.{rules}
 use Rattle.index.specs.Entries.{entry_width}
-use Rattle.index.specs.ShiftLaws.{Lowering, lowering_start, lowering_turn, lowering_end}
+use Rattle.index.proofs.ShiftLaws.{Lowering, lowering_start, lowering_turn, lowering_end}
 use Rattle.index.proofs.shifting.shift_down.Goals as goal
 
 pub loop-k-init : goal.loop-k-init

@@ -1,7 +1,7 @@
 use Prim.Native.Nat.{◌-◌}
 use borrow.Author.Rules.{rules}
 use Rattle.index.specs.Entries.{entry_width}
-use Rattle.index.specs.ShiftLaws.{Lowering, lowering_start, lowering_turn, lowering_end}
+use Rattle.index.proofs.ShiftLaws.{Lowering, lowering_start, lowering_turn, lowering_end}
 use Rattle.index.proofs.shifting.shift_down.Given as goal
 
 abbrev pub invariant-loop-k : goal.invariant-loop-k

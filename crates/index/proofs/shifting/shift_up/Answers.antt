@@ -3,7 +3,7 @@ use mathlib.Core.Path.{refl}
 use Prim.Native.Nat.{◌-◌}
 use borrow.Author.Rules.{rules}
 use Rattle.index.specs.Entries.{entry_width}
-use Rattle.index.specs.ShiftLaws.{Raising, raising_start, raising_turn, raising_end}
+use Rattle.index.proofs.ShiftLaws.{Raising, raising_start, raising_turn, raising_end}
 use Rattle.index.proofs.shifting.shift_up.Goals as goal
 
 pub loop-k-init : goal.loop-k-init

@@ -2,7 +2,7 @@ use mathlib.Core.Path.{refl}
 use Prim.Native.Nat.{◌-◌}
 use borrow.Author.Rules.{rules}
 use Rattle.index.specs.Entries.{entry_width}
-use Rattle.index.specs.ShiftLaws.{Raising, raising_start, raising_turn, raising_end}
+use Rattle.index.proofs.ShiftLaws.{Raising, raising_start, raising_turn, raising_end}
 use Rattle.index.proofs.shifting.shift_up.Given as goal
 
 abbrev pub invariant-loop-k : goal.invariant-loop-k

@@ -1,7 +1,7 @@
 -- `index::writing::insert` meets its contract.
 use borrow.Author.Rules.{rules}
 use Rattle.index.specs.Entries.{entry}
-use Rattle.index.specs.WriteLaws.{inserted_steps}
+use Rattle.index.proofs.WriteLaws.{inserted_steps}
 use Rattle.index.proofs.writing.insert.Goals as goal
 
 pub returns : goal.returns

@@ -2,7 +2,7 @@
 use borrow.Author.Rules.{rules}
 use native.Mathlib.Omega.{arith}
 use Rattle.index.specs.Entries.{bytes16}
-use Rattle.index.specs.WriteLaws.{pair_written}
+use Rattle.index.proofs.WriteLaws.{pair_written}
 use Rattle.index.proofs.writing.put_count.Goals as goal
 
 pub returns : goal.returns

@@ -8,7 +8,7 @@ use lib.ListN.{length, set, length-set}
 use Rattle.buffer.specs.Bytes.{splice}
 use Rattle.buffer.specs.SpliceLaws.{put_lent, length_splice}
 use Rattle.buffer.specs.ByteLaws.{length_bytes32}
-use Rattle.index.specs.WriteLaws.{entry_written}
+use Rattle.index.proofs.WriteLaws.{entry_written}
 use Rattle.index.proofs.writing.put_entry.Goals as goal
 
 pub bounds-x-at-2 : goal.bounds-x-at-2

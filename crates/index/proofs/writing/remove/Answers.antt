@@ -5,7 +5,7 @@ use Prim.Native.Nat.{ℕ, ◌+◌, ◌*◌, ◌-◌}
 use borrow.Author.Rules.{rules}
 use Rattle.buffer.specs.Bytes.{zeros, splice}
 use Rattle.buffer.specs.SpliceLaws.{put_lent, length_lent}
-use Rattle.index.specs.WriteLaws.{removed_steps}
+use Rattle.index.proofs.WriteLaws.{removed_steps}
 use Rattle.index.proofs.writing.remove.Goals as goal
 
 pub returns : goal.returns

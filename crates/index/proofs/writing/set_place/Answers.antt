@@ -5,7 +5,7 @@ use native.Mathlib.Omega.{arith}
 use borrow.Author.Rules.{rules}
 use lib.ListN.{set, length-set}
 use Rattle.index.specs.Form.{changed_in}
-use Rattle.index.specs.WriteLaws.{pair_written}
+use Rattle.index.proofs.WriteLaws.{pair_written}
 use Rattle.index.proofs.writing.set_place.Goals as goal
 
 pub bounds-x-at-2 : goal.bounds-x-at-2

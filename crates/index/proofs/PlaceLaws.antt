@@ -9,7 +9,7 @@ use Rattle.buffer.specs.RangeLaws.{first_le, first_at}
 use Rattle.buffer.specs.Membership.{In, in_place, place_in, map_none}
 use Rattle.index.specs.Entries.{Entry, entry, placed}
 use Rattle.index.specs.Order.{Above, Fresh, Rising, without, moved, no_entry, key_at, spot}
-use Rattle.index.specs.EntryLaws.{rising_places}
+use Rattle.index.proofs.EntryLaws.{rising_places}
 
 -- ---- where a key is found
 pub spot_le : (k : ℕ) (es : List Entry) → spot k es ≤ length es

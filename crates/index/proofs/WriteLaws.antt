@@ -14,8 +14,8 @@ use Rattle.buffer.specs.ByteLaws.{length_bytes32, length_zeros, zeros_append}
 use Rattle.index.specs.Entries.{Entry, entry, count_bytes, entry_width, unit_offset, rank_offset, entry_at, entry_bytes, entries_bytes, bytes16, index_bytes, placed}
 use Rattle.index.specs.Order.{Fresh, Rising, without, moved, no_entry, key_at, spot}
 use Rattle.index.specs.Form.{inserted_in, removed_in, changed_in}
-use Rattle.index.specs.PlaceLaws.{placed_at, without_at, map_moved, spot_le}
-use Rattle.index.specs.ReadingLaws.{length_entry, length_entries_bytes, length_bytes16}
+use Rattle.index.proofs.PlaceLaws.{placed_at, without_at, map_moved, spot_le}
+use Rattle.index.proofs.ReadingLaws.{length_entry, length_entries_bytes, length_bytes16}
 
 -- the bytes of entries, of some and of others behind them
 entries_append : (xs ys : List Entry) → entries_bytes (xs ++ ys) ≡ entries_bytes xs ++ entries_bytes ys

@@ -14,11 +14,11 @@ use Rattle.index.specs.Entries.{Entry, count_bytes, entry_at, entries_bytes, byt
 use Rattle.index.specs.Order.{Fresh, Rising, without, moved, no_entry, key_at, spot}
 use Rattle.index.specs.Reading.{count_in, read_key, entry_in}
 use Rattle.index.specs.Form.{Index, KeysRise, place_for, zero_behind, inserted_in, removed_in, changed_in}
-use Rattle.index.specs.EntryLaws.{length_placed, placed_in, placed_rising, rising_places, map_rising, map_small, without_in, without_rising}
-use Rattle.index.specs.EntryLaws.{length_without as fewer-without}
-use Rattle.index.specs.PlaceLaws.{spot_found, without_at, moved_key}
-use Rattle.index.specs.ReadingLaws.{index_count, index_entry, index_room, length_index}
-use Rattle.index.specs.WriteLaws.{inserted_placed, removed_without, changed_moved}
+use Rattle.index.proofs.EntryLaws.{length_placed, placed_in, placed_rising, rising_places, map_rising, map_small, without_in, without_rising}
+use Rattle.index.proofs.EntryLaws.{length_without as fewer-without}
+use Rattle.index.proofs.PlaceLaws.{spot_found, without_at, moved_key}
+use Rattle.index.proofs.ReadingLaws.{index_count, index_entry, index_room, length_index}
+use Rattle.index.proofs.WriteLaws.{inserted_placed, removed_without, changed_moved}
 
 -- ---- the test of the zeros
 pub zero_ends : (x : List ℕ) (n : ℕ) → zero_behind x n ≡ true → drop (entry_at n) x ≡ zeros (length x - entry_at n)
