@@ -15,3 +15,4 @@ pub mod ByteOrderLaws
 pub mod TableLaws
 pub mod LoopTests
 pub mod LoopWrites
+pub mod Membership

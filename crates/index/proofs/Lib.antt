@@ -1,0 +1,8 @@
+pub mod EntryLaws
+pub mod ReadingLaws
+pub mod WriteLaws
+pub mod ShiftLaws
+pub mod PlaceLaws
+pub mod SearchLaws
+pub mod IndexLaws
+pub mod Example
