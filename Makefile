@@ -7,7 +7,7 @@ LIBRARY = target/staticlib/libstore.a
 to = $(DESTDIR)$(PREFIX)
 
 all:
-	rt staticlib store
+	tools/build store
 
 install:
 	mkdir -p "$(to)/include" "$(to)/lib/pkgconfig"

@@ -20,7 +20,7 @@ use Rattle.model.specs.Units.{unit_of}
 use Rattle.model.specs.Layout.{Store, view, units_in, key_of}
 use Rattle.model.specs.Reads.{listed_fill, lost_in, total_in, listing_in}
 use Rattle.model.specs.Sound.{sound}
-use Rattle.model.specs.SoundSays.{ranged, units_some}
+use Rattle.model.proofs.SoundSays.{ranged, units_some}
 use Rattle.lookup.specs.KeyLaws.{listed_fill_small}
 use Rattle.lookup.specs.ListingLaws.{record_at_lem, record_home}
 use Rattle.lines.specs.Output.{record_line}

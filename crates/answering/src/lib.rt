@@ -11,7 +11,9 @@ ghost use Rattle.answering.specs.Said.{after_all, text_bytes, blank};
 ghost use Rattle.answering.specs.Buffers.{answer_bytes, answered, answer_of, list_after, out_after};
 
 use calls::{answer_list, answer_read, number_of};
-use libc::STDOUT_FILENO;
+
+// The file descriptor of standard output.
+const STDOUT: i32 = 1;
 
 // The buffers that a program lends beside its store and its text: the list, for 1,024 records, and the longest answer.
 pub const LIST: usize = 1024 * group::SLOT;
@@ -44,7 +46,7 @@ pub fn answer_all(store: &mut [u8], list: &mut [u8], out: &mut [u8], text: &[u8]
     while at < text.len() {
         let end = lines::text::line_end(text, at);
         let size = answer(store, list, out, &text[at..end]);
-        io::write_all(STDOUT_FILENO, &out[..size]);
+        io::write_all(STDOUT, &out[..size]);
         at = end + 1;
     }
 }

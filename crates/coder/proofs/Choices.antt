@@ -11,7 +11,7 @@ use lib.Seq.{get_or-set_same, get_or-append_seam, length-take-le, get_or-take, e
 use borrow.Author.Count.{below_more}
 use Rattle.coder.specs.ListLaws.{set_before}
 use Rattle.coder.specs.Segment.{largest_group, present, presents, chosen}
-use Rattle.coder.specs.SegmentLaws.{presents_none, presents_more, presents_same}
+use Rattle.coder.proofs.SegmentLaws.{presents_none, presents_more, presents_same}
 use Rattle.coder.specs.Choosing.{Choosing, Chosen}
 
 pub choosing_start : {marks points : List ℕ} {m : ℕ} → length points ≡ largest_group → Choosing marks points m 0 0

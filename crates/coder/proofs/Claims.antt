@@ -26,7 +26,7 @@ use Rattle.coder.specs.Segment.{member, member_byte, member_from, members_after,
 use Rattle.coder.specs.Columns.{column, data_bytes, segment_of}
 use Rattle.coder.specs.Claims.{Limits, Mark, Inside, present_of, Enough, Rebuilds}
 use Rattle.coder.specs.ListLaws.{all_map, all_both, all-entries}
-use Rattle.coder.specs.SegmentLaws.{Member, chosen_members, chosen_distinct, chosen_map}
+use Rattle.coder.proofs.SegmentLaws.{Member, chosen_members, chosen_distinct, chosen_map}
 use Rattle.coder.specs.MemberLaws.{member_in, member_byte_lem, member_long, members_are, after, after_wide, call_granted}
 use Rattle.coder.specs.PointLaws.{byte_low}
 use Rattle.coder.proofs.Columns.{interpolated_only, coefficients, coefficients_long, coefficients_low, interpolated_value, interpolated_takes}

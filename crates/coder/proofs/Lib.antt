@@ -1,3 +1,4 @@
+pub mod SegmentLaws
 pub mod Choices
 pub mod Logs
 pub mod Picking

@@ -17,7 +17,7 @@ use Rattle.buffer.specs.Bytes.{byte}
 use Rattle.buffer.specs.RangeLaws.{all_true, all_holds}
 use Rattle.coder.specs.Segment.{largest_group, most_members, longest_member, sizes_fit, marks_fit, presents, Ending, rebuild_segment}
 use Rattle.coder.specs.Claims.{Limits, Mark, Inside, present_of, Few, Enough, Numbers}
-use Rattle.coder.specs.SegmentLaws.{presents_long}
+use Rattle.coder.proofs.SegmentLaws.{presents_long}
 use Rattle.coder.specs.MemberLaws.{fitting, call_outside, call_few, call_granted}
 
 -- ---- sizes within the limits are those that fit

@@ -23,7 +23,7 @@ use Rattle.buffer.specs.LoopWrites.{Filling, filling_start, filling_turn, fillin
 use Rattle.coder.specs.ListLaws.{all-at}
 use Rattle.coder.specs.Interpolated.{interpolated}
 use Rattle.coder.specs.Segment.{largest_group, most_members, present, chosen, member, member_byte, member_from, members_after}
-use Rattle.coder.specs.SegmentLaws.{Member, chosen_members, chosen_distinct, chosen_map}
+use Rattle.coder.proofs.SegmentLaws.{Member, chosen_members, chosen_distinct, chosen_map}
 use Rattle.coder.specs.Weights.{Away}
 use Rattle.coder.specs.Sums.{Placed, Small}
 use Rattle.coder.specs.MemberLaws.{member_in, member_byte_lem, member_long, members_are, after, after_wide}

@@ -2,7 +2,6 @@ pub mod ListLaws
 pub mod Interpolated
 pub mod PointLaws
 pub mod Segment
-pub mod SegmentLaws
 pub mod MemberLaws
 pub mod Weights
 pub mod WeightLaws

@@ -8,7 +8,7 @@ use lib.Dec.{lit<}
 use lib.Pow.{pow_pos, split, shr-shr}
 use lib.Bits.{bit_and, and_block, and_mask, and_le_r}
 use Rattle.model.specs.Units.{digit_sum}
-use Rattle.model.specs.DigitLaws.{byte_sum, byte_sum_most, by_bytes}
+use Rattle.model.proofs.DigitLaws.{byte_sum, byte_sum_most, by_bytes}
 
 -- ---- digits added side by side
 -- the low digits of a number's bytes and the high ones, as a mask picks them, added

@@ -16,9 +16,9 @@ use Rattle.group.specs.Members.{first_four}
 use Rattle.group.specs.MembersLaws.{serves_ext, four_ext}
 use Rattle.model.specs.Layout.{Store, view}
 use Rattle.model.specs.Reads.{listed_fill, missing_in, serves_in, keys_lost_in, beyond_in}
-use Rattle.model.specs.LossLaws.{missing_out, keys_kept, missing_before}
-use Rattle.model.specs.SameLosses.{fill_same, missing_same}
-use Rattle.model.specs.RebuildingLaws.{Rebuilding, same_lists, serves_same}
+use Rattle.model.proofs.LossLaws.{missing_out, keys_kept, missing_before}
+use Rattle.model.proofs.SameLosses.{fill_same, missing_same}
+use Rattle.model.proofs.RebuildingLaws.{Rebuilding, same_lists, serves_same}
 use Rattle.lookup.specs.Groups.{Counts}
 use Rattle.lookup.specs.GroupLaws.{marked_no, marked_yes}
 use Rattle.lookup.specs.Decoders.{ends_before, changes_at, DecoderOf}

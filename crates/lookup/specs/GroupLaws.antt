@@ -16,10 +16,10 @@ use Rattle.group.specs.Members.{outs, rebuildable, serves, first_four}
 use Rattle.group.specs.MembersLaws.{Members, rebuildable_ext, serves_ext, four_ext, first_four_lem}
 use Rattle.model.specs.Layout.{view}
 use Rattle.model.specs.Reads.{state_in, outs_in, first_check, listed_fill, missing_in, serves_in, rebuildable_in, keys_lost_in, beyond_in, lost_in}
-use Rattle.model.specs.ReadLaws.{listed_le}
-use Rattle.model.specs.LossLaws.{none_in_service, out_missing, rank_kept, missing_kept, four_serve, beyond_first}
-use Rattle.model.specs.LossLaws.{kept_keys, out_keys, unit_keys_kept, group_keys_kept}
-use Rattle.model.specs.LossLaws as losses
+use Rattle.model.proofs.ReadLaws.{listed_le}
+use Rattle.model.proofs.LossLaws.{none_in_service, out_missing, rank_kept, missing_kept, four_serve, beyond_first}
+use Rattle.model.proofs.LossLaws.{kept_keys, out_keys, unit_keys_kept, group_keys_kept}
+use Rattle.model.proofs.LossLaws as losses
 use Rattle.lookup.specs.Sized.{Sized}
 use Rattle.lookup.specs.States.{state_data}
 use Rattle.lookup.specs.Keys.{Known}

@@ -15,8 +15,8 @@ use Rattle.buffer.specs.SpliceLaws.{part_part}
 use Rattle.group.specs.Widths.{key_bytes, slot_bytes, check_bytes}
 use Rattle.model.specs.Layout.{view, slot_at, check_at, key_of}
 use Rattle.model.specs.Reads.{fill_in, rank_in, first_check, listed_key, listed_fill, listed_rank}
-use Rattle.model.specs.ReadLaws as reads
-use Rattle.model.specs.LossLaws.{first_check_found}
+use Rattle.model.proofs.ReadLaws as reads
+use Rattle.model.proofs.LossLaws.{first_check_found}
 use Rattle.lookup.specs.Sized.{Sized}
 use Rattle.lookup.specs.SizedLaws.{slot_fits, check_fits_lem}
 use Rattle.lookup.specs.Keys.{keys_at, keys_from, keys_step, Known, Lists}

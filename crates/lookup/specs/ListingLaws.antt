@@ -8,9 +8,9 @@ use Rattle.group.specs.Widths.{slot_bytes}
 use Rattle.model.specs.Units.{unit_of}
 use Rattle.model.specs.Layout.{view, units_in, key_of}
 use Rattle.model.specs.Reads.{listed_fill, whole_slot, lost_in, total_in, listing_in}
-use Rattle.model.specs.ReadLaws as reads
+use Rattle.model.proofs.ReadLaws as reads
 use Rattle.model.specs.Sound.{sound}
-use Rattle.model.specs.SoundSays.{listed_own}
+use Rattle.model.proofs.SoundSays.{listed_own}
 use Rattle.lookup.specs.SizedLaws.{sound_sized}
 use Rattle.lookup.specs.Groups.{Whole}
 use Rattle.lookup.specs.GroupLaws.{whole_kept, whole_readable, safe_store}

@@ -7,7 +7,7 @@ use Rattle.model.specs.Layout.{view, slot_at, check_at}
 use Rattle.model.specs.Places.{data_units, check_units}
 use Rattle.model.specs.LayoutLaws.{rank_within, ranks_within}
 use Rattle.model.specs.Sound.{sound}
-use Rattle.model.specs.SoundSays.{ranged}
+use Rattle.model.proofs.SoundSays.{ranged}
 use Rattle.lookup.specs.Sized.{Sized}
 
 -- ---- a slot and a check record lie within the slice

@@ -21,8 +21,8 @@ use Rattle.group.specs.Four.{four_bodies}
 use Rattle.group.proofs.WeighedLaws.{length_weighed, weighed_ext}
 use Rattle.model.specs.Layout.{view, slot_at, check_at, key_of}
 use Rattle.model.specs.Reads.{serves_in, holds, first_check, listed_key, listed_fill, missing_in, whole_slot, beyond_in}
-use Rattle.model.specs.ReadLaws.{own_key, whole_own}
-use Rattle.model.specs.LossLaws.{whole_kept}
+use Rattle.model.proofs.ReadLaws.{own_key, whole_own}
+use Rattle.model.proofs.LossLaws.{whole_kept}
 use Rattle.lookup.specs.Sized.{Sized}
 use Rattle.lookup.specs.SizedLaws.{slot_fits, check_fits_lem}
 use Rattle.lookup.specs.Keys.{Known, Lists, keys_at}

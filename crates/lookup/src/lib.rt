@@ -94,6 +94,8 @@ pub fn split_pointer(m: u8) -> u8
 
 // The unit of a key among m units. From the two remainders on there is one path, with no branch, comparison or call (`tests/one_path`): n + 255 - first
 // is below 512, and at least 256 exactly where the first remainder is below n; `below` is 1 there and else 0. The second remainder is never the smaller.
+// Its code stands once: where the compiler copies it into a caller that knows m, it may choose by a jump.
+#[inline(never)]
 pub fn unit_of(m: u8, key: u32) -> u8
     requires { 1 ≤ m }
     ensures { (result ≡ unit_of m key) × (result < m) }

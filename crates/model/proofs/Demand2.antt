@@ -18,7 +18,7 @@ use Rattle.group.specs.CutLaws.{take_at_column, drop_at_column}
 use Rattle.group.proofs.RebuildingLaws.{bodies_fixed, rebuilt_from_is, rebuilt_from_has, rebuilt_from_back}
 use Rattle.model.specs.Layout.{Store, view, store_bytes}
 use Rattle.model.specs.Field.{body_of}
-use Rattle.model.specs.FieldLaws.{stamp_bytes_lem}
+use Rattle.model.proofs.FieldLaws.{stamp_bytes_lem}
 use Rattle.model.specs.Perform.{lay_out_number}
 use Rattle.model.specs.Demand2.{HoldsLedger, CoversStamps, SymbolsFixed, BodiesFixed, Demand2}
 use Rattle.model.specs.history.Ledger.{Rec, Ledger, record_at, state}

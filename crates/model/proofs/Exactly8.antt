@@ -17,9 +17,9 @@ use Rattle.group.specs.Widths.{field_bytes}
 use Rattle.group.specs.Members.{checks_serving, rebuildable}
 use Rattle.model.specs.Layout.{Store, view, units_in}
 use Rattle.model.specs.Reads.{home_in, listed_rank, missing_in, rebuildable_in, keys_lost_in, key_beyond_in, beyond_in, lost_in}
-use Rattle.model.specs.LossLaws.{missing_out, missing_listed, out_missing, first_rank}
+use Rattle.model.proofs.LossLaws.{missing_out, missing_listed, out_missing, first_rank}
 use Rattle.model.specs.Sound.{sound}
-use Rattle.model.specs.SoundSays.{ranged, units_few}
+use Rattle.model.proofs.SoundSays.{ranged, units_few}
 use Rattle.model.specs.Numbers.{read, list, repair, refusals_in, number_in}
 use Rattle.model.specs.RowLaws.{row_holds, row_fails, lacks_first}
 use Rattle.model.specs.Judged.{KeysLost, TooManyMissing, KeyBeyond, GroupBeyond}

@@ -22,9 +22,9 @@ use Rattle.model.specs.UnitLaws.{unit_below}
 use Rattle.model.specs.Layout.{Store, view, slot_at, units_in}
 use Rattle.model.specs.LayoutLaws.{view_shaped}
 use Rattle.model.specs.Reads.{home_in, rank_in, listed_fill, listed_rank, whole_slot, field_in}
-use Rattle.model.specs.ReadLaws.{fill_le, own_fill, own_rank, whole_own}
+use Rattle.model.proofs.ReadLaws.{fill_le, own_fill, own_rank, whole_own}
 use Rattle.model.specs.Sound.{sound}
-use Rattle.model.specs.SoundSays.{ranged, units_some, units_few}
+use Rattle.model.proofs.SoundSays.{ranged, units_some, units_few}
 use Rattle.model.specs.Numbers.{read, read_in_place, refusals_in, number_in}
 use Rattle.model.specs.RowLaws.{Free, first_free}
 use Rattle.model.specs.Perform.{Place, place_in, given_in}

@@ -19,9 +19,9 @@ use Rattle.group.specs.Members.{outs, checks_serving, rebuildable}
 use Rattle.model.specs.UnitLaws.{unit_below}
 use Rattle.model.specs.Layout.{Store, view, units_in, level_in}
 use Rattle.model.specs.Reads.{home_in, outs_in, checks_in, listed_fill, listed_rank, missing_in, rebuildable_in, keys_lost_in, key_beyond_in, beyond_in, lost_in}
-use Rattle.model.specs.LossLaws.{missing_out, none_in_service, none_past, kept_keys, none_beyond}
+use Rattle.model.proofs.LossLaws.{missing_out, none_in_service, none_past, kept_keys, none_beyond}
 use Rattle.model.specs.Sound.{sound}
-use Rattle.model.specs.SoundSays.{units_some, units_few, states_low, data_states, by-fitting}
+use Rattle.model.proofs.SoundSays.{units_some, units_few, states_low, data_states, by-fitting}
 use Rattle.model.specs.Numbers.{read, list, repair, first_of, refusals_in, number_in}
 use Rattle.model.specs.RowLaws.{free_first, lacks_first}
 use Rattle.model.specs.Judged.{WithinLevel, LossesJudged}

@@ -15,9 +15,9 @@ use Rattle.group.specs.Widths.{slot_bytes}
 use Rattle.model.specs.Layout.{Store, bytes, view, units_in, slot_of}
 use Rattle.model.specs.LayoutLaws.{Shaped, Same, view_bytes, view_shaped}
 use Rattle.model.specs.Reads.{home_in, fill_in, rank_in, state_in, beyond_in}
-use Rattle.model.specs.ReadLaws.{fill_le}
+use Rattle.model.proofs.ReadLaws.{fill_le}
 use Rattle.model.specs.Sound.{sound}
-use Rattle.model.specs.SoundSays.{ranged, units_some, units_few}
+use Rattle.model.proofs.SoundSays.{ranged, units_some, units_few}
 use Rattle.model.specs.Changes.{written, erased, unit_lost, repaired, grown, shrunk}
 use Rattle.model.specs.ChangeLaws.{length_args, written_shaped}
 use Rattle.model.specs.Numbers.{Call, teach, correct, erase, unit_out, repair, grow, shrink, refusals_in, number_in}

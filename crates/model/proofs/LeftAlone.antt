@@ -23,7 +23,7 @@ use Rattle.model.specs.Layout.{Store, view, units_in, level_in, slot_of}
 use Rattle.model.specs.LayoutLaws.{Shaped, Same, same_refl, same_shaped}
 use Rattle.model.specs.Reads.{state_in}
 use Rattle.model.specs.Sound.{sound}
-use Rattle.model.specs.SoundSays.{units_few}
+use Rattle.model.proofs.SoundSays.{units_few}
 use Rattle.model.specs.Changes.{written, erased, unit_lost, dealt, grown_state, grown, merged, shrunk_state, shrunk}
 use Rattle.model.specs.ChangeLaws.{written_shaped}
 use Rattle.model.specs.Numbers.{unit_out, grow, shrink}

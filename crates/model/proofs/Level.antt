@@ -13,7 +13,7 @@ use Rattle.buffer.specs.RangeLaws.{count_ext, count_below}
 use Rattle.model.specs.Layout.{Store, view, store_bytes, units_in, level_in}
 use Rattle.model.specs.Reads.{checks_in}
 use Rattle.model.specs.Sound.{check_placed, sound}
-use Rattle.model.specs.SoundSays.{units_few, level_few, by-fitting, check_states}
+use Rattle.model.proofs.SoundSays.{units_few, level_few, by-fitting, check_states}
 use Rattle.model.specs.Changes.{raised}
 use Rattle.model.specs.Numbers.{Call, teach, correct, erase, read, read_in_place, list, unit_out, repair, grow, shrink, raise}
 use Rattle.model.specs.Perform.{lay_out_number, lay_out}

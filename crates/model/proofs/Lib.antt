@@ -1,3 +1,10 @@
+pub mod DigitLaws
+pub mod FieldLaws
+pub mod ReadLaws
+pub mod LossLaws
+pub mod SameLosses
+pub mod RebuildingLaws
+pub mod SoundSays
 pub mod Order
 pub mod Left
 pub mod Raised

@@ -19,14 +19,14 @@ use Rattle.buffer.specs.Bytes.{zeros}
 use Rattle.group.specs.Widths.{slot_bytes}
 use Rattle.moves.specs.declared.Move.{Move}
 use Rattle.moves.specs.Moves.{no_move, same_moves}
-use Rattle.moves.specs.MovesLaws.{same_moves_lem, moves_same}
+use Rattle.moves.proofs.MovesLaws.{same_moves_lem, moves_same}
 use Rattle.model.specs.Units.{split_pointer, moves}
 use Rattle.model.specs.UnitLaws.{split_below}
 use Rattle.model.specs.Layout.{Store, view, units_in, key_of}
 use Rattle.model.specs.Reads.{fill_in}
-use Rattle.model.specs.ReadLaws.{fill_le}
+use Rattle.model.proofs.ReadLaws.{fill_le}
 use Rattle.model.specs.Sound.{sound}
-use Rattle.model.specs.SoundSays.{units_some}
+use Rattle.model.proofs.SoundSays.{units_some}
 use Rattle.model.specs.Numbers.{grow, first_of, refusals_in, number_in}
 use Rattle.model.specs.RowLaws.{lacks_first, free_first, front_holds, front_free, front_granted, numbered_in}
 use Rattle.model.specs.Changes.{filter_by, records_in, dealt, grown}

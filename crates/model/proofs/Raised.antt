@@ -17,7 +17,7 @@ use Rattle.model.specs.Layout.{Store, view, units_in, level_in}
 use Rattle.model.specs.LayoutLaws.{Shaped, Same}
 use Rattle.model.specs.Reads.{state_in}
 use Rattle.model.specs.Sound.{check_placed, sound}
-use Rattle.model.specs.SoundSays.{fits_absent, check_states}
+use Rattle.model.proofs.SoundSays.{fits_absent, check_states}
 use Rattle.model.specs.Changes.{added, raised}
 use Rattle.model.specs.Numbers.{raise, refusals_in, number_in}
 use Rattle.model.specs.Perform.{granted_in}

@@ -22,10 +22,10 @@ use Rattle.group.specs.Rebuilding.{rebuilt}
 use Rattle.group.proofs.RebuildingLaws.{rebuilt_is, rebuilt_has, rebuilt_own}
 use Rattle.model.specs.Layout.{Store, view, slot_at, check_at, key_of}
 use Rattle.model.specs.Reads.{listed_key, listed_fill, missing_in, serves_in, holds, whole_slot, rebuildable_in, keys_lost_in}
-use Rattle.model.specs.ReadLaws.{listed_some, own_bytes, whole_own}
-use Rattle.model.specs.LossLaws.{missing_out, out_missing, first_check_found, four_serve, whole_kept}
+use Rattle.model.proofs.ReadLaws.{listed_some, own_bytes, whole_own}
+use Rattle.model.proofs.LossLaws.{missing_out, out_missing, first_check_found, four_serve, whole_kept}
 use Rattle.model.specs.Sound.{sound}
-use Rattle.model.specs.SoundSays.{zero_slot, listed_past}
+use Rattle.model.proofs.SoundSays.{zero_slot, listed_past}
 use Rattle.model.specs.Recovered.{HeldFields}
 use Rattle.model.specs.history.Typed.{Bytes}
 use Rattle.model.proofs.history.alike.LedgerOf.{bytes_part}

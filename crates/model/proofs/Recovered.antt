@@ -19,8 +19,8 @@ use Rattle.group.specs.Rebuilding.{rebuilt}
 use Rattle.model.specs.Layout.{Store, view, key_of}
 use Rattle.model.specs.Reads.{home_in, listed_key, listed_fill, listed_rank, missing_in, serves_in, holds, whole_slot, field_in}
 use Rattle.model.specs.Reads.{keys_lost_in, key_beyond_in, beyond_in, lost_in, total_in, listing_in}
-use Rattle.model.specs.ReadLaws.{listed_le, whole_own, listing_long, record_at_lem}
-use Rattle.model.specs.LossLaws.{out_missing, keys_kept, rank_kept, unit_keys_kept, whole_kept}
+use Rattle.model.proofs.ReadLaws.{listed_le, whole_own, listing_long, record_at_lem}
+use Rattle.model.proofs.LossLaws.{out_missing, keys_kept, rank_kept, unit_keys_kept, whole_kept}
 use Rattle.model.specs.Sound.{sound}
 use Rattle.model.specs.Changes.{repaired}
 use Rattle.model.specs.Numbers.{read, list, repair, refusals_in, number_in}

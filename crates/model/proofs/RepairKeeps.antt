@@ -15,10 +15,10 @@ use Rattle.group.specs.Members.{outs}
 use Rattle.model.specs.Layout.{Store, view, units_in}
 use Rattle.model.specs.LayoutLaws.{Same, bytes_ext, bytes_view}
 use Rattle.model.specs.Reads.{state_in, outs_in, whole_slot}
-use Rattle.model.specs.ReadLaws.{whole_own}
-use Rattle.model.specs.LossLaws.{none_beyond}
+use Rattle.model.proofs.ReadLaws.{whole_own}
+use Rattle.model.proofs.LossLaws.{none_beyond}
 use Rattle.model.specs.Sound.{sound}
-use Rattle.model.specs.SoundSays.{ranged}
+use Rattle.model.proofs.SoundSays.{ranged}
 use Rattle.model.specs.Changes.{repaired}
 use Rattle.model.specs.Numbers.{repair, first_of, refusals_in, number_in}
 use Rattle.model.specs.Perform.{plain, outcome, granted_in, after_in, perform}

@@ -1,9 +1,7 @@
 pub mod Units
 pub mod UnitLaws
-pub mod DigitLaws
 pub mod Layout
 pub mod Field
-pub mod FieldLaws
 pub mod Places
 pub mod Parts
 pub mod RunLaws
@@ -12,13 +10,8 @@ pub mod UnitTableLaws
 pub mod LayoutLaws
 pub mod StoreLaws
 pub mod Reads
-pub mod ReadLaws
-pub mod LossLaws
-pub mod SameLosses
-pub mod RebuildingLaws
 pub mod Sound
 pub mod SoundLaws
-pub mod SoundSays
 pub mod Numbers
 pub mod RowLaws
 pub mod Changes

@@ -9,7 +9,7 @@ use Rattle.buffer.specs.TableLaws.{length_tab, tab_room}
 use Rattle.group.specs.Widths.{slot_bytes}
 use Rattle.model.specs.Layout.{view}
 use Rattle.model.specs.Reads.{first_check, listed_fill, whole_slot, total_in, listing_in}
-use Rattle.model.specs.ReadLaws.{listing_long}
+use Rattle.model.proofs.ReadLaws.{listing_long}
 use Rattle.lookup.specs.Groups.{Counts, Whole}
 use Rattle.lookup.specs.SlotLaws.{length_record}
 use Rattle.reading.specs.Listing.{Learned}

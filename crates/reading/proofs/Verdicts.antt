@@ -17,7 +17,7 @@ use Rattle.buffer.specs.Bytes.{byte}
 use Rattle.group.specs.Widths.{field_bytes, slot_bytes}
 use Rattle.model.specs.Layout.{view}
 use Rattle.model.specs.Reads.{home_in, listed_fill, listed_rank, missing_in, rebuildable_in, keys_lost_in, key_beyond_in, lost_in, total_in}
-use Rattle.model.specs.LossLaws.{none_past}
+use Rattle.model.proofs.LossLaws.{none_past}
 use Rattle.model.specs.Numbers.{first_of}
 use Rattle.soundness.specs.Survey.{Surveyed}
 use Rattle.soundness.specs.SurveyLaws.{found_sized, fill_read, group_counts, first_check_read}

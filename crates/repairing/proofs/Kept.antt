@@ -18,9 +18,9 @@ use Rattle.model.specs.Parts.{with_slots}
 use Rattle.model.specs.LayoutLaws.{Shaped, Same, bytes_view, view_shaped, view_bytes, header, apart, length_header}
 use Rattle.model.specs.StoreLaws.{same_long, chunks_shaped, chunks_size, chunks_there}
 use Rattle.model.specs.Reads.{first_check, missing_in}
-use Rattle.model.specs.LossLaws as losses
-use Rattle.model.specs.SameLosses.{SameLists, first_check_same, fill_same, missing_same, rebuildable_same, beyond_same}
-use Rattle.model.specs.RebuildingLaws.{Rebuilding, same_lists}
+use Rattle.model.proofs.LossLaws as losses
+use Rattle.model.proofs.SameLosses.{SameLists, first_check_same, fill_same, missing_same, rebuildable_same, beyond_same}
+use Rattle.model.proofs.RebuildingLaws.{Rebuilding, same_lists}
 use Rattle.lookup.specs.Sized.{Sized}
 use Rattle.lookup.specs.Keys.{keys_at}
 use Rattle.lookup.specs.Groups.{Counts, Rebuildable}

@@ -22,9 +22,9 @@ use Rattle.model.specs.LayoutLaws.{Shaped, bytes_view, view_shaped, ranks_within
 use Rattle.model.specs.RunLaws.{run, length_run, run_unit, run_past}
 use Rattle.model.specs.StoreLaws.{size_of, splice_ranks, chunks_ext}
 use Rattle.model.specs.Reads.{listed_fill, missing_in, whole_slot}
-use Rattle.model.specs.ReadLaws.{listed_le}
-use Rattle.model.specs.LossLaws.{none_past, out_missing, whole_kept}
-use Rattle.model.specs.RebuildingLaws.{whole_same}
+use Rattle.model.proofs.ReadLaws.{listed_le}
+use Rattle.model.proofs.LossLaws.{none_past, out_missing, whole_kept}
+use Rattle.model.proofs.RebuildingLaws.{whole_same}
 use Rattle.lookup.specs.Keys.{keys_at}
 use Rattle.lookup.specs.Groups.{Counts, Rebuildable}
 use Rattle.lookup.specs.Decoders.{DecoderOf}

@@ -16,8 +16,8 @@ use Rattle.model.specs.Parts.{with_slots}
 use Rattle.model.specs.LayoutLaws.{Shaped, Same, bytes_ext, view_shaped}
 use Rattle.model.specs.StoreLaws.{size_of, chunks_ext, chunks_same, chunks_shaped}
 use Rattle.model.specs.Reads.{first_check, whole_slot}
-use Rattle.model.specs.LossLaws.{none_in_service, whole_kept}
-use Rattle.model.specs.RebuildingLaws.{whole_same}
+use Rattle.model.proofs.LossLaws.{none_in_service, whole_kept}
+use Rattle.model.proofs.RebuildingLaws.{whole_same}
 use Rattle.lookup.specs.Groups.{Counts}
 use Rattle.lookup.specs.SlotLaws.{length_near}
 use Rattle.repairing.specs.Groups.{Repairable, OutUnit}

@@ -12,7 +12,7 @@ use Rattle.model.specs.Numbers.{Call, repair, first_of, refusals_in}
 use Rattle.model.specs.PerformLaws.{none_holds}
 use Rattle.soundness.specs.Survey.{Surveyed}
 use Rattle.soundness.specs.SurveyLaws.{found_sized, group_counts, first_check_read}
-use Rattle.model.specs.LossLaws.{keys_kept}
+use Rattle.model.proofs.LossLaws.{keys_kept}
 use Rattle.lookup.specs.Groups.{Counts}
 use Rattle.lookup.specs.GroupLaws.{all_counted}
 use Rattle.repairing.specs.Groups.{Repairable}

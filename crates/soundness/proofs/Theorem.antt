@@ -16,7 +16,7 @@ use Rattle.buffer.specs.RangeLaws.{all_true, all_holds, first_le, first_holds, e
 use Rattle.buffer.specs.Bytes.{byte, part, zeros}
 use Rattle.model.specs.Layout.{view, key_of, units_in, level_in, check_at}
 use Rattle.model.specs.Reads.{fill_in, first_check, outs_in, listed_key, listed_fill, keys_lost_in}
-use Rattle.model.specs.SoundSays.{in_range}
+use Rattle.model.proofs.SoundSays.{in_range}
 use Rattle.model.specs.Sound.{same, ranges, units_placed, checks_placed, zeroed, keys_placed, lists_agree, sound}
 use Rattle.buffer.specs.Strided.{strided32}
 use Rattle.group.specs.Widths.{slot_bytes, check_bytes}

@@ -16,7 +16,7 @@ use Rattle.buffer.specs.Strided.{strided32}
 use Rattle.buffer.specs.TestLaws.{or_zero}
 use Rattle.group.specs.Widths.{check_bytes}
 use Rattle.model.specs.Units.{address, unit_of}
-use Rattle.model.specs.DigitLaws.{digit_sum_turned}
+use Rattle.model.proofs.DigitLaws.{digit_sum_turned}
 use Rattle.soundness.specs.Keys.{turned_keys, fill_of, is_new, new_and_same, matched, own_keys, own_from, own_row, matched_own}
 
 module _ (s : List ℕ) (bound : (i : ℕ) → byte s i < 256) where

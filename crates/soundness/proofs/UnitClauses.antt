@@ -15,7 +15,7 @@ use Rattle.buffer.specs.RangeLaws.{first_ext}
 use Rattle.buffer.specs.Bytes.{byte, be32, zeros}
 use Rattle.model.specs.Layout.{view, key_of, slot_at}
 use Rattle.model.specs.Reads.{fill_in, listed_key, listed_fill, keys_lost_in}
-use Rattle.model.specs.LossLaws.{kept_keys, out_keys}
+use Rattle.model.proofs.LossLaws.{kept_keys, out_keys}
 use Rattle.model.specs.Sound.{same, state_fits}
 use Rattle.buffer.specs.Strided.{strided32}
 use Rattle.group.specs.Widths.{slot_bytes}

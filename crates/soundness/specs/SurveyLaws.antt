@@ -13,7 +13,7 @@ use Rattle.model.specs.Reads.{fill_in, first_check, outs_in, listed_fill, keys_l
 use Rattle.lookup.specs.Sized.{Sized}
 use Rattle.lookup.specs.SizedLaws.{sound_sized}
 use Rattle.lookup.specs.KeyLaws.{own_fill, listed_fill_small}
-use Rattle.model.specs.LossLaws.{kept_keys}
+use Rattle.model.proofs.LossLaws.{kept_keys}
 use Rattle.lookup.specs.Groups.{CountsKnown}
 use Rattle.lookup.specs.GroupLaws.{none_out}
 use Rattle.soundness.specs.Survey.{known_fill, Surveyed}

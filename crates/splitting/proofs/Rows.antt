@@ -20,13 +20,13 @@ use Rattle.model.specs.Layout.{view, units_in}
 use Rattle.model.specs.Places.{Long}
 use Rattle.model.specs.StoreLaws.{size_of, units_of, level_of}
 use Rattle.model.specs.Reads.{fill_in, outs_in, units_out_in}
-use Rattle.model.specs.ReadLaws.{units_out_groups}
+use Rattle.model.proofs.ReadLaws.{units_out_groups}
 use Rattle.model.specs.Sound.{sound}
 use Rattle.model.specs.SoundLaws.{same_true}
 use Rattle.model.specs.Numbers.{Call, grow, shrink, raise, first_of, refusals_in}
 use Rattle.model.specs.RowLaws.{row_pair, first_free}
 use Rattle.model.specs.PerformLaws.{none_holds}
-use Rattle.model.specs.SoundSays.{zeroed_says, clauses}
+use Rattle.model.proofs.SoundSays.{zeroed_says, clauses}
 use Rattle.soundness.specs.Survey.{Surveyed}
 use Rattle.soundness.specs.SurveyLaws.{found_sized, outs_read, own_fill_read}
 use Rattle.lookup.specs.Sized.{Sized}

@@ -5,7 +5,7 @@ use borrow.Author.Rules.{rules}
 use Rattle.buffer.specs.LoopTests.{Missing, missing_start, missing_turn}
 use Rattle.model.specs.Layout.{view}
 use Rattle.model.specs.Reads.{first_check, keys_lost_in}
-use Rattle.model.specs.LossLaws.{none_out_near}
+use Rattle.model.proofs.LossLaws.{none_out_near}
 use Rattle.lookup.specs.GroupLaws.{all_counted, beyond_lost, beyond_rank}
 use Rattle.lookup.proofs.losses.beyond.Given as goal
 

@@ -23,8 +23,8 @@ use Rattle.model.specs.Units.{unit_of}
 use Rattle.model.specs.Layout.{Store, bytes, view, units_in, level_in, key_of}
 use Rattle.model.specs.LayoutLaws.{Shaped, Same, view_bytes, key_first}
 use Rattle.model.specs.Reads.{home_in, fill_in, rank_in, state_in, outs_in, units_out_in, listed_key, listed_fill, keys_lost_in}
-use Rattle.model.specs.ReadLaws.{fill_le, own_bytes}
-use Rattle.model.specs.SameLosses.{SameLists, key_same}
+use Rattle.model.proofs.ReadLaws.{fill_le, own_bytes}
+use Rattle.model.proofs.SameLosses.{SameLists, key_same}
 
 -- two slots with one key; an empty slot is the same
 pub record LikeSlot (x y : List ℕ) : Type 0 where

@@ -20,7 +20,7 @@ use Rattle.model.specs.Units.{split_pointer, moves, touched, begins}
 use Rattle.model.specs.Layout.{Store, level_in, key_of}
 use Rattle.model.specs.LayoutLaws.{Shaped}
 use Rattle.model.specs.Reads.{fill_in}
-use Rattle.model.specs.ReadLaws.{fill_le}
+use Rattle.model.proofs.ReadLaws.{fill_le}
 use Rattle.model.specs.Changes.{filter_by, rows, records_in, dealt, grown_state, grown, merged, shrunk_state, shrunk}
 use Rattle.model.proofs.history.alike.Alike.{LikeSlot, LikeCheck, Alike, pick_both, no_slot, no_check, key_like, level_alike, fill_alike}
 use Rattle.model.proofs.history.ledger.Touched.{is_touched}

@@ -22,10 +22,10 @@ use Rattle.group.proofs.CheckRecordLaws.{length_key, listed_first}
 use Rattle.model.specs.Layout.{Store, view, store_bytes, slot_at, check_at, units_in, level_in, key_of, front_of}
 use Rattle.model.specs.LayoutLaws.{Shaped, view_shaped, key_first}
 use Rattle.model.specs.Reads.{fill_in, listed_key, listed_fill}
-use Rattle.model.specs.ReadLaws.{fill_key, own_bytes, own_key, own_fill}
-use Rattle.model.specs.LossLaws.{kept_keys, served_keys}
+use Rattle.model.proofs.ReadLaws.{fill_key, own_bytes, own_key, own_fill}
+use Rattle.model.proofs.LossLaws.{kept_keys, served_keys}
 use Rattle.model.specs.Sound.{sound}
-use Rattle.model.specs.SoundSays.{Ranged, ranged, Stateful, fits_absent, by-fitting, data_states, zero_slot, zero_check, listed_past, lists}
+use Rattle.model.proofs.SoundSays.{Ranged, ranged, Stateful, fits_absent, by-fitting, data_states, zero_slot, zero_check, listed_past, lists}
 use Rattle.model.specs.history.Ledger.{Rec, Ledger, empty, record_at, state}
 use Rattle.model.specs.history.Picture.{record_bytes, picture_slot, check_over, picture_check, image}
 use Rattle.model.specs.history.Typed.{Bytes}

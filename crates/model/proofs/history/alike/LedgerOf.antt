@@ -21,10 +21,10 @@ use Rattle.group.specs.BodyLaws.{zeros_is}
 use Rattle.model.specs.Units.{unit_of}
 use Rattle.model.specs.Layout.{Store, view, slot_at, check_at, units_in, level_in, key_of}
 use Rattle.model.specs.Reads.{state_in, first_check, listed_key, listed_fill, keys_lost_in}
-use Rattle.model.specs.ReadLaws.{listed_le, listed_some}
+use Rattle.model.proofs.ReadLaws.{listed_le, listed_some}
 use Rattle.model.specs.Sound.{check_placed, sound}
-use Rattle.model.specs.SoundSays.{ranged, units_some, units_few, level_some, level_few, Stateful, fits_absent, by-fitting, data_states, check_states}
-use Rattle.model.specs.SoundSays.{listed_own, listed_differ}
+use Rattle.model.proofs.SoundSays.{ranged, units_some, units_few, level_some, level_few, Stateful, fits_absent, by-fitting, data_states, check_states}
+use Rattle.model.proofs.SoundSays.{listed_own, listed_differ}
 use Rattle.model.specs.history.Ledger.{Rec, Ledger, empty, record_at, placed, state}
 use Rattle.model.specs.history.Typed.{Bytes}
 use Rattle.model.proofs.history.ledger.Valid.{Good, Valid}

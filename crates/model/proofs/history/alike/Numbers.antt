@@ -10,7 +10,7 @@ use Rattle.model.specs.Units.{split_pointer}
 use Rattle.model.specs.UnitLaws.{split_below, unit_below}
 use Rattle.model.specs.Layout.{Store, units_in}
 use Rattle.model.specs.Reads.{home_in, fill_in, rank_in, outs_in, state_in}
-use Rattle.model.specs.SameLosses.{beyond_same}
+use Rattle.model.proofs.SameLosses.{beyond_same}
 use Rattle.model.specs.Numbers.{teach, correct, erase, unit_out, repair, grow, shrink, raise, refusals_in}
 use Rattle.model.specs.RowLaws.{Agree, row}
 use Rattle.model.proofs.history.alike.Alike.{Alike, units_alike, level_alike, home_alike, state_alike, outs_alike, units_out_alike, lists_alike}

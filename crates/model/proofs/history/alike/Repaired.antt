@@ -24,9 +24,9 @@ use Rattle.group.proofs.CheckRecordLaws.{length_body, length_check_record, check
 use Rattle.model.specs.Layout.{Store, key_of}
 use Rattle.model.specs.LayoutLaws.{Shaped}
 use Rattle.model.specs.Reads.{first_check, listed_key, missing_in, serves_in, holds, whole_slot, rebuildable_in, keys_lost_in, beyond_in}
-use Rattle.model.specs.ReadLaws.{listed_some}
-use Rattle.model.specs.LossLaws.{missing_out, missing_listed, keys_kept, unit_keys_kept, rank_kept, first_check_found, four_serve}
-use Rattle.model.specs.SameLosses.{missing_same, rebuildable_same}
+use Rattle.model.proofs.ReadLaws.{listed_some}
+use Rattle.model.proofs.LossLaws.{missing_out, missing_listed, keys_kept, unit_keys_kept, rank_kept, first_check_found, four_serve}
+use Rattle.model.proofs.SameLosses.{missing_same, rebuildable_same}
 use Rattle.model.specs.Changes.{repaired}
 use Rattle.model.proofs.history.alike.Alike.{LikeSlot, LikeCheck, Alike, pick_both, left_shaped, right_shaped, idle_kept, lists_alike, listed_alike}
 

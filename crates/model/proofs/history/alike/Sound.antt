@@ -17,11 +17,11 @@ use Rattle.model.specs.Units.{unit_of}
 use Rattle.model.specs.Layout.{Store, bytes, view, store_bytes, units_in, key_of}
 use Rattle.model.specs.LayoutLaws.{byte_front, length_bytes}
 use Rattle.model.specs.Reads.{fill_in, listed_key, listed_fill, keys_lost_in}
-use Rattle.model.specs.LossLaws.{served_keys}
-use Rattle.model.specs.SameLosses.{keys_lost_same}
+use Rattle.model.proofs.LossLaws.{served_keys}
+use Rattle.model.proofs.SameLosses.{keys_lost_same}
 use Rattle.model.specs.Sound.{same, ranges, units_placed, checks_placed, zeroed, keys_placed, lists_agree, sound}
 use Rattle.model.specs.SoundLaws.{same_true}
-use Rattle.model.specs.SoundSays.{slot_test, check_test, Zeroed, zeroed_says, clauses}
+use Rattle.model.proofs.SoundSays.{slot_test, check_test, Zeroed, zeroed_says, clauses}
 use Rattle.model.proofs.history.alike.Alike.{Alike, left_shaped, right_shaped, seen_alike, units_alike, level_alike, fill_alike, lists_alike}
 use Rattle.model.proofs.history.alike.Alike.{listed_like, listed_alike, listed_fill_alike}
 

@@ -11,7 +11,7 @@ use Rattle.model.specs.Layout.{view, store_bytes, units_in}
 use Rattle.model.specs.Numbers.{Call, read, repair, first_of, number_in}
 use Rattle.model.specs.Perform.{copied, perform, lay_out_number, lay_out}
 use Rattle.model.specs.Field.{stamped}
-use Rattle.model.specs.FieldLaws.{body_back, stamp_back}
+use Rattle.model.proofs.FieldLaws.{body_back, stamp_back}
 use Rattle.model.specs.GrantedLayout.{layout_granted}
 use Rattle.model.specs.history.Ledger.{Ledger, opened, home, key_beyond_of, beyond_of}
 use Rattle.model.specs.history.Picture.{picture}

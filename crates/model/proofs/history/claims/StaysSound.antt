@@ -16,7 +16,7 @@ use Rattle.model.specs.Layout.{Store, view, slot_of, units_in, level_in, bytes}
 use Rattle.model.specs.LayoutLaws.{bytes_view}
 use Rattle.model.specs.Reads.{home_in, fill_in, rank_in}
 use Rattle.model.specs.Sound.{sound}
-use Rattle.model.specs.SoundSays.{ranged}
+use Rattle.model.proofs.SoundSays.{ranged}
 use Rattle.model.specs.Numbers.{Call, teach, correct, erase, read, read_in_place, list, unit_out, repair, grow, shrink, raise, refusals_in, number_in}
 use Rattle.model.specs.RowLaws.{Agree, Free, agree_first}
 use Rattle.model.specs.Changes.{written, erased, unit_lost, repaired, grown, shrunk, raised}

@@ -11,7 +11,7 @@ use Rattle.buffer.specs.Range.{count}
 use Rattle.buffer.specs.RangeLaws.{count_zero}
 use Rattle.buffer.specs.TestLaws.{not-both, and-true, and_first, and_second, and_false_first, ltb_suc}
 use Rattle.model.specs.Sound.{state_fits}
-use Rattle.model.specs.SoundSays.{Stateful}
+use Rattle.model.proofs.SoundSays.{Stateful}
 use Rattle.model.specs.history.Ledger.{Ledger, home, rank_of, placed, is_out, state, outs_of, missing_of, keys_lost_of, key_beyond_of}
 
 -- with more units and a higher level no unit loses its place

@@ -17,7 +17,7 @@ use Rattle.group.proofs.RebuildingLaws.{rebuilds}
 use Rattle.model.specs.Layout.{Store, view}
 use Rattle.model.specs.LayoutLaws.{Same}
 use Rattle.model.specs.Reads.{listed_key, missing_in, serves_in, holds, whole_slot}
-use Rattle.model.specs.LossLaws.{four_serve}
+use Rattle.model.proofs.LossLaws.{four_serve}
 use Rattle.model.specs.history.Ledger.{Ledger, record_at, is_out, state, missing_of, rebuildable_of, keys_lost_of, beyond_of}
 use Rattle.model.specs.history.Picture.{record_bytes, image, picture}
 use Rattle.model.proofs.history.ledger.Valid.{Valid}

@@ -10,8 +10,7 @@ use Rattle.model.specs.Numbers.{Call}
 use Rattle.model.specs.Perform.{copied, Outcome, outcome, perform}
 use Rattle.lines.specs.Output.{number_line, field_line}
 use Rattle.answering.specs.Said.{printed}
-use Rattle.answering.proofs.calls.answer_read.Statement.{statement}
-use Rattle.answering.proofs.calls.answer_read.Tie as tie
+use Rattle.answering.proofs.calls.answer_read.Goals as goal
 
 -- what is printed of a call that copies a field
 module _ {s y : List ℕ} {n : ℕ} (c : Call) (e : outcome (copied n y) s ≡ perform s c) where
@@ -23,21 +22,12 @@ module _ {s y : List ℕ} {n : ℕ} (c : Call) (e : outcome (copied n y) s ≡ p
   unfolding printed
   refusal_printed z = sym (pick-false (ne_eqb n 0 z) _ _) ∙ ap (λ (o : Outcome). printed o.answer []) e
 
-returns : tie.Need-returns
+pub returns-then-number-eq0 : goal.returns-then-number-eq0
+unfolding zeros
+returns-then-number-eq0 c =
+    rw (← field_printed _ c.read-number.ensures c.if-number-eq0.true) c.put_field.ensures
+
+pub returns : goal.returns
 unfolding zeros
 returns c =
-    let put = c.before.before in
-    let test = put.before.before.before in
-    rw (← field_printed _ test.before.before.read.ensures test.if1.true) put.put-field.ensures
-
-returns_2 : tie.Need-returns-2
-unfolding zeros
-returns_2 c =
-    let put = c.before.before in
-    let test = put.before.before in
-    rw (← refusal_printed _ test.before.before.read.ensures test.if1.false) put.put-number.ensures
-
-pub answer_read_spec : {M : Type 1} → statement M
-answer_read_spec =
-    tie.close (tie.spec (λ c. search rules) (λ c κs. search rules) (λ c κs. search rules) (λ c. search rules) returns (λ c κs. search rules) (λ c. search rules)
-    returns_2)
+    rw (← refusal_printed _ c.read-number.ensures c.if-number-eq0.false) c.put_number.ensures

@@ -16,7 +16,7 @@ use Rattle.group.specs.Members.{checks_serving}
 use Rattle.group.specs.MembersLaws.{rebuildable_ext}
 use Rattle.model.specs.Layout.{Store, key_of}
 use Rattle.model.specs.Reads.{first_check, listed_key, listed_fill, missing_in, rebuildable_in, keys_lost_in, beyond_in}
-use Rattle.model.specs.LossLaws.{first_check_found}
+use Rattle.model.proofs.LossLaws.{first_check_found}
 
 pub record SameLists (v w : Store) : Type 0 where
   pub size : w.size ≡ v.size

@@ -13,8 +13,8 @@ use Rattle.group.specs.MembersLaws.{serves_data, serves_ext}
 use Rattle.group.proofs.RebuildingLaws.{rebuilt_ext}
 use Rattle.model.specs.Layout.{Store}
 use Rattle.model.specs.Reads.{missing_in, serves_in, holds, whole_slot, keys_lost_in, beyond_in}
-use Rattle.model.specs.LossLaws.{missing_out, keys_kept, unit_keys_kept, four_serve, rank_kept, whole_kept}
-use Rattle.model.specs.SameLosses.{SameLists, states_same, key_same, missing_same}
+use Rattle.model.proofs.LossLaws.{missing_out, keys_kept, unit_keys_kept, four_serve, rank_kept, whole_kept}
+use Rattle.model.proofs.SameLosses.{SameLists, states_same, key_same, missing_same}
 
 -- w is v with other slots where records are missing
 pub record Rebuilding (v w : Store) : Type 0 where
