@@ -81,55 +81,28 @@ def parse_args(s):
             while j<len(s) and not s[j].isspace() and s[j] not in '()': j+=1
             out.append(s[i:j]); i=j
     return out
-SRC={}
-def params_of(fn):
-    """parameter names of the function at path fn (with / between modules)"""
-    parts=fn.split('/')
-    cands=[f'{root}/crates/{crate}/src/'+'/'.join(parts[:-1])+'.rt'] if len(parts)>1 else [f'{root}/crates/{crate}/src/lib.rt',f'{root}/crates/{crate}/src/main.rt']
-    for p in cands:
+def found(where,parts,pattern):
+    """What the pattern finds behind `fn NAME` of the function at modules/NAME of a crate, or None."""
+    for f in ['/'.join(parts[:-1])+'.rt'] if len(parts)>1 else ['lib.rt','main.rt']:
+        p=f'{root}/crates/{where}/src/{f}'
         if os.path.exists(p):
-            t=open(p,encoding='utf-8').read()
-            m=re.search(r"fn "+re.escape(parts[-1])+r"(?:<[^>]*>)?\(([^)]*)\)",t)
-            if m: return [x.split(':')[0].replace('mut ','').strip() for x in m.group(1).split(',') if x.strip()]
-    return []
-def bools_of(fn):
-    parts=fn.split('/')
-    cands=[f'{root}/crates/{crate}/src/'+'/'.join(parts[:-1])+'.rt'] if len(parts)>1 else [f'{root}/crates/{crate}/src/lib.rt',f'{root}/crates/{crate}/src/main.rt']
-    for p in cands:
-        if os.path.exists(p):
-            t=open(p,encoding='utf-8').read()
-            m=re.search(r"fn "+re.escape(parts[-1])+r"(?:<[^>]*>)?\(([^)]*)\)",t)
-            if m: return set(re.findall(r"(\w+): bool",m.group(1)))
-    return set()
-def lets_of(fn):
-    """locals of fn that hold the answer of a comparison"""
-    parts=fn.split('/')
-    cands=[f'{root}/crates/{crate}/src/'+'/'.join(parts[:-1])+'.rt'] if len(parts)>1 else [f'{root}/crates/{crate}/src/lib.rt',f'{root}/crates/{crate}/src/main.rt']
-    for p in cands:
-        if os.path.exists(p):
-            t=open(p,encoding='utf-8').read()
-            m=re.search(r"fn "+re.escape(parts[-1])+r"(?:<[^>]*>)?\(.*?\n\}\n",t,re.S)
-            if m: return set(re.findall(r"let (?:mut )?(\w+)(?:: bool)? = [^;]*(?:==|!=|<=|>=| < | > )",m.group(0)))
-    return set()
-def ensures_of(callee):
-    cr,*parts=callee.split('::')
-    cands=[f'{root}/crates/{cr}/src/'+'/'.join(parts[:-1])+'.rt'] if len(parts)>1 else [f'{root}/crates/{cr}/src/lib.rt']
-    for p in cands:
-        if os.path.exists(p):
-            t=open(p,encoding='utf-8').read()
-            m=re.search(r"fn "+re.escape(parts[-1])+r"(?:<[^>]*>)?\(.*?\n\{\n",t,re.S)
-            if m: return re.findall(r"^\s*ensures (\w+) \{",m.group(0),re.M)
-    return []
-def muts_of(callee):
-    cr,*rest=callee.split('::')
-    parts=rest
-    cands=[f'{root}/crates/{cr}/src/'+'/'.join(parts[:-1])+'.rt'] if len(parts)>1 else [f'{root}/crates/{cr}/src/lib.rt']
-    for p in cands:
-        if os.path.exists(p):
-            t=open(p,encoding='utf-8').read()
-            m=re.search(r"fn "+re.escape(parts[-1])+r"(?:<[^>]*>)?\(([^)]*)\)",t)
-            if m: return [x.split(':')[0].replace('mut ','').strip() for x in m.group(1).split(',') if '&mut' in x or "&'a mut" in x]
-    return []
+            m=re.search(r"fn "+re.escape(parts[-1])+r"(?:<[^>]*>)?"+pattern,open(p,encoding='utf-8').read(),re.S)
+            if m: return m
+    return None
+def params(where,parts):
+    """the parameters with their types"""
+    m=found(where,parts,r"\(([^)]*)\)")
+    return [x.replace('mut ','').strip() for x in m.group(1).split(',') if x.strip()] if m else []
+def name_of(parameter): return parameter.split(':')[0].strip()
+def compared_in(where,parts):
+    """the locals that hold the answer of a comparison"""
+    m=found(where,parts,r"\(.*?\n\}\n")
+    return set(re.findall(r"let (?:mut )?(\w+)(?:: bool)? = [^;]*(?:==|!=|<=|>=| < | > )",m.group(0))) if m else set()
+def clauses_of(callee):
+    """the names of the callee's ensures"""
+    where,*parts=callee.split('::')
+    m=found(where,parts,r"\(.*?\n\{\n")
+    return re.findall(r"^\s*ensures (\w+) \{",m.group(0),re.M) if m else []
 report=[]
 def conv(fn,path):
     text=open(path,encoding='utf-8').read()
@@ -137,8 +110,8 @@ def conv(fn,path):
     if 'tie.close' not in text: report.append(f'{fn}: no tie.close'); return
     if key not in J: report.append(f'{fn}: no {key}'); return
     E=J[key]
-    LETS=lets_of(fn); BOOLS=bools_of(fn)
-    PS=params_of(fn)
+    LETS=compared_in(crate,fn.split('/')); BOOLS={name_of(x) for x in params(crate,fn.split('/')) if x.endswith(': bool')}
+    PS=[name_of(x) for x in params(crate,fn.split('/'))]
     steps={}
     for p in E['places']:
         o,n=p[2]
@@ -239,19 +212,20 @@ def conv(fn,path):
             o=o.split()[-1]; n=n.split()[-1]
             if re.fullmatch(r"\.t\d+",o): s=re.sub(re.escape(o)+r"(?!"+IDC+")",n,s)
         s=re.sub(r"(?<![\w'\-₀-₉.])c\.pre(?!"+IDC+")","c.requires",s)
+        # what a call leaves in its parameter number n is .new, n times .1, and .0
         def newk(m):
-            st=m.group(1); k=int(m.group(2))
+            st=m.group(1); k=m.group(2).count('.1')
             cal=[p[3] for p in E['places'] if p[2][1]==st and p[3]]
             if not cal: return m.group(0)
-            mp=muts_of(cal[0])
-            if k<len(mp): return f'c.{st}.new.{mp[k]}'
-            return m.group(0)
-        s=re.sub(r"(?<![\w'\-₀-₉.])c\.("+IDC+r"+)\.new\.(\d+)",newk,s)
+            where,*parts=cal[0].split('::')
+            ps=params(where,parts)
+            return f'c.{st}.new.{name_of(ps[k])}' if k<len(ps) else m.group(0)
+        s=re.sub(r"(?<![\w'\-₀-₉.])c\.("+IDC+r"+)\.new((?:\.1)*)\.0(?!"+IDC+")",newk,s)
         def ens(m):
             st=m.group(1); k=int(m.group(2))
             cal=[p[3] for p in E['places'] if p[2][1]==st and p[3]]
             if not cal: return m.group(0)
-            mp=ensures_of(cal[0])
+            mp=clauses_of(cal[0])
             return f'c.{st}.ensures.{mp[k]}' if k<len(mp) else m.group(0)
         s=re.sub(r"(?<![\w'\-₀-₉.])c\.("+IDC+r"+)\.ensures\.(\d+)",ens,s)
         callees={p[3].split('::')[-1] for p in E['places'] if p[3]}
