@@ -37,7 +37,7 @@ pub slice_bounds-write_all-end-in-loop-at : goal.slice_bounds-write_all-end-in-l
 slice_bounds-write_all-end-in-loop-at c =
     let fits : c.answer-size.result ≤ length c.answer-size.new.out = let l = c.loop-at in
     printed_fits l.store l.list l.out _ c.answer-size.ensures in
-    sym (length-take-le c.answer-size.result c.answer-size.new.out (fits))
+    sym (length-take-le c.answer-size.result c.answer-size.new.out fits)
 
 pub loop-at-smaller : goal.loop-at-smaller
 loop-at-smaller c =

@@ -18,12 +18,12 @@ lent n h = let none : n - 0 ≡ n = omega arith in ap (λ (k : ℕ). length (tak
 pub rebuild_missing-requires : goal.rebuild_missing-requires
 rebuild_missing-requires c =
     let len : ℕ = length c.args.members.now / length c.args.marks.now in
-    let wide : length (take (len - 0) zeros) ≡ len = lent (len) c.requires.short in
+    let wide : length (take (len - 0) zeros) ≡ len = lent len c.requires.short in
     let g = c.requires in (
       g.group,
-      subst (λ (n : ℕ). n ≤ longest_member) (sym (wide)) g.short,
+      subst (λ (n : ℕ). n ≤ longest_member) (sym wide) g.short,
       g.few,
-      g.whole ∙ ap (λ (n : ℕ). n * length c.args.marks.now) (sym (wide)),
+      g.whole ∙ ap (λ (n : ℕ). n * length c.args.marks.now) (sym wide),
       g.are,
       g.long,
       c.table-table.ensures,
@@ -34,7 +34,7 @@ rebuild_missing-requires c =
 pub returns : goal.returns
 returns c =
     let len : ℕ = length c.args.members.now / length c.args.marks.now in
-    let wide : length (take (len - 0) zeros) ≡ len = lent (len) c.requires.short in
+    let wide : length (take (len - 0) zeros) ≡ len = lent len c.requires.short in
     let a = c.args in
     let done = c.rebuild_missing.ensures in
-    (done.0 ∙ ap (λ (n : ℕ). members_after a.m a.marks.now n a.members.now) (wide), done.1)
+    (done.0 ∙ ap (λ (n : ℕ). members_after a.m a.marks.now n a.members.now) wide, done.1)

@@ -40,9 +40,9 @@ rebuild_field-requires c =
     let here = ap (λ (n : ℕ). keys + check_bytes * n) at.ensures.0 in
     c.copy.ensures ∙ part_lent c.args.s.now (keys + check_bytes * at.result) 4 (keys + check_bytes * r) here
     ∙ (missing_keys c.requires.1 c.requires.3).bytes r in
-    let key_long : length c.copy.new.into ≡ key_bytes = ap length (key) ∙ missing_key_long c.requires.1 in
+    let key_long : length c.copy.new.into ≡ key_bytes = ap length key ∙ missing_key_long c.requires.1 in
     let p = c.requires in (
-      field_room c.args.out.now c.copy.new.into p.0 (key_long),
+      field_room c.args.out.now c.copy.new.into p.0 key_long,
       p.1.sized,
       omega (arith, p.1.unit),
       missing_rank p.1,
@@ -59,8 +59,8 @@ returns c =
     let here = ap (λ (n : ℕ). keys + check_bytes * n) at.ensures.0 in
     c.copy.ensures ∙ part_lent c.args.s.now (keys + check_bytes * at.result) 4 (keys + check_bytes * r) here
     ∙ (missing_keys c.requires.1 c.requires.3).bytes r in
-    let key_long : length c.copy.new.into ≡ key_bytes = ap length (key) ∙ missing_key_long c.requires.1 in
+    let key_long : length c.copy.new.into ≡ key_bytes = ap length key ∙ missing_key_long c.requires.1 in
     let p = c.requires in
-    two_parts c.args.out.now c.copy.new.into p.0 (key_long) c.rebuild_field.new.out
-    ∙ ap₂ (λ (x y : List ℕ). x ++ y) (key) (c.rebuild_field.ensures ∙ field_rebuilt p.1 p.2)
+    two_parts c.args.out.now c.copy.new.into p.0 key_long c.rebuild_field.new.out
+    ∙ ap₂ (λ (x y : List ℕ). x ++ y) key (c.rebuild_field.ensures ∙ field_rebuilt p.1 p.2)
     ∙ sym (whole_missing p.1)

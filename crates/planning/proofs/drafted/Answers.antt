@@ -21,24 +21,24 @@ returns-then-growth-ne0 c =
 pub split_pointer-requires : goal.split_pointer-requires
 split_pointer-requires c =
     let store : List ℕ = c.args.s.now in
-    let granted : number_in (store) grow ≡ 0 = sym c.growth_of-growth.ensures.0 ∙ c.if-growth-ne0.false in
-    (next_unit (store) (granted) c.byte_at-m.ensures).1
+    let granted : number_in store grow ≡ 0 = sym c.growth_of-growth.ensures.0 ∙ c.if-growth-ne0.false in
+    (next_unit store granted c.byte_at-m.ensures).1
 
 pub dealt-requires : goal.dealt-requires
 dealt-requires c =
     let store : List ℕ = c.args.s.now in
-    let granted : number_in (store) grow ≡ 0 = sym c.growth_of-growth.ensures.0 ∙ c.if-growth-ne0.false in
-    let next = next_unit (store) (granted) c.byte_at-m.ensures in
+    let granted : number_in store grow ≡ 0 = sym c.growth_of-growth.ensures.0 ∙ c.if-growth-ne0.false in
+    let next = next_unit store granted c.byte_at-m.ensures in
     let from = c.split_pointer.ensures in (
       record { sized = next.0; from = from.0; apart = from.1; unit = next.2 },
       c.byte_at-m.ensures,
       c.growth_of-growth.ensures.1 ∙ pick_true (eq-eqb _ 0 c.if-growth-ne0.false) _ 0
-          ∙ ap (fill_in (view (store))) (sym (from.0 ∙ ap split_pointer c.byte_at-m.ensures)),
+          ∙ ap (fill_in (view store)) (sym (from.0 ∙ ap split_pointer c.byte_at-m.ensures)),
     )
 
 pub returns : goal.returns
 returns c =
     let store : List ℕ = c.args.s.now in
-    let granted : number_in (store) grow ≡ 0 = sym c.growth_of-growth.ensures.0 ∙ c.if-growth-ne0.false in
+    let granted : number_in store grow ≡ 0 = sym c.growth_of-growth.ensures.0 ∙ c.if-growth-ne0.false in
     let d = c.dealt.ensures in
-    all_moves _ _ d.0 (granted) d.1 d.2
+    all_moves _ _ d.0 granted d.1 d.2

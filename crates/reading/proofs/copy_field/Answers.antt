@@ -17,21 +17,21 @@ use Rattle.reading.proofs.copy_field.Goals as goal
 pub decoder_at-decoder-requires : goal.decoder_at-decoder-requires
 decoder_at-decoder-requires c =
     let out : byte c.args.s.now (8 + c.args.u) ≡ 2 = state_byte c.args.s.now c.args.u ∙ sym c.state.ensures ∙ c.if-state-eq2.true in
-    let missing : Rebuildable c.args.s.now c.args.u c.args.r = readable_out c.requires.0 (out) in
-    (missing, c.requires.1 (out), c.table-table.ensures)
+    let missing : Rebuildable c.args.s.now c.args.u c.args.r = readable_out c.requires.0 out in
+    (missing, c.requires.1 out, c.table-table.ensures)
 
 pub rebuild_field-requires : goal.rebuild_field-requires
 rebuild_field-requires c =
     let out : byte c.args.s.now (8 + c.args.u) ≡ 2 = state_byte c.args.s.now c.args.u ∙ sym c.state.ensures ∙ c.if-state-eq2.true in
-    let missing : Rebuildable c.args.s.now c.args.u c.args.r = readable_out c.requires.0 (out) in
+    let missing : Rebuildable c.args.s.now c.args.u c.args.r = readable_out c.requires.0 out in
     let p = c.requires in
     let decoder = c.decoder_at-decoder.ensures in (
       p.2,
       p.0.sized,
       omega (arith, p.0.unit),
       readable_rank p.0,
-      decoder_low (missing) decoder,
-      decoder_small (missing) decoder,
+      decoder_low missing decoder,
+      decoder_small missing decoder,
       c.table-table.ensures,
     )
 
@@ -43,8 +43,8 @@ slice_bounds-copy-end c =
 pub returns-then-state-eq2 : goal.returns-then-state-eq2
 returns-then-state-eq2 c =
     let out : byte c.args.s.now (8 + c.args.u) ≡ 2 = state_byte c.args.s.now c.args.u ∙ sym c.state.ensures ∙ c.if-state-eq2.true in
-    let missing : Rebuildable c.args.s.now c.args.u c.args.r = readable_out c.requires.0 (out) in
-    field_out (missing) c.decoder_at-decoder.ensures _ c.rebuild_field.ensures
+    let missing : Rebuildable c.args.s.now c.args.u c.args.r = readable_out c.requires.0 out in
+    field_out missing c.decoder_at-decoder.ensures _ c.rebuild_field.ensures
 
 pub returns-else-state-eq2 : goal.returns-else-state-eq2
 returns-else-state-eq2 c =

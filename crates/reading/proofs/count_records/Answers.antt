@@ -25,7 +25,7 @@ lost-requires c =
 pub returns-then-lost : goal.returns-then-lost
 returns-then-lost c =
     let sound : c.args.survey.sound ≡ true = not-false _ c.if-not-survey.false in
-    not_counted 7 (list_lost _ _ _ (sound) (sym c.lost.ensures ∙ c.if-lost.true))
+    not_counted 7 (list_lost _ _ _ sound (sym c.lost.ensures ∙ c.if-lost.true))
 
 pub returns-then-len-count : goal.returns-then-len-count
 returns-then-len-count c =
@@ -33,8 +33,8 @@ returns-then-len-count c =
     let none : lost_in (view c.args.s.now) ≡ false = sym c.lost.ensures ∙ c.if-lost.false in
     let sum : c.total-count.result ≡ total_in (view c.args.s.now) = let survey = c.requires in
     let ok = sound in
-    c.total-count.ensures.0 ∙ fills_total (whole_learned survey ok (safe_store (found_sized survey ok) (none))) in
-    not_counted 6 (list_short _ _ _ (sound) (none) (omega (arith, c.if-len-count.true, sum)))
+    c.total-count.ensures.0 ∙ fills_total (whole_learned survey ok (safe_store (found_sized survey ok) none)) in
+    not_counted 6 (list_short _ _ _ sound none (omega (arith, c.if-len-count.true, sum)))
 
 pub returns : goal.returns
 returns c =
@@ -42,6 +42,6 @@ returns c =
     let none : lost_in (view c.args.s.now) ≡ false = sym c.lost.ensures ∙ c.if-lost.false in
     let sum : c.total-count.result ≡ total_in (view c.args.s.now) = let survey = c.requires in
     let ok = sound in
-    c.total-count.ensures.0 ∙ fills_total (whole_learned survey ok (safe_store (found_sized survey ok) (none))) in
+    c.total-count.ensures.0 ∙ fills_total (whole_learned survey ok (safe_store (found_sized survey ok) none)) in
     let ok = sound in
-    counted _ _ _ ok (none) _ (found_sized c.requires ok) (sum) (omega (arith, c.if-len-count.false, sum))
+    counted _ _ _ ok none _ (found_sized c.requires ok) sum (omega (arith, c.if-len-count.false, sum))

@@ -22,7 +22,7 @@ look_up-place-requires c =
 pub returns-then-place-ne0 : goal.returns-then-place-ne0
 returns-then-place-ne0 c =
     let number : c.look_up-place.result.number ≡ number_in c.args.s.now (Call.read c.args.key (zeros field_bytes)) = c.look_up-place.ensures.given ∙ read_rows _ _ _ _ (zeros field_bytes) c.survey_of.ensures.tested (sym (length_zeros field_bytes)) in
-    let none = lent_nothing _ _ (nowhere _ _ _ (number) c.if-place-ne0.true) in record { answer = none.0; place = none.1.0; start = none.1.1 }
+    let none = lent_nothing _ _ (nowhere _ _ _ number c.if-place-ne0.true) in record { answer = none.0; place = none.1.0; start = none.1.1 }
 
 pub returns-then-state-eq2 : goal.returns-then-state-eq2
 returns-then-state-eq2 c =

@@ -44,7 +44,7 @@ loop-r-preserved c =
     let o = c.loop-r.out in
     let at = c.loop-r.at in
     let written = put_lent o c.rebuild_slot.new.out at slot_bytes ∙ ap (λ x. splice at slot_bytes x o) c.rebuild_slot.ensures in
-    let long = sym (length_missing (missing)) in (
+    let long = sym (length_missing missing) in (
       omega arith,
       appending_turn slot_bytes c.loop-r.invariant.1 c.loop-r-test.true long (omega (arith, c.loop-r.invariant.1.long, c.requires.3)) written,
       next_rank c.next_decoder-decoder.ensures,

@@ -23,20 +23,20 @@ loop-u-init c =
 pub overflow_add-end : goal.overflow_add-end
 overflow_add-end c =
     let fill : get_or c.args.fills c.wide.result 0 ≡ listed_fill (view c.args.s.now) c.loop-u.u = fill_at c.requires.1 c.loop-u-test.true c.wide.ensures.0 in
-    let fits : length (tab c.loop-u.u (records c.args.s.now)) + slot_bytes * get_or c.args.fills c.wide.result 0 ≤ length c.args.out.now = records_fit c.requires.0 c.loop-u.u _ _ c.loop-u-test.true (fill) c.requires.2 in
+    let fits : length (tab c.loop-u.u (records c.args.s.now)) + slot_bytes * get_or c.args.fills c.wide.result 0 ≤ length c.args.out.now = records_fit c.requires.0 c.loop-u.u _ _ c.loop-u-test.true fill c.requires.2 in
     omega (arith, c.loop-u.invariant.place, c.wide-in-loop-u.ensures.0, fits)
 
 pub slice_bounds-copy_unit-end : goal.slice_bounds-copy_unit-end
 slice_bounds-copy_unit-end c =
     let fill : get_or c.args.fills c.wide.result 0 ≡ listed_fill (view c.args.s.now) c.loop-u.u = fill_at c.requires.1 c.loop-u-test.true c.wide.ensures.0 in
-    let fits : length (tab c.loop-u.u (records c.args.s.now)) + slot_bytes * get_or c.args.fills c.wide.result 0 ≤ length c.args.out.now = records_fit c.requires.0 c.loop-u.u _ _ c.loop-u-test.true (fill) c.requires.2 in
+    let fits : length (tab c.loop-u.u (records c.args.s.now)) + slot_bytes * get_or c.args.fills c.wide.result 0 ≤ length c.args.out.now = records_fit c.requires.0 c.loop-u.u _ _ c.loop-u-test.true fill c.requires.2 in
     let inv = c.loop-u.invariant in
     omega (arith, inv.place, inv.long, c.wide-in-loop-u.ensures.0, fits)
 
 pub copy_unit-requires : goal.copy_unit-requires
 copy_unit-requires c =
     let fill : get_or c.args.fills c.wide.result 0 ≡ listed_fill (view c.args.s.now) c.loop-u.u = fill_at c.requires.1 c.loop-u-test.true c.wide.ensures.0 in
-    let fits : length (tab c.loop-u.u (records c.args.s.now)) + slot_bytes * get_or c.args.fills c.wide.result 0 ≤ length c.args.out.now = records_fit c.requires.0 c.loop-u.u _ _ c.loop-u-test.true (fill) c.requires.2 in
+    let fits : length (tab c.loop-u.u (records c.args.s.now)) + slot_bytes * get_or c.args.fills c.wide.result 0 ≤ length c.args.out.now = records_fit c.requires.0 c.loop-u.u _ _ c.loop-u-test.true fill c.requires.2 in
     let l = c.loop-u in
     let u = c.loop-u-test.true in
     let p = c.requires in
@@ -46,7 +46,7 @@ copy_unit-requires c =
     let counts = group_counted p.1 (l.u / 4) (omega arith) in (
       p.0.sized,
       u,
-      rw (fill) (listed_fill_small _ l.u),
+      rw fill (listed_fill_small _ l.u),
       λ r k. whole_readable p.0 l.u u r (omega (arith, k, fill)),
       counts,
       long,
@@ -57,13 +57,13 @@ copy_unit-requires c =
 pub loop-u-preserved : goal.loop-u-preserved
 loop-u-preserved c =
     let fill : get_or c.args.fills c.wide.result 0 ≡ listed_fill (view c.args.s.now) c.loop-u.u = fill_at c.requires.1 c.loop-u-test.true c.wide.ensures.0 in
-    let fits : length (tab c.loop-u.u (records c.args.s.now)) + slot_bytes * get_or c.args.fills c.wide.result 0 ≤ length c.args.out.now = records_fit c.requires.0 c.loop-u.u _ _ c.loop-u-test.true (fill) c.requires.2 in
+    let fits : length (tab c.loop-u.u (records c.args.s.now)) + slot_bytes * get_or c.args.fills c.wide.result 0 ≤ length c.args.out.now = records_fit c.requires.0 c.loop-u.u _ _ c.loop-u-test.true fill c.requires.2 in
     let l = c.loop-u in
     let u = c.loop-u-test.true in
     let s = c.args.s.now in
     let w : ℕ = slot_bytes * c.wide-in-loop-u.result in
     let here : c.copy_unit.new.out ≡ records s l.u =
-    c.copy_unit.ensures ∙ ap (λ (n : ℕ). tab n (whole_slot (view s) l.u)) (fill) in
+    c.copy_unit.ensures ∙ ap (λ (n : ℕ). tab n (whole_slot (view s) l.u)) fill in
     appending_turn w l.invariant u (omega (arith, c.wide-in-loop-u.ensures.0, fill, records_long c.requires.0 l.u u))
     (omega (arith, l.invariant.place, l.invariant.long, c.wide-in-loop-u.ensures.0, fits))
     (put_lent l.out _ l.at w ∙ ap (λ x. splice l.at w x l.out) here)

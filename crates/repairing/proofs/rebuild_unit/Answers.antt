@@ -29,7 +29,7 @@ next_decoder-decoder-requires c =
     let listed : c.loop-r.r < listed_fill (view c.args.s.now) c.args.u = omega (arith, c.loop-r-test.true, unit_fill_lem c.requires.0 c.wide.ensures.0) in
     let inv = c.loop-r.invariant in
     let p = c.requires in
-    (standing_missing p.0 inv.0 (listed), standing_counts p.0 inv.0, p.1, standing_decoder p.0 inv.0 inv.1)
+    (standing_missing p.0 inv.0 listed, standing_counts p.0 inv.0, p.1, standing_decoder p.0 inv.0 inv.1)
 
 pub rebuild_slot-requires : goal.rebuild_slot-requires
 rebuild_slot-requires c =
@@ -37,14 +37,14 @@ rebuild_slot-requires c =
     let inv = c.loop-r.invariant in
     let p = c.requires in
     let keys = standing_keys p.0 inv.0 c.keys_at-keys.ensures in
-    (search rules, standing_missing p.0 inv.0 (listed), c.next_decoder-decoder.ensures, keys, p.1)
+    (search rules, standing_missing p.0 inv.0 listed, c.next_decoder-decoder.ensures, keys, p.1)
 
 pub slice_bounds-copy-end : goal.slice_bounds-copy-end
 slice_bounds-copy-end c =
     let listed : c.loop-r.r < listed_fill (view c.args.s.now) c.args.u = omega (arith, c.loop-r-test.true, unit_fill_lem c.requires.0 c.wide.ensures.0) in
     let rank : c.loop-r.r < get_or c.args.s.now 5 0 = omega (arith, listed, listed_fill_small c.args.s.now c.args.u) in
     let n = length c.args.s.now in
-    omega (arith, rank_within data_units (get_or c.args.s.now 5 0) c.args.u c.loop-r.r n c.requires.0.unit (rank) c.requires.0.near.sized.long)
+    omega (arith, rank_within data_units (get_or c.args.s.now 5 0) c.args.u c.loop-r.r n c.requires.0.unit rank c.requires.0.near.sized.long)
 
 pub overflow_add-r : goal.overflow_add-r
 overflow_add-r c =
@@ -58,7 +58,7 @@ unfolding part splice
 loop-r-preserved c =
     let listed : c.loop-r.r < listed_fill (view c.args.s.now) c.args.u = omega (arith, c.loop-r-test.true, unit_fill_lem c.requires.0 c.wide.ensures.0) in
     let p = c.requires in (
-      rebuilding_turn p.0 c.loop-r.invariant.0 (listed) c.slot_at-at.ensures.0 (c.copy.ensures ∙ c.rebuild_slot.ensures)
+      rebuilding_turn p.0 c.loop-r.invariant.0 listed c.slot_at-at.ensures.0 (c.copy.ensures ∙ c.rebuild_slot.ensures)
           (simp add-sub_cancel_left),
       next_decoder p.0 c.loop-r.invariant.0 c.next_decoder-decoder.ensures,
     )

@@ -25,16 +25,16 @@ returns-then-full c =
 pub pair_out-requires : goal.pair_out-requires
 pair_out-requires c =
     let good : c.args.survey.sound ≡ true = not-false _ c.if-not-survey.false in
-    let next : (1 ≤ c.byte_at-m.result) × (c.byte_at-m.result < 16) = (omega (arith, (found_sized c.requires (good)).unit, c.byte_at-m.ensures), leb-false 16 c.byte_at-m.result c.if-full.false-raw) in
+    let next : (1 ≤ c.byte_at-m.result) × (c.byte_at-m.result < 16) = (omega (arith, (found_sized c.requires good).unit, c.byte_at-m.ensures), leb-false 16 c.byte_at-m.result c.if-full.false-raw) in
     next
 
 pub returns : goal.returns
 unfolding first_of pick
 returns c =
     let good : c.args.survey.sound ≡ true = not-false _ c.if-not-survey.false in
-    let next : (1 ≤ c.byte_at-m.result) × (c.byte_at-m.result < 16) = (omega (arith, (found_sized c.requires (good)).unit, c.byte_at-m.ensures), leb-false 16 c.byte_at-m.result c.if-full.false-raw) in
+    let next : (1 ≤ c.byte_at-m.result) × (c.byte_at-m.result < 16) = (omega (arith, (found_sized c.requires good).unit, c.byte_at-m.ensures), leb-false 16 c.byte_at-m.result c.if-full.false-raw) in
     let a = c.args in
-    let pair = outs_pair c.requires (good) next.0 next.1 in
+    let pair = outs_pair c.requires good next.0 next.1 in
     simp (
       grow_rows_lem a.s.now a.survey.sound c.byte_at-m.ensures,
       c.if-not-survey.false,

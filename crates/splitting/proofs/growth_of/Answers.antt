@@ -24,22 +24,22 @@ returns-then-number-ne0 c =
 pub split_pointer-n-requires : goal.split_pointer-n-requires
 split_pointer-n-requires c =
     let store : List ℕ = c.args.s.now in
-    let added : Pair (store) c.survey_of-survey.result.fills c.byte_at.result = grows c.survey_of-survey.ensures c.if-number-ne0.false c.byte_at.ensures c.grow_number-number.ensures in
+    let added : Pair store c.survey_of-survey.result.fills c.byte_at.result = grows c.survey_of-survey.ensures c.if-number-ne0.false c.byte_at.ensures c.grow_number-number.ensures in
     added.some
 
 pub bounds-fills-wide : goal.bounds-fills-wide
 bounds-fills-wide c =
     let store : List ℕ = c.args.s.now in
-    let added : Pair (store) c.survey_of-survey.result.fills c.byte_at.result = grows c.survey_of-survey.ensures c.if-number-ne0.false c.byte_at.ensures c.grow_number-number.ensures in
+    let added : Pair store c.survey_of-survey.result.fills c.byte_at.result = grows c.survey_of-survey.ensures c.if-number-ne0.false c.byte_at.ensures c.grow_number-number.ensures in
     omega (arith, c.wide.ensures.0, c.split_pointer-n.ensures.1, added.few)
 
 pub returns : goal.returns
 returns c =
     let store : List ℕ = c.args.s.now in
-    let added : Pair (store) c.survey_of-survey.result.fills c.byte_at.result = grows c.survey_of-survey.ensures c.if-number-ne0.false c.byte_at.ensures c.grow_number-number.ensures in
+    let added : Pair store c.survey_of-survey.result.fills c.byte_at.result = grows c.survey_of-survey.ensures c.if-number-ne0.false c.byte_at.ensures c.grow_number-number.ensures in
     let zero = c.if-number-ne0.false in (
       sym zero ∙ number_is _ of_grow c.survey_of-survey.ensures.tested c.grow_number-number.ensures,
       added.from _ _ c.split_pointer-n.ensures.0 c.split_pointer-n.ensures.1 c.wide.ensures.0
-          ∙ ap (fill_in (view (store))) (c.split_pointer-n.ensures.0 ∙ ap split_pointer c.byte_at.ensures)
+          ∙ ap (fill_in (view store)) (c.split_pointer-n.ensures.0 ∙ ap split_pointer c.byte_at.ensures)
           ∙ sym (pick_true (eq-eqb 0 0 refl) _ 0),
     )

@@ -29,23 +29,23 @@ overflow_sub-m c =
 pub pair_out-requires : goal.pair_out-requires
 pair_out-requires c =
     let good : c.args.survey.sound ≡ true = not-false _ c.if-not-survey.false in
-    let last : (1 ≤ c.byte_at-units.result - 1) × (c.byte_at-units.result - 1 < 16) = last_unit (found_sized c.requires (good)) c.byte_at-units.ensures (leb-false _ 1 c.if-alone.false-raw) in
+    let last : (1 ≤ c.byte_at-units.result - 1) × (c.byte_at-units.result - 1 < 16) = last_unit (found_sized c.requires good) c.byte_at-units.ensures (leb-false _ 1 c.if-alone.false-raw) in
     last
 
 pub pair_crowded-requires : goal.pair_crowded-requires
 pair_crowded-requires c =
     let good : c.args.survey.sound ≡ true = not-false _ c.if-not-survey.false in
-    let last : (1 ≤ c.byte_at-units.result - 1) × (c.byte_at-units.result - 1 < 16) = last_unit (found_sized c.requires (good)) c.byte_at-units.ensures (leb-false _ 1 c.if-alone.false-raw) in
+    let last : (1 ≤ c.byte_at-units.result - 1) × (c.byte_at-units.result - 1 < 16) = last_unit (found_sized c.requires good) c.byte_at-units.ensures (leb-false _ 1 c.if-alone.false-raw) in
     last
 
 pub returns : goal.returns
 unfolding first_of pick
 returns c =
     let good : c.args.survey.sound ≡ true = not-false _ c.if-not-survey.false in
-    let last : (1 ≤ c.byte_at-units.result - 1) × (c.byte_at-units.result - 1 < 16) = last_unit (found_sized c.requires (good)) c.byte_at-units.ensures (leb-false _ 1 c.if-alone.false-raw) in
+    let last : (1 ≤ c.byte_at-units.result - 1) × (c.byte_at-units.result - 1 < 16) = last_unit (found_sized c.requires good) c.byte_at-units.ensures (leb-false _ 1 c.if-alone.false-raw) in
     let a = c.args in
     let pair =
-    pair_rows c.requires (good) last.0 last.1 c.pair_out.ensures c.byte_at-b.ensures c.pair_crowded.ensures in
+    pair_rows c.requires good last.0 last.1 c.pair_out.ensures c.byte_at-b.ensures c.pair_crowded.ensures in
     simp (
       shrink_rows_lem a.s.now a.survey.sound c.byte_at-units.ensures,
       c.if-not-survey.false,

@@ -47,7 +47,7 @@ slice_bounds-record_line-end c =
 pub record_line-line-requires : goal.record_line-line-requires
 record_line-line-requires c =
     let stands : c.loop-i.at + slot_bytes ≤ length c.args.list.now = omega (arith, c.loop-i.invariant.from, c.loop-i-test.true, c.requires.0.long) in
-    length_lent c.args.list.now c.loop-i.at slot_bytes (stands)
+    length_lent c.args.list.now c.loop-i.at slot_bytes stands
 
 pub slice_bounds-copy-end : goal.slice_bounds-copy-end
 slice_bounds-copy-end c =
@@ -57,14 +57,14 @@ slice_bounds-copy-end c =
 pub slice_bounds-copy-end-in-loop-i : goal.slice_bounds-copy-end-in-loop-i
 slice_bounds-copy-end-in-loop-i c =
     let line_long : length c.record_line-line.result ≡ record_line_bytes = ap length c.record_line-line.ensures ∙ length_record_line _ _ _ in
-    sym (line_long)
+    sym line_long
 
 pub copy-requires : goal.copy-requires
 copy-requires c =
     let fits : c.loop-i.end + record_line_bytes ≤ length c.loop-i.out = omega (arith, c.loop-i.invariant.to, c.loop-i-test.true, c.requires.1, c.loop-i.invariant.lines.long) in
     let line_long : length c.record_line-line.result ≡ record_line_bytes = ap length c.record_line-line.ensures ∙ length_record_line _ _ _ in
     let l = c.loop-i in
-    length_lent l.out l.end record_line_bytes (fits) ∙ sym (line_long)
+    length_lent l.out l.end record_line_bytes fits ∙ sym line_long
 
 pub loop-i-preserved : goal.loop-i-preserved
 unfolding unit_before listed_line
@@ -78,7 +78,7 @@ loop-i-preserved c =
       to = omega (arith, l.invariant.to);
       unit = rw (add-one l.i) place.0;
       rank = rw (add-one l.i) place.1;
-      lines = appending_turn record_line_bytes l.invariant.lines c.loop-i-test.true (sym (length_record_line _ _ _)) (fits)
+      lines = appending_turn record_line_bytes l.invariant.lines c.loop-i-test.true (sym (length_record_line _ _ _)) fits
           (put_lent l.out _ l.end record_line_bytes ∙ ap (λ x. splice l.end record_line_bytes x l.out)
           (c.copy.ensures ∙ c.record_line-line.ensures ∙ rw (place.0, place.1, part_lent list l.at slot_bytes (slot_bytes * l.i) l.invariant.from)));
     }

@@ -15,7 +15,7 @@ loop-b-init c =
     let bytes : (k : ℕ) → byte c.args.s.now k < 256 = λ k. omega (arith, c.type_inv.s k) in
     let wide : length c.clear.new.s ≡ length c.args.acc.now = ap length c.clear.ensures ∙ length_zeros (length c.args.acc.now) in (
       refl,
-      weighing_start _ _ _ _ _ c.requires.3.low bytes _ (c.clear.ensures ∙ ap zeros (sym (wide))),
+      weighing_start _ _ _ _ _ c.requires.3.low bytes _ (c.clear.ensures ∙ ap zeros (sym wide)),
     )
 
 pub slice_bounds-add_digit-end : goal.slice_bounds-add_digit-end
@@ -55,4 +55,4 @@ shape_of-acc c =
 pub returns : goal.returns
 returns c =
     let wide : length c.clear.new.s ≡ length c.args.acc.now = ap length c.clear.ensures ∙ length_zeros (length c.args.acc.now) in
-    weighing_end _ _ _ _ _ c.clear.new.s _ _ c.loop-b.invariant.1 (wide) c.loop-b-test.false
+    weighing_end _ _ _ _ _ c.clear.new.s _ _ c.loop-b.invariant.1 wide c.loop-b-test.false

@@ -37,7 +37,7 @@ loop-i-preserved c =
     let under = c.loop-i-test.true in
     filling_turn _ c.loop-i.invariant (search rules)
     (weight_read i _ c.requires.5 under c.args.table.now c.args.q _ c.requires.1
-    c.log_others-all.ensures (c.requires.4.away i under) c.log_in-own.ensures.0 (taken))
+    c.log_others-all.ensures (c.requires.4.away i under) c.log_in-own.ensures.0 taken)
 
 pub shape_of-weights : goal.shape_of-weights
 shape_of-weights c =

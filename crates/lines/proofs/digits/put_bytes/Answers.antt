@@ -36,7 +36,7 @@ unfolding part
 put_byte-requires c =
     let room : c.loop-i.at + 2 ≤ length c.loop-i.into = omega (arith, place c.args.from.now c.loop-i.invariant, c.loop-i.invariant.long) in
     let two : c.loop-i.at + 2 - c.loop-i.at ≡ 2 = omega arith in
-    rw two (length_part c.loop-i.at 2 c.loop-i.into (room))
+    rw two (length_part c.loop-i.at 2 c.loop-i.into room)
 
 pub loop-i-preserved : goal.loop-i-preserved
 unfolding splice
@@ -50,7 +50,7 @@ loop-i-preserved c =
     p.invariant
     c.loop-i-test.true
     (sym (length_hex 2 (byte s p.i)))
-    (room)
+    room
     (ap (λ n. splice p.at n c.put_byte.new.into p.into) two
     ∙ ap (λ x. splice p.at 2 x p.into) c.put_byte.ensures)
 

@@ -30,7 +30,7 @@ bounds-l-1 c =
       some = c.if-n-eq0.false;
       whole = c.if-l-length_of.false ∙ c.length_of.ensures;
     } in
-    omega (arith, room (argued))
+    omega (arith, room argued)
 
 pub returns-then-l-ne32 : goal.returns-then-l-ne32
 returns-then-l-ne32 c =
@@ -41,7 +41,7 @@ returns-then-l-ne32 c =
       some = c.if-n-eq0.false;
       whole = c.if-l-length_of.false ∙ c.length_of.ensures;
     } in
-    c.unread-then-l-ne32.ensures ∙ sym (no_space (argued) c.if-l-ne32.true)
+    c.unread-then-l-ne32.ensures ∙ sym (no_space argued c.if-l-ne32.true)
 
 pub number-d-requires : goal.number-d-requires
 number-d-requires c =
@@ -52,7 +52,7 @@ number-d-requires c =
       some = c.if-n-eq0.false;
       whole = c.if-l-length_of.false ∙ c.length_of.ensures;
     } in
-    (room (argued), argued.known)
+    (room argued, argued.known)
 
 pub returns-then-not-d : goal.returns-then-not-d
 returns-then-not-d c =
@@ -63,7 +63,7 @@ returns-then-not-d c =
       some = c.if-n-eq0.false;
       whole = c.if-l-length_of.false ∙ c.length_of.ensures;
     } in
-    c.unread-then-not-d.ensures ∙ sym (no_number (argued)
+    c.unread-then-not-d.ensures ∙ sym (no_number argued
     (not_ok c.number-d.ensures c.if-not-d.true))
 
 pub returns-then-not-has_field : goal.returns-then-not-has_field
@@ -75,8 +75,8 @@ returns-then-not-has_field c =
       some = c.if-n-eq0.false;
       whole = c.if-l-length_of.false ∙ c.length_of.ensures;
     } in
-    c.without_field-then-not-has_field.ensures ∙ numbered (argued) c.if-l-ne32.false (ok c.number-d.ensures c.if-not-d.false)
-    ((sym c.has_field.ensures ∙ c.if-not-has_field.true))
+    c.without_field-then-not-has_field.ensures ∙ numbered argued c.if-l-ne32.false (ok c.number-d.ensures c.if-not-d.false)
+    (sym c.has_field.ensures ∙ c.if-not-has_field.true)
 
 pub bounds-l-10 : goal.bounds-l-10
 bounds-l-10 c =
@@ -89,8 +89,8 @@ bounds-l-10 c =
     } in
     omega (
       arith,
-      field_length (argued)
-          ((sym c.has_field.ensures ∙ c.if-not-has_field.false)),
+      field_length argued
+          (sym c.has_field.ensures ∙ c.if-not-has_field.false),
     )
 
 pub returns-then-l-ne32-2 : goal.returns-then-l-ne32-2
@@ -102,8 +102,8 @@ returns-then-l-ne32-2 c =
       some = c.if-n-eq0.false;
       whole = c.if-l-length_of.false ∙ c.length_of.ensures;
     } in
-    c.unread-then-l-ne32-2.ensures ∙ sym (no_second_space (argued)
-    ((sym c.has_field.ensures ∙ c.if-not-has_field.false)) c.if-l-ne32-2.true)
+    c.unread-then-l-ne32-2.ensures ∙ sym (no_second_space argued
+    (sym c.has_field.ensures ∙ c.if-not-has_field.false) c.if-l-ne32-2.true)
 
 pub read_field-b-requires : goal.read_field-b-requires
 read_field-b-requires c =
@@ -114,7 +114,7 @@ read_field-b-requires c =
       some = c.if-n-eq0.false;
       whole = c.if-l-length_of.false ∙ c.length_of.ensures;
     } in
-    omega (arith, field_length (argued) ((sym c.has_field.ensures ∙ c.if-not-has_field.false)))
+    omega (arith, field_length argued (sym c.has_field.ensures ∙ c.if-not-has_field.false))
 
 pub returns-then-not-b : goal.returns-then-not-b
 returns-then-not-b c =
@@ -126,8 +126,8 @@ returns-then-not-b c =
       whole = c.if-l-length_of.false ∙ c.length_of.ensures;
     } in
     c.unread-then-not-b.ensures
-    ∙ sym (no_field (argued)
-    ((sym c.has_field.ensures ∙ c.if-not-has_field.false))
+    ∙ sym (no_field argued
+    (sym c.has_field.ensures ∙ c.if-not-has_field.false)
     (field_not_ok c.read_field-b.ensures c.if-not-b.true))
 
 pub returns : goal.returns
@@ -140,8 +140,8 @@ returns c =
       whole = c.if-l-length_of.false ∙ c.length_of.ensures;
     } in
     with_field
-    (argued)
-    ((sym c.has_field.ensures ∙ c.if-not-has_field.false))
+    argued
+    (sym c.has_field.ensures ∙ c.if-not-has_field.false)
     c.if-l-ne32.false
     (ok c.number-d.ensures c.if-not-d.false)
     c.if-l-ne32-2.false

@@ -17,9 +17,9 @@ pub rebuildable-requires : goal.rebuildable-requires
 rebuildable-requires c =
     let seen : c.state.result ≡ (view c.args.s.now).dstate c.args.u = c.state.ensures ∙ state_data c.args.s.now c.args.u c.requires.1 in
     let p = c.requires in
-    (p.0, omega (arith, p.1), p.2 (sym (seen) ∙ c.if-state-ne2.false))
+    (p.0, omega (arith, p.1), p.2 (sym seen ∙ c.if-state-ne2.false))
 
 pub returns : goal.returns
 returns c =
     let seen : c.state.result ≡ (view c.args.s.now).dstate c.args.u = c.state.ensures ∙ state_data c.args.s.now c.args.u c.requires.1 in
-    rw (eq-eqb _ 2 (sym (seen) ∙ c.if-state-ne2.false)) (ap not c.rebuildable.ensures)
+    rw (eq-eqb _ 2 (sym seen ∙ c.if-state-ne2.false)) (ap not c.rebuildable.ensures)
