@@ -5,7 +5,7 @@ use mathlib.Core.List.{List}
 use Prim.Native.Nat.{ℕ, ◌+◌, ◌/◌, ◌≤◌, ◌<◌}
 use native.Mathlib.Omega.{arith}
 use lib.Dec.{leb, eqb}
-use borrow.Author.Tests.{le-leb, lt-ltb}
+use borrow.Author.Tests.{le-leb, lt-ltb, eq-eqb, ne_eqb}
 use Rattle.buffer.specs.Choice.{pick}
 use Rattle.buffer.specs.ChoiceLaws.{pick_true, pick-false, by-pick}
 use Rattle.buffer.specs.TestLaws.{and-true, and_false_first, and_false_second}
@@ -28,6 +28,10 @@ pub record Ends (n f : ℕ) (z y : Bool) : Type 0 where
   pub bad : 64 < n → 65 ≡ pick y f 65
   pub fails : z ≡ false → 65 ≡ pick y f 65
   pub holds : n ≤ 64 → z ≡ true → n ≡ pick y f 65
+
+-- the same of a unit
+abbrev pub UnitEnds : List ℕ → ℕ → ℕ → Type 0
+UnitEnds s u n = Ends n (unit_fill s u) (none_behind s u (unit_fill s u)) (unit_good s u)
 
 ends : {n f : ℕ} {z y : Bool} (t : Bool) → f ≤ 64 → (t && z) ≡ y → n ≡ pick t f 65 → Ends n f z y
 ends {n} {f} {z} {y} t most law count =
@@ -114,19 +118,22 @@ module _ (s : List ℕ) (u : ℕ) where
     -- in place: its keys, then those listed behind them
     module _ (place : u < byte s 6) where
       unit_ends : {n : ℕ} → n ≡ pick (in_place_part s u && own_keys (byte s 6) u (unit_fill s u) (beside_keys s u)) (unit_fill s u) 65
-          → Ends n (unit_fill s u) (none_behind s u (unit_fill s u)) (unit_good s u)
+          → UnitEnds s u n
       unfolding unit_good own_listed
       unit_ends count =
           let most = unit_fill_most s u in
           let own : Bool = own_keys (byte s 6) u (unit_fill s u) (beside_keys s u) in
           ends (in_place_part s u && own) (omega arith) (sym (and_group (in_place_part s u) own (none_behind s u (unit_fill s u)))) count
 
-      pub served_unit : {n : ℕ} → eqb (byte s (8 + u)) 1 ≡ true → n ≡ pick (served s u && own_data) (data_fill s u) 65
-          → Ends n (unit_fill s u) (none_behind s u (unit_fill s u)) (unit_good s u)
-      unfolding in_place_part unit_fill pick
-      served_unit e count = unit_ends (rw (lt-ltb u (byte s 6) place, e) count)
+      abbrev state : ℕ → Bool
+      state i = eqb (byte s (8 + i)) 1
 
-      pub lost_unit : {n : ℕ} → eqb (byte s (8 + u)) 1 ≡ false → n ≡ pick (lost s u && own_lost) (lost_fill s u) 65
-          → Ends n (unit_fill s u) (none_behind s u (unit_fill s u)) (unit_good s u)
+      pub served_unit : {n w : ℕ} → w ≡ u → byte s (8 + w) ≡ 1 → n ≡ pick (served s u && own_data) (data_fill s u) 65
+          → UnitEnds s u n
       unfolding in_place_part unit_fill pick
-      lost_unit e count = unit_ends (rw (lt-ltb u (byte s 6) place, e) count)
+      served_unit at e count = unit_ends (rw (lt-ltb u (byte s 6) place, ap state (sym at) ∙ eq-eqb _ _ e) count)
+
+      pub lost_unit : {n w : ℕ} → w ≡ u → (byte s (8 + w) ≡ 1 → ⊥) → n ≡ pick (lost s u && own_lost) (lost_fill s u) 65
+          → UnitEnds s u n
+      unfolding in_place_part unit_fill pick
+      lost_unit at e count = unit_ends (rw (lt-ltb u (byte s 6) place, ap state (sym at) ∙ ne_eqb _ _ e) count)

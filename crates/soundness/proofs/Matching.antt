@@ -100,6 +100,11 @@ place_zero : place_of 0 ≡ 0
 unfolding place_of
 place_zero = refl
 
+-- a test of a key, as read, is one of the list's
+pub new_told : (key : ℕ → ℕ) (r : ℕ) {k : ℕ} {t v : Bool} → k ≡ key r → t ≡ is_new r key k → t ≡ v → is_new r key (key r) ≡ v
+new_told key r read e told =
+    sym (e ∙ ap (is_new r key) read) ∙ told
+
 module _ {key other : ℕ → ℕ} {b mark : ℕ} {t : List ℕ} {differ r : ℕ} (g : Matching key other b mark t differ r) where
   pub matching_turn : {h : ℕ} (v : ℕ) → r < b → eqb (key r) 0 ≡ false → is_new r key (key r) ≡ true → h ≡ place_of (key r) → h < 2048
       → eqb v 0 ≡ eqb (key r) (other r) → Matching key other b mark (set t h mark) (bit_or differ v) (r + 1)

@@ -8,15 +8,11 @@ use lib.Bits.{bit_xor}
 use Rattle.buffer.specs.Bytes.{byte}
 use Rattle.buffer.specs.TestLaws.{or_zero}
 use Rattle.buffer.specs.RangeLaws.{all_both}
-use Rattle.buffer.specs.LoopTests.{Gathering, gathering_start, gathering_turn, gathering_end}
+use Rattle.buffer.specs.LoopTests.{gathering_start, gathering_turn, gathering_end}
 use Rattle.group.specs.Widths.{check_bytes}
 use Rattle.soundness.specs.Keys.{same_pair, same_lists}
 use Rattle.soundness.proofs.Words.{same_words}
 use Rattle.soundness.proofs.keys.same_lists.Goals as goal
-
-pub record Both (p q : ℕ → Bool) (b r first second : ℕ) : Type 0 where
-  pub one : Gathering p b r first
-  pub two : Gathering q b r second
 
 abbrev front : List ℕ → ℕ → ℕ → ℕ → Bool
 front s x y i = same_pair s (x + check_bytes * i) (y + check_bytes * i)
