@@ -17,7 +17,7 @@ use Rattle.buffer.specs.RangeLaws.{first_le, all_both, length_entries, entries_e
 use Rattle.buffer.specs.LoopTests.{Passing, passing_start, passing_turn, passing_fail}
 use Rattle.buffer.specs.LoopWrites.{filled, Filling, filling_start, filling_turn}
 use Rattle.soundness.specs.Keys.{fill_of, new_and_same, matched}
-use Rattle.soundness.specs.Pieces.{Ranged, data_keys, column_keys, unkept, data_fill, lost_fill, in_place_part, unit_fill, own_listed, unit_good}
+use Rattle.soundness.specs.Pieces.{Ranged, data_keys, column_keys, unkept, data_fill, lost_fill, served_or_lost, unit_fill, own_listed, unit_good}
 use Rattle.soundness.specs.Survey.{Counted}
 use Rattle.soundness.proofs.Surveys.{all_known, none_known}
 
@@ -88,9 +88,9 @@ pub not_counted : {s : List ℕ} {ok : Bool} {fills : List ℕ} → ok ≡ false
 not_counted {s} e f h = record { tested = e ∙ h; filled = none_known 16 (unit_fill s) e f }
 
 -- both tests of each unit
-pub both_good : (s : List ℕ) → (all (byte s 6) (in_place_part s) && all (byte s 6) (own_listed s)) ≡ all (byte s 6) (unit_good s)
+pub both_good : (s : List ℕ) → (all (byte s 6) (served_or_lost s) && all (byte s 6) (own_listed s)) ≡ all (byte s 6) (unit_good s)
 unfolding unit_good
-both_good s = sym (all_both (byte s 6) (in_place_part s) (own_listed s))
+both_good s = sym (all_both (byte s 6) (served_or_lost s) (own_listed s))
 
 -- ---- a loop over the units in place that writes the count of each and stops at one that fails a test
 -- the entries behind those that are written are zero

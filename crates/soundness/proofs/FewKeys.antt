@@ -18,7 +18,7 @@ use Rattle.model.specs.Layout.{slot_at}
 use Rattle.lookup.specs.Keys.{keys_at}
 use Rattle.soundness.specs.Keys.{fill_of, new_and_same, matched, own_keys, matched_own}
 use Rattle.soundness.specs.Pieces.{Beside, data_keys, column_keys, unkept, beside_keys, data_fill, lost_fill, unit_zero, rest_zero, served, lost}
-use Rattle.soundness.specs.Pieces.{in_place_part, unit_fill, none_behind, own_listed, unit_good}
+use Rattle.soundness.specs.Pieces.{served_or_lost, unit_fill, none_behind, own_listed, unit_good}
 use Rattle.soundness.proofs.Located.{data_list, column_list}
 use Rattle.soundness.proofs.Counting.{good_count, bad_count, fill_most, data_fill_most, unit_fill_most}
 
@@ -117,23 +117,23 @@ module _ (s : List ℕ) (u : ℕ) where
 
     -- in place: its keys, then those listed behind them
     module _ (place : u < byte s 6) where
-      unit_ends : {n : ℕ} → n ≡ pick (in_place_part s u && own_keys (byte s 6) u (unit_fill s u) (beside_keys s u)) (unit_fill s u) 65
+      unit_ends : {n : ℕ} → n ≡ pick (served_or_lost s u && own_keys (byte s 6) u (unit_fill s u) (beside_keys s u)) (unit_fill s u) 65
           → UnitEnds s u n
       unfolding unit_good own_listed
       unit_ends count =
           let most = unit_fill_most s u in
           let own : Bool = own_keys (byte s 6) u (unit_fill s u) (beside_keys s u) in
-          ends (in_place_part s u && own) (omega arith) (sym (and_group (in_place_part s u) own (none_behind s u (unit_fill s u)))) count
+          ends (served_or_lost s u && own) (omega arith) (sym (and_group (served_or_lost s u) own (none_behind s u (unit_fill s u)))) count
 
       abbrev state : ℕ → Bool
       state i = eqb (byte s (8 + i)) 1
 
       pub served_unit : {n w : ℕ} → w ≡ u → byte s (8 + w) ≡ 1 → n ≡ pick (served s u && own_data) (data_fill s u) 65
           → UnitEnds s u n
-      unfolding in_place_part unit_fill pick
+      unfolding served_or_lost unit_fill pick
       served_unit at e count = unit_ends (rw (lt-ltb u (byte s 6) place, ap state (sym at) ∙ eq-eqb _ _ e) count)
 
       pub lost_unit : {n w : ℕ} → w ≡ u → (byte s (8 + w) ≡ 1 → ⊥) → n ≡ pick (lost s u && own_lost) (lost_fill s u) 65
           → UnitEnds s u n
-      unfolding in_place_part unit_fill pick
+      unfolding served_or_lost unit_fill pick
       lost_unit at e count = unit_ends (rw (lt-ltb u (byte s 6) place, ap state (sym at) ∙ ne_eqb _ _ e) count)

@@ -21,7 +21,7 @@ use Rattle.buffer.specs.Strided.{strided32}
 use Rattle.group.specs.Widths.{slot_bytes}
 use Rattle.soundness.specs.Keys.{fill_of, matched, own_keys}
 use Rattle.soundness.specs.Pieces.{Ranged, data_fits, data_keys, column_keys, unkept, beside_keys, data_fill, lost_fill, unit_zero, rest_zero}
-use Rattle.soundness.specs.Pieces.{served, lost, in_place_part, unit_fill, none_behind, own_listed, unit_good}
+use Rattle.soundness.specs.Pieces.{served, lost, served_or_lost, unit_fill, none_behind, own_listed, unit_good}
 use Rattle.soundness.specs.Survey.{known_fill}
 use Rattle.soundness.proofs.Joined.{or_right, or_left, either, behind}
 use Rattle.soundness.proofs.Located.{row_within}
@@ -278,7 +278,7 @@ module _ (s : List ℕ) (ok : Ranged s) (u : ℕ) (low : u < 16) where
       → (byte s (8 + u) ≡ 2 → Q (lost s u && own_up_to s u (lost_fill s u)) (lost_fill s u))
       → (byte s (8 + u) ≡ 0 → Q (absent s u) 0)
       → Q (unit_asked s u) (unit_fill s u)
-  unfolding state_fits unit_asked unit_good in_place_part own_listed unit_fill pick
+  unfolding state_fits unit_asked unit_good served_or_lost own_listed unit_fill pick
   by_state Q h one two none =
       by-test
       (λ t.

@@ -80,8 +80,8 @@ unfoldable pub lost : List ℕ → ℕ → Bool
 lost s u = unit_zero s u && (unkept s (u / 4) || leb (matched (byte s 5) (column_keys s u) (column_keys s u)) 64)
 
 -- in place, but for whether the keys are its own
-unfoldable pub in_place_part : List ℕ → ℕ → Bool
-in_place_part s u = pick (eqb (byte s (8 + u)) 1) (served s u) (lost s u)
+unfoldable pub served_or_lost : List ℕ → ℕ → Bool
+served_or_lost s u = pick (eqb (byte s (8 + u)) 1) (served s u) (lost s u)
 
 -- how many keys are listed for a unit
 unfoldable pub unit_fill : List ℕ → ℕ → ℕ
@@ -101,7 +101,7 @@ unfoldable pub own_listed : List ℕ → ℕ → Bool
 own_listed s u = own_keys (byte s 6) u (unit_fill s u) (beside_keys s u) && none_behind s u (unit_fill s u)
 
 unfoldable pub unit_good : List ℕ → ℕ → Bool
-unit_good s u = in_place_part s u && own_listed s u
+unit_good s u = served_or_lost s u && own_listed s u
 
 -- ---- units not in place: zeros, and no keys listed for those of the last group in place
 unfoldable pub groups_in : List ℕ → ℕ

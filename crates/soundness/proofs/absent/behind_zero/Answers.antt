@@ -22,7 +22,7 @@ pub returns-then-not-zero_stretch : goal.returns-then-not-zero_stretch
 unfolding behind_zero
 returns-then-not-zero_stretch c =
     let units : c.zero_stretch.result ≡ zero_between c.args.s.now (slot_at (byte c.args.s.now 5) (byte c.args.s.now 6) 0) (slot_at (byte c.args.s.now 5) 16 0) = c.zero_stretch.ensures ∙ ap₂ (zero_between c.args.s.now) c.slot_at.ensures.0 c.slot_at-2.ensures.0 in
-    rw ((sym (units) ∙ c.if-not-zero_stretch.true))
+    rw (sym units ∙ c.if-not-zero_stretch.true)
 
 pub zero_stretch-requires-2 : goal.zero_stretch-requires-2
 zero_stretch-requires-2 c =
@@ -37,6 +37,6 @@ pub returns : goal.returns
 unfolding behind_zero groups_in
 returns c =
     let units : c.zero_stretch.result ≡ zero_between c.args.s.now (slot_at (byte c.args.s.now 5) (byte c.args.s.now 6) 0) (slot_at (byte c.args.s.now 5) 16 0) = c.zero_stretch.ensures ∙ ap₂ (zero_between c.args.s.now) c.slot_at.ensures.0 c.slot_at-2.ensures.0 in
-    rw ((sym (units) ∙ c.if-not-zero_stretch.false))
+    rw (sym units ∙ c.if-not-zero_stretch.false)
     (c.zero_stretch-2.ensures
     ∙ ap₂ (zero_between c.args.s.now) c.check_at.ensures.0 c.check_at-2.ensures.0)

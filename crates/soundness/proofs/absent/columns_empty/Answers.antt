@@ -24,13 +24,13 @@ pub returns-then-not-none_behind : goal.returns-then-not-none_behind
 unfolding columns_empty groups_in
 returns-then-not-none_behind c =
     let l = c.loop-u-test.true in
-    behind_fail c.loop-u.invariant (omega arith) ((sym c.none_behind.ensures ∙ c.if-not-none_behind.true))
+    behind_fail c.loop-u.invariant (omega arith) (sym c.none_behind.ensures ∙ c.if-not-none_behind.true)
 
 pub loop-u-preserved : goal.loop-u-preserved
 unfolding groups_in
 loop-u-preserved c =
     let l = c.loop-u-test.true in
-    behind_turn c.loop-u.invariant (omega arith) ((sym c.none_behind.ensures ∙ c.if-not-none_behind.false))
+    behind_turn c.loop-u.invariant (omega arith) (sym c.none_behind.ensures ∙ c.if-not-none_behind.false)
 
 pub returns : goal.returns
 unfolding columns_empty groups_in

@@ -22,13 +22,13 @@ pub returns-then-not-check_good : goal.returns-then-not-check_good
 unfolding groups_in
 returns-then-not-check_good c =
     let l = c.loop-c-test.true in
-    passing_fail c.loop-c.invariant (omega arith) ((sym c.check_good.ensures ∙ c.if-not-check_good.true))
+    passing_fail c.loop-c.invariant (omega arith) (sym c.check_good.ensures ∙ c.if-not-check_good.true)
 
 pub loop-c-preserved : goal.loop-c-preserved
 unfolding groups_in
 loop-c-preserved c =
     let l = c.loop-c-test.true in
-    passing_turn c.loop-c.invariant (omega arith) ((sym c.check_good.ensures ∙ c.if-not-check_good.false))
+    passing_turn c.loop-c.invariant (omega arith) (sym c.check_good.ensures ∙ c.if-not-check_good.false)
 
 pub returns : goal.returns
 unfolding groups_in

@@ -17,12 +17,12 @@ pub returns-then-not-zero_between : goal.returns-then-not-zero_between
 unfolding lost pick
 returns-then-not-zero_between c =
     let zero : c.zero_between.result ≡ unit_zero c.args.s.now c.args.u = unit_zero_lem _ _ c.wide-w.ensures.0 c.slots_at-at.ensures.0 c.zero_between.ensures in
-    simp ((sym (zero) ∙ c.if-not-zero_between.true))
+    simp (sym zero ∙ c.if-not-zero_between.true)
 
 pub returns-then-k-g : goal.returns-then-k-g
 returns-then-k-g c =
     let zero : c.zero_between.result ≡ unit_zero c.args.s.now c.args.u = unit_zero_lem _ _ c.wide-w.ensures.0 c.slots_at-at.ensures.0 c.zero_between.ensures in
-    lost_none _ _ ((sym (zero) ∙ c.if-not-zero_between.false)) (is_unkept _ _ c.requires.1.found c.if-k-g.true)
+    lost_none _ _ (sym zero ∙ c.if-not-zero_between.false) (is_unkept _ _ c.requires.1.found c.if-k-g.true)
 
 pub reach_few-requires : goal.reach_few-requires
 reach_few-requires c =
@@ -43,4 +43,4 @@ returns c =
     let zero : c.zero_between.result ≡ unit_zero c.args.s.now c.args.u = unit_zero_lem _ _ c.wide-w.ensures.0 c.slots_at-at.ensures.0 c.zero_between.ensures in
     let asked = c.requires in
     lost_keys _ _ asked.0.few c.wide-w.ensures.0 c.column_at-column.ensures.0
-    ((sym (zero) ∙ c.if-not-zero_between.false)) (is_kept _ _ asked.1.found c.if-k-g.false) c.reach_few.ensures
+    (sym zero ∙ c.if-not-zero_between.false) (is_kept _ _ asked.1.found c.if-k-g.false) c.reach_few.ensures

@@ -34,10 +34,10 @@ pub returns-then-not-zero_between : goal.returns-then-not-zero_between
 returns-then-not-zero_between c =
     let count : Ends c.reach_few-n.result (data_fill c.args.s.now c.args.u) (rest_zero c.args.s.now c.args.u) (served c.args.s.now c.args.u && own_data c.args.s.now c.args.u) = served_ends _ _ c.requires.0.few c.wide-w.ensures.0 c.slots_at-at.ensures.0 c.beside-other.ensures c.reach_few-n.ensures in
     let zero : c.zero_between.result ≡ rest_zero c.args.s.now c.args.u = rest_zero_lem _ _ c.wide-w.ensures.0 c.slots_at-at.ensures.0 (count.counted c.if-n-gt64.false) c.zero_between.ensures in
-    count.fails ((sym (zero) ∙ c.if-not-zero_between.true))
+    count.fails (sym zero ∙ c.if-not-zero_between.true)
 
 pub returns : goal.returns
 returns c =
     let count : Ends c.reach_few-n.result (data_fill c.args.s.now c.args.u) (rest_zero c.args.s.now c.args.u) (served c.args.s.now c.args.u && own_data c.args.s.now c.args.u) = served_ends _ _ c.requires.0.few c.wide-w.ensures.0 c.slots_at-at.ensures.0 c.beside-other.ensures c.reach_few-n.ensures in
     let zero : c.zero_between.result ≡ rest_zero c.args.s.now c.args.u = rest_zero_lem _ _ c.wide-w.ensures.0 c.slots_at-at.ensures.0 (count.counted c.if-n-gt64.false) c.zero_between.ensures in
-    count.holds c.if-n-gt64.false ((sym (zero) ∙ c.if-not-zero_between.false))
+    count.holds c.if-n-gt64.false (sym zero ∙ c.if-not-zero_between.false)

@@ -26,7 +26,7 @@ unfolding is_new turned_keys
 returns-then-low32-k c =
     let read : let a = c.args in c.low32.result ≡ turned_keys a.s.now a.base a.step c.loop-q.invariant.rank = c.low32.ensures ∙ ap (le32 c.args.s.now) c.loop-q.invariant.at in
     let asked = c.requires in
-    stepping_fail c.loop-q.invariant asked.1 asked.2 c.loop-q-test.true (ap not (is_eq (read) refl c.if-low32-k.true))
+    stepping_fail c.loop-q.invariant asked.1 asked.2 c.loop-q-test.true (ap not (is_eq read refl c.if-low32-k.true))
 
 pub overflow_add-q : goal.overflow_add-q
 overflow_add-q c =
@@ -48,7 +48,7 @@ unfolding turned_keys
 loop-q-preserved c =
     let read : let a = c.args in c.low32.result ≡ turned_keys a.s.now a.base a.step c.loop-q.invariant.rank = c.low32.ensures ∙ ap (le32 c.args.s.now) c.loop-q.invariant.at in
     let asked = c.requires in
-    stepping_turn c.loop-q.invariant asked.1 asked.2 c.loop-q-test.true (ap not (is_ne (read) refl c.if-low32-k.false))
+    stepping_turn c.loop-q.invariant asked.1 asked.2 c.loop-q-test.true (ap not (is_ne read refl c.if-low32-k.false))
 
 pub returns : goal.returns
 unfolding is_new

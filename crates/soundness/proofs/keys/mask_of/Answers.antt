@@ -27,7 +27,7 @@ overflow_add-result c =
     let power : ℕ = c.wide32-p.result in
     let first : ℕ = c.wide32-unit.result % power in
     let first_small : first ≤ 15 = omega (arith, mod-lt c.wide32-unit.result {m = power} (omega arith)) in
-    record { fits = lt_of_le_of_lt (add_bit_mul_le (power - 1) (power) (omega (arith, first_small))) (omega arith) }
+    record { fits = lt_of_le_of_lt (add_bit_mul_le (power - 1) power (omega (arith, first_small))) (omega arith) }
 
 pub returns : goal.returns
 returns c =

@@ -25,11 +25,11 @@ own_row-requires c =
 
 pub returns-then-not-own_row : goal.returns-then-not-own_row
 returns-then-not-own_row c =
-    passing_fail c.loop-r.invariant c.loop-r-test.true ((sym c.own_row.ensures ∙ c.if-not-own_row.true))
+    passing_fail c.loop-r.invariant c.loop-r-test.true (sym c.own_row.ensures ∙ c.if-not-own_row.true)
 
 pub loop-r-preserved : goal.loop-r-preserved
 loop-r-preserved c =
-    passing_turn c.loop-r.invariant c.loop-r-test.true ((sym c.own_row.ensures ∙ c.if-not-own_row.false))
+    passing_turn c.loop-r.invariant c.loop-r-test.true (sym c.own_row.ensures ∙ c.if-not-own_row.false)
 
 pub returns : goal.returns
 returns c =

@@ -1,7 +1,6 @@
 -- `soundness::keys::same_lists` meets its contract.
-use Prim.Native.Nat.{ℕ, ◌+◌, ◌*◌, ◌<◌}
-use mathlib.Core.Bool.{Bool, ◌&&◌}
-use mathlib.Core.List.{List}
+use Prim.Native.Nat.{ℕ, ◌<◌}
+use mathlib.Core.Bool.{◌&&◌}
 use mathlib.Core.Path.{sym, ap₂, ◌∙◌}
 use native.Mathlib.Omega.{arith}
 use lib.Bits.{bit_xor}
@@ -9,16 +8,9 @@ use Rattle.buffer.specs.Bytes.{byte}
 use Rattle.buffer.specs.TestLaws.{or_zero}
 use Rattle.buffer.specs.RangeLaws.{all_both}
 use Rattle.buffer.specs.LoopTests.{gathering_start, gathering_turn, gathering_end}
-use Rattle.group.specs.Widths.{check_bytes}
-use Rattle.soundness.specs.Keys.{same_pair, same_lists}
+use Rattle.soundness.specs.Keys.{same_lists}
 use Rattle.soundness.proofs.Words.{same_words}
 use Rattle.soundness.proofs.keys.same_lists.Goals as goal
-
-abbrev front : List ℕ → ℕ → ℕ → ℕ → Bool
-front s x y i = same_pair s (x + check_bytes * i) (y + check_bytes * i)
-
-abbrev back : List ℕ → ℕ → ℕ → ℕ → Bool
-back s x y i = same_pair s (x + check_bytes * i + 8) (y + check_bytes * i + 8)
 
 pub loop-r-init : goal.loop-r-init
 loop-r-init c =

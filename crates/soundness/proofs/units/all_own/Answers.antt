@@ -23,12 +23,12 @@ group_own-requires c =
 pub returns-then-not-group_own : goal.returns-then-not-group_own
 returns-then-not-group_own c =
     let s = c.args.s.now in
-    passing_fail c.loop-g.invariant c.loop-g-test.true ((sym c.group_own.ensures ∙ c.if-not-group_own.true))
+    passing_fail c.loop-g.invariant c.loop-g-test.true (sym c.group_own.ensures ∙ c.if-not-group_own.true)
     ∙ by_groups (byte s 6) (own_listed s)
 
 pub loop-g-preserved : goal.loop-g-preserved
 loop-g-preserved c =
-    passing_turn c.loop-g.invariant c.loop-g-test.true ((sym c.group_own.ensures ∙ c.if-not-group_own.false))
+    passing_turn c.loop-g.invariant c.loop-g-test.true (sym c.group_own.ensures ∙ c.if-not-group_own.false)
 
 pub returns : goal.returns
 returns c =

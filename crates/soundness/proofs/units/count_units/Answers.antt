@@ -7,7 +7,7 @@ use Rattle.buffer.specs.Range.{all}
 use Rattle.buffer.specs.Loops.{entries}
 use Rattle.buffer.specs.TestLaws.{and-true, and_false_first, and_false_second}
 use Rattle.buffer.specs.LoopTests.{passing_end}
-use Rattle.soundness.specs.Pieces.{in_place_part}
+use Rattle.soundness.specs.Pieces.{served_or_lost}
 use Rattle.soundness.proofs.Endings.{kept_at}
 use Rattle.soundness.proofs.Counting.{not_counted, counted, both_good, tallying_start, tallying_turn, tallying_fail, tallying_end}
 use Rattle.soundness.proofs.units.count_units.Goals as goal
@@ -43,11 +43,11 @@ pub returns-then-not-all_own : goal.returns-then-not-all_own
 returns-then-not-all_own c =
     let s = c.args.s.now in
     let bad = (sym c.all_own.ensures ∙ c.if-not-all_own.true) in
-    not_counted c.uncounted-then-not-all_own.ensures.0 c.uncounted-then-not-all_own.ensures.1 (sym (and_false_second (all (byte s 6) (in_place_part s)) bad) ∙ both_good s)
+    not_counted c.uncounted-then-not-all_own.ensures.0 c.uncounted-then-not-all_own.ensures.1 (sym (and_false_second (all (byte s 6) (served_or_lost s)) bad) ∙ both_good s)
 
 pub returns : goal.returns
 returns c =
     let whole = c.loop-u.invariant.0 in
     let passed = passing_end whole.passing c.loop-u-test.false in
-    counted (sym (and-true (sym passed) ((sym c.all_own.ensures ∙ c.if-not-all_own.false))) ∙ both_good c.args.s.now)
+    counted (sym (and-true (sym passed) (sym c.all_own.ensures ∙ c.if-not-all_own.false)) ∙ both_good c.args.s.now)
     (tallying_end c.requires.0 whole c.loop-u-test.false)

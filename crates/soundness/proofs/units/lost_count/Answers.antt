@@ -18,14 +18,14 @@ pub returns-then-not-zero_between : goal.returns-then-not-zero_between
 unfolding lost pick
 returns-then-not-zero_between c =
     let zero : c.zero_between.result ≡ unit_zero c.args.s.now c.args.u = unit_zero_lem _ _ c.wide-w.ensures.0 c.slots_at-at.ensures.0 c.zero_between.ensures in
-    (simp ((sym (zero) ∙ c.if-not-zero_between.true)), c.requires.3)
+    (simp (sym zero ∙ c.if-not-zero_between.true), c.requires.3)
 
 pub returns-then-k-g : goal.returns-then-k-g
 unfolding lost lost_fill pick
 returns-then-k-g c =
     let zero : c.zero_between.result ≡ unit_zero c.args.s.now c.args.u = unit_zero_lem _ _ c.wide-w.ensures.0 c.slots_at-at.ensures.0 c.zero_between.ensures in
     let asked = c.requires in
-    (simp ((sym (zero) ∙ c.if-not-zero_between.false), is_unkept _ _ asked.1.found c.if-k-g.true), asked.3)
+    (simp ((sym zero ∙ c.if-not-zero_between.false), is_unkept _ _ asked.1.found c.if-k-g.true), asked.3)
 
 pub reach-requires : goal.reach-requires
 reach-requires c =
@@ -36,7 +36,7 @@ pub overflow_cast-result : goal.overflow_cast-result
 overflow_cast-result c =
     let count : c.reach.result ≡ matched (byte c.args.s.now 5) (column_keys c.args.s.now c.args.u) (column_keys c.args.s.now c.args.u) = lost_matched _ _ c.wide-w.ensures.0 c.column_at-column.ensures.0 c.reach.ensures.0 in
     let asked = c.requires.0 in
-    omega (arith, matched_most _ _ _ (count) asked.few)
+    omega (arith, matched_most _ _ _ count asked.few)
 
 pub returns : goal.returns
 unfolding lost lost_fill pick
@@ -44,5 +44,5 @@ returns c =
     let zero : c.zero_between.result ≡ unit_zero c.args.s.now c.args.u = unit_zero_lem _ _ c.wide-w.ensures.0 c.slots_at-at.ensures.0 c.zero_between.ensures in
     let count : c.reach.result ≡ matched (byte c.args.s.now 5) (column_keys c.args.s.now c.args.u) (column_keys c.args.s.now c.args.u) = lost_matched _ _ c.wide-w.ensures.0 c.column_at-column.ensures.0 c.reach.ensures.0 in
     let asked = c.requires in
-    let zeros = (sym (zero) ∙ c.if-not-zero_between.false) in
+    let zeros = (sym zero ∙ c.if-not-zero_between.false) in
     (rw (zeros, is_kept _ _ asked.1.found c.if-k-g.false) (count ∙ matched_told _ _ _ asked.0.few), c.reach.ensures.1)
