@@ -1,11 +1,12 @@
 -- The places of the records in a list, by their keys alone: a list goes by unit and then rank, so that a record has the rank behind that of the
 -- record before it where they share the unit, else rank 1.
-use Rattle.std.specs.Prelude.{ℕ, zero, suc, ◌*◌, ◌≤◌, ◌<◌, List, eqb, length}
+use Rattle.std.specs.Prelude.{ℕ, zero, suc, ◌*◌, ◌≤◌, ◌<◌, List, eqb, length, Option, Some, None}
 use Rattle.buffer.specs.Choice.{pick}
 use Rattle.buffer.specs.Bytes.{be32, part}
 use Rattle.group.specs.Widths.{slot_bytes}
 use Rattle.model.specs.Units.{unit_of}
 use Rattle.lines.specs.Output.{record_line}
+use Rattle.answering.specs.declared.records.Place.{Place}
 
 -- the unit of record i, of a list in a store of m units
 unfoldable pub unit_at : ℕ → List ℕ → ℕ → ℕ
@@ -18,6 +19,15 @@ rank_behind v r u = pick (eqb u v) (suc r) 1
 -- before the first record there is none: no data unit has the number 16
 abbrev pub no_unit : ℕ
 no_unit = 16
+
+-- unit and rank of the record before a record, if there is one
+abbrev pub unit_in : Option Place → ℕ
+unit_in None = no_unit
+unit_in (Some place) = place.unit
+
+abbrev pub rank_in : Option Place → ℕ
+rank_in None = 0
+rank_in (Some place) = place.rank
 
 -- unit and rank of the record before record i, of records whose units are given
 unfoldable pub unit_before : (ℕ → ℕ) → ℕ → ℕ

@@ -10,10 +10,14 @@ ghost use Rattle.answering.specs.Command.{list_bytes};
 ghost use Rattle.answering.specs.Said.{after_all, text_bytes, blank};
 ghost use Rattle.answering.specs.Buffers.{answer_bytes, answered, answer_of, list_after, out_after};
 
-use calls::{answer_list, answer_read, number_of};
+use calls::{answer_list, answer_read};
+use lines::line::Command;
 
 // The file descriptor of standard output.
 const STDOUT: i32 = 1;
+
+// The number that a line prints that is not readable.
+const UNREADABLE: u8 = 10;
 
 // The buffers that a program lends beside its store and its text: the list, for 1,024 records, and the longest answer.
 pub const LIST: usize = 1024 * group::SLOT;
@@ -26,13 +30,23 @@ pub fn answer(store: &mut [u8], list: &mut [u8], out: &mut [u8], text: &[u8]) ->
     ensures { answered result out.new store.new list.new
         ≡ answer_of store.old list.old out.old text.now }
 {
-    let line = lines::line::parse(text);
-    let letter = line.letter;
-    match letter {
-        b'R' => answer_read(store, line.number, out),
-        b'P' => answer_list(store, list, out),
-        _ => lines::output::put_number(out, number_of(store, line)),
-    }
+    let Some(command) = lines::line::parse(text) else {
+        return lines::output::put_number(out, UNREADABLE);
+    };
+    let answer = match command {
+        Command::LayOut(b) => store::lay_out::lay_out(store, b),
+        Command::Teach(key, field) => writing::teach(store, key, &field),
+        Command::Correct(key, field) => writing::correct(store, key, &field),
+        Command::Erase(key) => writing::erase(store, key),
+        Command::Read(key) => return answer_read(store, key, out),
+        Command::UnitOut(unit) => writing::unit_out(store, unit),
+        Command::Repair(group) => repairing::repair(store, group),
+        Command::Grow => splitting::grow(store),
+        Command::Shrink => splitting::shrink(store),
+        Command::Raise => splitting::raise(store),
+        Command::List => return answer_list(store, list, out),
+    };
+    lines::output::put_number(out, refusal::number(answer))
 }
 
 // Answers every line of a text, one after the other, with one write for each: the bytes that `answer` says are to be printed.
@@ -42,12 +56,12 @@ pub fn answer_all(store: &mut [u8], list: &mut [u8], out: &mut [u8], text: &[u8]
     ensures listed { list.new ≡ list_after store.old list.old (lines_of text.now) }
     ensures output { out.new ≡ out_after store.old out.old (lines_of text.now) }
 {
-    let mut at = 0;
-    while at < text.len() {
-        let end = lines::text::line_end(text, at);
-        let size = answer(store, list, out, &text[at..end]);
+    let mut rest = text;
+    while !rest.is_empty() { // no `split`: behind a final line feed it has one line more, an empty one
+        let (line, behind) = lines::text::first_line(rest);
+        let size = answer(store, list, out, line);
         io::write_all(STDOUT, &out[..size]);
-        at = end + 1;
+        rest = behind;
     }
 }
 

@@ -1,5 +1,5 @@
 -- Laws of the definitions of `Range`: tests, counts, first places, sums and lists over 0 to n - 1.
-use Rattle.std.specs.Prelude.{◌≡◌, Bool, true, not, ◌&&◌, List, ◌∷◌, ℕ, zero, suc, ◌+◌, ◌*◌, ◌-◌, ◌≤◌, ◌<◌, ltb, length, get_or}
+use Rattle.std.specs.Prelude.{◌≡◌, Bool, true, not, ◌&&◌, List, [], ◌∷◌, ◌++◌, ℕ, zero, suc, ◌+◌, ◌*◌, ◌-◌, ◌≤◌, ◌<◌, ltb, length, get_or}
 use Rattle.std.proofs.Math.Path.{refl}
 use Rattle.std.proofs.Common.{sym, ap, ap₂, ◌∙◌, ⊎_elim, add-zero, le_of_suc-le-suc, not-suc-le-zero, eq-or-lt_of_le, add-one, ext_get_or, ltb-true, ltb-false, lt-ltb, le-ltb}
 use Rattle.std.proofs.Math.Bool.{false}
@@ -310,6 +310,15 @@ unfolding entries
 entries_ext zero f g h = refl
 entries_ext (suc n) f g h =
     ap₂ ◌∷◌ (h 0 (omega arith)) (entries_ext n (λ (k : ℕ). f (suc k)) (λ (k : ℕ). g (suc k)) (λ k l. h (suc k) (omega arith)))
+
+-- one entry more, at the end
+entries_suc : {A : Type 0} (n : ℕ) (f : ℕ → A) → entries (suc n) f ≡ entries n f ++ (f n ∷ [])
+unfolding entries
+entries_suc zero f = refl
+entries_suc (suc n) f = ap (λ t. f 0 ∷ t) (entries_suc n (λ (k : ℕ). f (suc k)))
+
+pub entries_more : {A : Type 0} (n : ℕ) (f : ℕ → A) → entries (n + 1) f ≡ entries n f ++ (f n ∷ [])
+entries_more n f = rw add-one (entries_suc n f)
 
 -- a list of which the length and each entry are known
 pub entries_of : (l : List ℕ) (n : ℕ) (f : ℕ → ℕ) → length l ≡ n → ((k : ℕ) → k < n → get_or l k 0 ≡ f k) → l ≡ entries n f

@@ -1,5 +1,5 @@
--- The members of a digit, added four in a turn. A reader wants `Adding`, what holds at each turn, with `adding_start`, `adding_turn` and `adding_end`;
--- `four_fit`: four places from a place on may be read; and `inside_at`, for one byte of each.
+-- The members of a digit, added four in a turn. A reader wants `Adding`, what holds at each turn, with `adding_start`, `adding_turn` and `adding_end`; and
+-- `four_fit`: four places from a place on may be read.
 use mathlib.Core.Path.{◌≡◌, refl, sym, ap, ap₂, ◌∙◌, subst}
 use mathlib.Core.List.{List}
 use Prim.Native.Nat.{ℕ, ◌+◌, ◌-◌, ◌≤◌, ◌<◌}
@@ -16,15 +16,6 @@ use Rattle.buffer.specs.Loops.{entries}
 use Rattle.buffer.specs.RangeLaws.{length_entries, get_or_entries, entries_of}
 use Rattle.field256.specs.Gf256.{product}
 use Rattle.coder.specs.Sums.{Blank, Inside, four_bytes, digit_sum, Picked}
-
--- a byte of each of four stretches
-pub inside_at : {len : ℕ} {s : List ℕ} {a b c d : ℕ} → Inside len s a b c d → (j : ℕ) → j < len → Inside (j + 1) s a b c d
-inside_at g j h = record {
-  first = omega (arith, g.first);
-  second = omega (arith, g.second);
-  third = omega (arith, g.third);
-  fourth = omega (arith, g.fourth);
-}
 
 -- ---- the turns: what has been added by then, taken off again, leaves what there was before the first
 module _ (len : ℕ) (s places : List ℕ) (k : ℕ) where
@@ -95,8 +86,10 @@ module _ (len : ℕ) (s places : List ℕ) (k : ℕ) where
 
 -- the sum was doubled before the first turn, and the four first places were added
 pub adding_end : (len : ℕ) (s places : List ℕ) (k : ℕ) (ps ws : List ℕ) (b m none : ℕ) → Picked len s ps ws b m none places k → Blank len s none
-    → (old acc₀ acc : List ℕ) (r : ℕ) → acc₀ ≡ entries len (λ j. bit_xor (product 2 (byte old j)) (four len s places k 0 j))
+    → (old acc₀ acc : List ℕ) (r : ℕ) → length old ≡ len → acc₀ ≡ entries (length old) (λ j. bit_xor (product 2 (byte old j)) (four len s places k 0 j))
     → Adding (length acc₀) s places k acc₀ acc r → k ≤ r
     → acc ≡ entries len (λ j. bit_xor (product 2 (byte old j)) (digit_sum len s ps ws b m j))
-adding_end len s places k ps ws b m none g blank old acc₀ acc r e a h =
-    doubled_end len s places k ps ws b m none g blank old acc₀ acc r e (subst (λ n. Adding n s places k acc₀ acc r) (ap length e ∙ length_entries len _) a) h
+adding_end len s places k ps ws b m none g blank old acc₀ acc r q e a h =
+    let doubled : acc₀ ≡ entries len (λ j. bit_xor (product 2 (byte old j)) (four len s places k 0 j)) = rw (← q) e in
+    doubled_end len s places k ps ws b m none g blank old acc₀ acc r doubled
+    (subst (λ n. Adding n s places k acc₀ acc r) (ap length doubled ∙ length_entries len _) a) h

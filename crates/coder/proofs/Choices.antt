@@ -1,4 +1,4 @@
--- The search for the first m present members: what holds at its start, after a member that is missing, present with m seen before, or present and
+-- The search for the first m present members. A reader wants `Choosing`, what holds while they are looked for: at its start, after a member that is missing, present with m seen before, or present and
 -- noted, and at its end.
 use mathlib.Core.Path.{◌≡◌, sym, ap, ap₂, ◌∙◌}
 use mathlib.Core.Bool.{true, false}
@@ -12,7 +12,13 @@ use borrow.Author.Count.{below_more}
 use Rattle.coder.specs.ListLaws.{set_before}
 use Rattle.coder.specs.Segment.{largest_group, present, presents, chosen}
 use Rattle.coder.proofs.SegmentLaws.{presents_none, presents_more, presents_same}
-use Rattle.coder.specs.Choosing.{Choosing, Chosen}
+
+-- of the first c members `seen` are present, and the first m of these stand in points
+pub record Choosing (marks points : List ℕ) (m c seen : ℕ) : Type 0 where
+  pub long : length points ≡ largest_group
+  pub few : seen ≤ c
+  pub count : seen ≡ length (presents marks c)
+  pub taken : (k : ℕ) → k < m → k < seen → get_or points k 0 ≡ get_or (presents marks c) k 0
 
 pub choosing_start : {marks points : List ℕ} {m : ℕ} → length points ≡ largest_group → Choosing marks points m 0 0
 choosing_start {marks} h =
@@ -63,19 +69,15 @@ module _ {marks points : List ℕ} {m c seen : ℕ} (g : Choosing marks points m
       here : get_or (set points seen v) seen 0 ≡ get_or (presents marks (c + 1)) seen 0
       here = get_or-set_same points seen v 0 (omega (arith, g.long)) ∙ q ∙ last e
 
-pub choosing_end : {marks points : List ℕ} {m c seen : ℕ} → Choosing marks points m c seen → c ≡ length marks → m ≤ largest_group → Chosen marks points m seen
-unfolding chosen
-choosing_end {marks} {points} {m} {c} {seen} g z few =
-    let all : List ℕ = presents marks (length marks) in
-    let same : presents marks c ≡ all = ap (presents marks) z in
-    let count : seen ≡ length all = g.count ∙ ap length same in
-    let long : length (take m points) ≡ m = length-take-le m points (omega (arith, g.long)) in
-    record {
-      long = g.long;
-      count = count;
-      are =
-          λ h. ext_get_or 0 (take m points) (take m all) (long ∙ sym (length-take-le m all (omega arith)))
-          (λ k i.
-          let l : k < m = omega arith in
-          get_or-take m points k 0 l ∙ g.taken k l (omega arith) ∙ ap (λ t. get_or t k 0) same ∙ sym (get_or-take m all k 0 l));
-    }
+module _ {marks points : List ℕ} {m c seen : ℕ} (g : Choosing marks points m c seen) (z : c ≡ length marks) where
+  pub choosing_end : m ≤ largest_group → m ≤ seen → take m points ≡ chosen m marks
+  unfolding chosen
+  choosing_end few h =
+      let all : List ℕ = presents marks (length marks) in
+      let same : presents marks c ≡ all = ap (presents marks) z in
+      let long : length (take m points) ≡ m = length-take-le m points (omega (arith, g.long)) in
+      let count : m ≤ length all = omega (arith, ap length same) in
+      ext_get_or 0 (take m points) (take m all) (long ∙ sym (length-take-le m all count))
+      (λ k i.
+      let l : k < m = omega arith in
+      get_or-take m points k 0 l ∙ g.taken k l (omega arith) ∙ ap (λ t. get_or t k 0) same ∙ sym (get_or-take m all k 0 l))

@@ -1,24 +1,18 @@
 -- The loops that add up logarithms and look up weights. A reader wants `LogSumming`, what holds while the logarithms of differences are added up, with
--- `log_sum_self` and `log_sum_other`; and `weight_read`: what is read from the table of powers is the weight.
+-- `log_sum_self` and `log_sum_other`; and `weight_is`: the power that is taken is the weight.
 use mathlib.Core.Path.{◌≡◌, sym, ◌∙◌, subst}
 use mathlib.Core.List.{List}
-use Prim.Native.Nat.{ℕ, ◌+◌, ◌*◌, ◌%◌, ◌-◌, ◌≤◌, ◌<◌}
-use native.Mathlib.Nat.{add-zero, mod-lt}
+use Prim.Native.Nat.{ℕ, ◌+◌, ◌*◌, ◌-◌, ◌≤◌, ◌<◌}
+use native.Mathlib.Nat.{add-zero}
 use native.Mathlib.Omega.{arith}
 use lib.Bits.{bit_xor}
-use lib.Dec.{lit<}
 use lib.ListN.{get_or}
-use Rattle.algebra.specs.Xor.{xor_ne}
 use Rattle.buffer.specs.LoopTests.{Summing, summing_turn}
-use Rattle.field256.specs.Powers.{order, powers, logarithm}
-use Rattle.field256.specs.PowersLaws.{power_read}
+use Rattle.field256.specs.Powers.{order, power, logarithm}
+use Rattle.field256.specs.PowersLaws.{power_mod}
 use Rattle.coder.specs.Segment.{largest_group}
 use Rattle.coder.specs.Weights.{log_other, log_others, headroom, weight_of, Others}
 use Rattle.coder.specs.WeightLaws.{log_self, log_apart, others_le}
-
--- two points that differ have a difference that is not 0
-pub apart_pos : (a b : ℕ) → (a ≡ b → ⊥) → 0 < bit_xor a b
-apart_pos a b n = let some : bit_xor a b ≡ 0 → ⊥ = xor_ne a b n in omega arith
 
 -- a sum of logarithms is bounded, whatever the point
 pub sum_bounded : (c : ℕ) (ps : List ℕ) (m r : ℕ) → r ≡ log_others c ps m → r ≤ order * m
@@ -39,16 +33,16 @@ module _ (c : ℕ) (ps : List ℕ) {m i s : ℕ} (g : LogSumming c ps m i s) whe
   pub log_sum_other : (v : ℕ) → i < m → (get_or ps i 0 ≡ c → ⊥) → v ≡ logarithm (bit_xor c (get_or ps i 0)) → LogSumming c ps m (i + 1) (s + v)
   log_sum_other v h n e = summing_turn v g h (e ∙ sym (log_apart c (get_or ps i 0) n))
 
--- ---- the weight of point i, from sums and tables: what is taken off, and the power that is read
+-- ---- the weight of point i, from sums: what is taken off, and the power that is taken
 module _ {os ps : List ℕ} {m : ℕ} (i own : ℕ) (o : Others os ps m m) (h : i < m) where
   pub taken_le : m ≤ largest_group → own < order → own + get_or os i 0 ≤ headroom
   taken_le few l = omega (arith, o.logs i h, others_le (get_or ps i 0) ps m)
 
-  pub weight_read : (table : List ℕ) (q all : ℕ) → table ≡ powers → all ≡ log_others q ps m → (q ≡ get_or ps i 0 → ⊥)
+  pub weight_is : (q all w : ℕ) → all ≡ log_others q ps m → (q ≡ get_or ps i 0 → ⊥)
       → own ≡ logarithm (bit_xor q (get_or ps i 0)) → own + get_or os i 0 ≤ headroom
-      → get_or table ((all + headroom - (own + get_or os i 0)) % order) 0 ≡ weight_of ps m q (get_or ps i 0)
+      → w ≡ power (all + headroom - (own + get_or os i 0)) → w ≡ weight_of ps m q (get_or ps i 0)
   unfolding weight_of
-  weight_read table q all t e n r l =
+  weight_is q all w e n r l p =
       let split : all + headroom - (own + get_or os i 0) ≡ all + (headroom - (own + get_or os i 0)) = omega arith in
       let own_is : own ≡ log_other q (get_or ps i 0) = r ∙ sym (log_apart q (get_or ps i 0) (λ z. n (sym z))) in
-      power_read table t _ (mod-lt _ (lit< tt)) ∙ rw (split, e, own_is, o.logs i h)
+      p ∙ sym (power_mod _) ∙ rw (split, e, own_is, o.logs i h)

@@ -23,7 +23,7 @@ use Rattle.coder.specs.ListLaws.{all_first}
 use Rattle.coder.specs.Segment.{largest_group, member_byte, member_from}
 use Rattle.coder.specs.MemberLaws.{over}
 use Rattle.coder.specs.Weights.{weight_of, Away, Weighed}
-use Rattle.coder.specs.WeightLaws.{Outside, weight_low, weight_take, interpolated_is}
+use Rattle.coder.specs.WeightLaws.{Outside, weight_take, interpolated_is}
 use Rattle.coder.specs.Sums.{Placed, Blank, Small, weighted_sum}
 
 -- ---- members apart
@@ -38,9 +38,6 @@ other_member len c p j new s n h fits e =
     byte_splice_behind (len * c) len new s (len * p + j) fits e (omega (arith, over len c p (omega arith))))
 
 -- ---- what is weighed
-pub weights_small : {ws ps : List ℕ} {m q : ℕ} → Weighed ws ps m q m → m ≤ length ws → Small ws m
-weights_small {ws} {ps} {m} {q} g h = record { long = h; low = λ k l. subst (λ (n : ℕ). n < 256) (sym (g.are k l)) (weight_low ps m q (get_or ps k 0)) }
-
 module _ (ws ps : List ℕ) (m q : ℕ) (g : Weighed ws ps m q m) (small : Small ps m) (few : m ≤ largest_group) (away : Away ps m q)
     (hq : q < 256) (d : Distinct (take m ps)) where
   long : length (take m ps) ≡ m
@@ -102,9 +99,9 @@ module _ (len : ℕ) (s ps : List ℕ) (m q : ℕ) (away : Away ps m q) (fits : 
       (λ j h. total_ext m (λ k. product (get_or ws k 0 / 2 ^ 0) (byte s' (len * get_or ps k 0 + j)))
       (λ k. product (get_or ws k 0 / 2 ^ 0) (byte s (len * get_or ps k 0 + j))) (λ k l. ap (product (get_or ws k 0 / 2 ^ 0)) (same_byte j k h l)))
 
-  pub rewritten : (ws new : List ℕ) → new ≡ entries len (weighted_sum len s' ps ws 0 m)
+  pub rewritten : (at : ℕ) → at ≡ len * q → (ws new : List ℕ) → new ≡ entries len (weighted_sum len s' ps ws 0 m)
       → entries len (weighted_sum len s ps ws 0 m) ≡ member_from (take m ps) len s q
-      → splice (len * q) len new s' ≡ splice (len * q) len (member_from (take m ps) len s q) s
-  rewritten ws new e w =
-      ap₂ (splice (len * q) len) (e ∙ same_sum ws ∙ w) cleared
+      → splice at len new s' ≡ splice (len * q) len (member_from (take m ps) len s q) s
+  rewritten at is ws new e w =
+      ap (λ (n : ℕ). splice n len new s') is ∙ ap₂ (splice (len * q) len) (e ∙ same_sum ws ∙ w) cleared
       ∙ splice_again (len * q) len (member_from (take m ps) len s q) (zeros len) s (omega arith) (length_zeros len)

@@ -2,16 +2,19 @@
 -- wants `Picking`, what holds at each turn, with `picking_start`, `picking_turn` and `picking_end`.
 use mathlib.Core.Path.{◌≡◌, refl, sym, ap, ap₂, ◌∙◌, subst}
 use mathlib.Core.List.{List}
-use Prim.Native.Nat.{ℕ, zero, suc, ◌+◌, ◌*◌, ◌/◌, ◌%◌, ◌^◌, ◌≤◌, ◌<◌}
+use Prim.Native.Nat.{ℕ, zero, suc, ◌+◌, ◌-◌, ◌*◌, ◌/◌, ◌%◌, ◌^◌, ◌≤◌, ◌<◌}
 use native.Mathlib.Nat.{mod-lt, zero-mul, one-mul, not-suc-le-zero, add-zero}
 use native.Mathlib.Omega.{arith}
 use lib.Bits.{bit_xor, xor_zero_r}
 use lib.Dec.{lit<}
-use lib.ListN.{length, get_or, set, length-set}
+use lib.ListN.{length, get_or, set, replicate, length-set}
 use lib.Seq.{get_or-set_same}
 use borrow.Author.Count.{below_more}
 use Rattle.algebra.specs.XorSums.{total, total_none, total_more, total_ext}
-use Rattle.buffer.specs.Bytes.{byte}
+use Rattle.std.proofs.lemmas.List.{get_or-replicate}
+use Rattle.buffer.specs.Bytes.{byte, splice}
+use Rattle.buffer.specs.ByteLaws.{byte_splice_before, byte_splice_inside}
+use Rattle.buffer.specs.SpliceLaws.{length_splice}
 use Rattle.coder.specs.ListLaws.{set_before}
 use Rattle.coder.specs.Segment.{largest_group, member_byte}
 use Rattle.coder.specs.Sums.{room_for_places, Placed, digit_term, digit_sum, Picked}
@@ -88,47 +91,29 @@ module _ (len : ℕ) (s ps ws : List ℕ) (b m : ℕ) (places : List ℕ) (k i :
   pub picking_turn : (d : ℕ) → d ≡ get_or ws i 0 / 2 ^ b % 2 → Picking len s ps ws b m written (k + d) (i + 1)
   picking_turn d e = by_digit d (subst (λ (n : ℕ). n < 2) (sym e) (mod-lt (get_or ws i 0 / 2 ^ b) (lit< tt))) e
 
--- ---- the end: four places of zeros behind them, written one after the other; those from k to x - 1 are written
-module _ (places : List ℕ) (k none : ℕ) where
-  record Padding (l : List ℕ) (x : ℕ) : Type 0 where
-    pub from : k ≤ x
-    pub long : length l ≡ length places
-    pub before : (t : ℕ) → t < k → get_or l t 0 ≡ get_or places t 0
-    pub rest : (t : ℕ) → k ≤ t → t < x → get_or l t 0 ≡ none
-
-  padding_start : Padding places k
-  padding_start = record { from = omega arith; long = refl; before = λ t h. refl; rest = λ t h l. absurd (omega arith) }
-
-  padding_turn : {l : List ℕ} (x y : ℕ) → Padding l x → y ≡ x + 1 → y ≤ length places → Padding (set l x none) y
-  padding_turn {l} x y p e h = record {
-    from = omega (arith, p.from);
-    long = length-set l x none ∙ p.long;
-    before = λ t q. set_before l x none t (omega (arith, p.from)) ∙ p.before t q;
-    rest = λ t q u. below_more (λ i. k ≤ i → get_or (set l x none) i 0 ≡ none) x (λ i b f. set_before l x none i b ∙ p.rest i f b)
-        (λ _. get_or-set_same l x none 0 (omega (arith, p.long))) t (omega arith) q;
-  }
-
+-- ---- the end: four places of zeros behind them
 module _ (len : ℕ) (s ps ws : List ℕ) (b m : ℕ) (places : List ℕ) (k i none : ℕ) (g : Picking len s ps ws b m places k i) (h : m ≤ i)
-    (few : m ≤ largest_group) where
-  abbrev padded : List ℕ
-  padded = set (set (set (set places k none) (k + 1) none) (k + 2) none) (k + 3) none
+    (few : m ≤ largest_group) (padded : List ℕ) (is : padded ≡ splice k 4 (replicate 4 none) places) where
+  wide : k + 4 ≤ length places
+  wide = picking_room g few
 
-  padding : Padding places k none padded (k + 4)
-  padding =
-      let wide : k + 4 ≤ length places = picking_room g few in
-      let one = padding_turn places k none k (k + 1) (padding_start places k none) refl (omega arith) in
-      let two = padding_turn places k none (k + 1) (k + 2) one (omega arith) (omega arith) in
-      let three = padding_turn places k none (k + 2) (k + 3) two (omega arith) (omega arith) in
-      padding_turn places k none (k + 3) (k + 4) three (omega arith) wide
+  ahead : (t : ℕ) → t < k → get_or padded t 0 ≡ get_or places t 0
+  ahead t l = ap (λ (p : List ℕ). byte p t) is ∙ byte_splice_before k 4 (replicate 4 none) places t (omega (arith, wide)) l
+
+  behind : (t : ℕ) → k ≤ t → t < k + 4 → get_or padded t 0 ≡ none
+  behind t l u =
+      let at : k + (t - k) ≡ t = omega arith in
+      ap₂ (λ (p : List ℕ) (n : ℕ). byte p n) is (sym at) ∙ byte_splice_inside k 4 (replicate 4 none) places (t - k) (omega (arith, wide)) refl (omega arith)
+      ∙ get_or-replicate 4 (t - k) none 0 (omega arith)
 
   pub picking_end : Picked len s ps ws b m none padded k
   unfolding digit_sum
   picking_end =
       let all : i ≡ m = omega (arith, g.within) in
       record {
-        long = padding.long ∙ g.long;
+        long = ap length is ∙ length_splice k 4 (replicate 4 none) places wide refl ∙ g.long;
         few = omega (arith, g.few);
-        fits = kept_fits s places padded k padding.before len g.fits;
-        sums = λ j q. kept_sum s places padded k padding.before j ∙ g.sums j q ∙ ap (λ (n : ℕ). total n (digit_term len s ps ws b j)) all;
-        rest = padding.rest;
+        fits = kept_fits s places padded k ahead len g.fits;
+        sums = λ j q. kept_sum s places padded k ahead j ∙ g.sums j q ∙ ap (λ (n : ℕ). total n (digit_term len s ps ws b j)) all;
+        rest = behind;
       }

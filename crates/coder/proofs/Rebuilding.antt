@@ -22,7 +22,7 @@ use Rattle.buffer.specs.RangeLaws.{entries_ext}
 use Rattle.buffer.specs.LoopWrites.{Filling, filling_start, filling_turn, filling_read, filling_end}
 use Rattle.coder.specs.ListLaws.{all-at}
 use Rattle.coder.specs.Interpolated.{interpolated}
-use Rattle.coder.specs.Segment.{largest_group, most_members, present, chosen, member, member_byte, member_from, members_after}
+use Rattle.coder.specs.Segment.{most_members, present, chosen, member, member_byte, member_from, members_after}
 use Rattle.coder.proofs.SegmentLaws.{Member, chosen_members, chosen_distinct, chosen_map}
 use Rattle.coder.specs.Weights.{Away}
 use Rattle.coder.specs.Sums.{Placed, Small}
@@ -143,18 +143,17 @@ module _ (m : ℕ) (marks₀ : List ℕ) (len : ℕ) (s₀ : List ℕ) where
       )
 
 -- ---- the points are the first m present members
-module _ (ps : List ℕ) (m : ℕ) (marks : List ℕ) (few : m ≤ largest_group) (short : length marks ≤ most_members)
-    (are : take m ps ≡ chosen m marks) (long : length ps ≡ largest_group) where
+module _ (ps : List ℕ) (m : ℕ) (marks : List ℕ) (long : m ≤ length ps) (are : take m ps ≡ chosen m marks) where
   taken : length (take m ps) ≡ m
-  taken = length-take-le m ps (omega arith)
+  taken = length-take-le m ps long
 
   point_at : (k : ℕ) → k < m → Member marks (length marks) (get_or ps k 0)
   point_at k h =
       subst (Member marks (length marks)) (ap (λ (l : List ℕ). get_or l k 0) (sym are) ∙ get_or-take m ps k 0 h)
       (all-at (Member marks (length marks)) (chosen m marks) (chosen_members marks m) k (subst (λ (n : ℕ). k < n) (sym taken ∙ ap length are) h))
 
-  pub points_small : Small ps m
-  points_small = record { long = omega arith; low = λ k h. omega (arith, (point_at k h).below) }
+  pub points_small : length marks ≤ most_members → Small ps m
+  points_small short = record { long = long; low = λ k h. omega (arith, (point_at k h).below) }
 
   pub points_distinct : Distinct (take m ps)
   points_distinct = subst Distinct (sym are) (chosen_distinct marks m)

@@ -1,6 +1,6 @@
 -- The digits of the weights, highest first. A reader wants `Weighing`, what holds at each turn: the sum is that of the weights without their lowest b
 -- digits; with `weighing_start`, `weighing_turn` and `weighing_end`.
-use mathlib.Core.Path.{◌≡◌, sym, ap, ap₂, ◌∙◌}
+use mathlib.Core.Path.{◌≡◌, sym, ap, ◌∙◌}
 use mathlib.Core.List.{List}
 use Prim.Native.Nat.{ℕ, ◌+◌, ◌*◌, ◌/◌, ◌%◌, ◌^◌, ◌≤◌, ◌<◌}
 use native.Mathlib.Nat.{lt_of_le_of_lt, div-le_self}
@@ -45,19 +45,18 @@ module _ (len : ℕ) (s ps ws : List ℕ) (m : ℕ) (low : (k : ℕ) → k < m �
       (λ k l. unfold member_byte in bytes (len * get_or ps k 0 + j))
 
   pub weighing_turn : (acc acc' : List ℕ) (b c : ℕ) → Weighing len s ps ws m acc b → b ≡ c + 1
-      → acc' ≡ entries (length acc) (λ j. bit_xor (product 2 (byte acc j)) (digit_sum (length acc) s ps ws c m j)) → Weighing len s ps ws m acc' c
+      → acc' ≡ entries len (λ j. bit_xor (product 2 (byte acc j)) (digit_sum len s ps ws c m j)) → Weighing len s ps ws m acc' c
   weighing_turn acc acc' b c g e q = record {
     within = omega (arith, g.within);
-    weighed = q ∙ ap (λ (n : ℕ). entries n (λ j. bit_xor (product 2 (byte acc j)) (digit_sum n s ps ws c m j))) (weighing_long g)
-        ∙ entries_ext len (λ j. bit_xor (product 2 (byte acc j)) (digit_sum len s ps ws c m j)) (weighted_sum len s ps ws c m)
+    weighed = q ∙ entries_ext len (λ j. bit_xor (product 2 (byte acc j)) (digit_sum len s ps ws c m j)) (weighted_sum len s ps ws c m)
         (λ j l. ap (λ (x : ℕ). bit_xor (product 2 x) (digit_sum len s ps ws c m j)) (before j l) ∙ step c j);
   }
     where
       before : (j : ℕ) → j < len → byte acc j ≡ weighted_sum len s ps ws (c + 1) m j
       before j l = ap (λ (y : List ℕ). byte y j) g.weighed ∙ get_or_entries len _ j 0 l ∙ ap (λ (n : ℕ). weighted_sum len s ps ws n m j) e
 
-pub weighing_end : (len : ℕ) (s ps ws : List ℕ) (m : ℕ) (acc₀ acc : List ℕ) (b : ℕ) → Weighing (length acc₀) s ps ws m acc b → length acc₀ ≡ len → b ≤ 0
+pub weighing_end : {len : ℕ} {s ps ws : List ℕ} {m : ℕ} {acc : List ℕ} {b : ℕ} → Weighing len s ps ws m acc b → b ≤ 0
     → acc ≡ entries len (weighted_sum len s ps ws 0 m)
-weighing_end len s ps ws m acc₀ acc b g e h =
+weighing_end {len} {s} {ps} {ws} {m} {acc} {b} g h =
     let none : b ≡ 0 = omega arith in
-    g.weighed ∙ ap₂ (λ (n c : ℕ). entries n (weighted_sum n s ps ws c m)) e none
+    g.weighed ∙ ap (λ (c : ℕ). entries len (weighted_sum len s ps ws c m)) none

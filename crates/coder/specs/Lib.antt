@@ -7,7 +7,5 @@ pub mod Weights
 pub mod WeightLaws
 pub mod Sums
 pub mod Horner
-pub mod Choosing
-pub mod Granted
 pub mod Columns
 pub mod Claims

@@ -139,7 +139,6 @@ module _ (ps : List ℕ) (q : ℕ) (few : length ps ≤ largest_group) (hq : q <
   -- the sum over any points, by Lagrange's weights and by these
   combined_is : (h : ℕ → ℕ) → ((p : ℕ) → h p < 256) → (rs : List ℕ) → Bytes rs → (combined gf256 (map element (map h rs)) (map share (map point rs))).0
       ≡ total (length rs) (λ k. product (weight_of ps (length ps) q (get_or rs k 0)) (h (get_or rs k 0)))
-  unfolding Bytes
   combined_is h hb [] l = sym (total_none _)
   combined_is h hb (r ∷ rs) l =
       let w : ℕ → ℕ = weight_of ps (length ps) q in

@@ -19,11 +19,10 @@ pub extern "C" fn compared_read_in_place(store: &[u8], key: u32, out: &mut [u8])
 {
     let part = reading::read_in_place(store, key);
     let n = part.len();
-    let short = out.len() < n;
-    if short {
+    if out.len() < n {
         return n;
     }
-    buffer::copy(&mut out[0..n], part);
+    out[..n].copy_from_slice(part);
     n
 }
 
@@ -33,9 +32,8 @@ pub extern "C" fn compared_rebuild(columns: &[u8; 4], symbols: &[u8; 4], data: &
     ensures { Rebuilds columns.now symbols.now result «data».new }
 {
     let rebuilt = code::rebuild(*columns, *symbols);
-    let found = rebuilt.data;
-    *data = found;
-    rebuilt.number
+    *data = rebuilt.unwrap_or([0u8; 4]);
+    refusal::number(rebuilt)
 }
 
 // An entry of the matrix.
@@ -51,9 +49,7 @@ pub extern "C" fn compared_coefficient(place: usize, column: usize) -> u8
 pub extern "C" fn compared_product(a: u8, b: u8) -> u8
     ensures { result ≡ product a b }
 {
-    let table = field256::table();
-    let logs = field256::logs_from(&table);
-    field256::mul_in(&table, &logs, a, b)
+    field256::Logarithms::new().mul(a, b)
 }
 
 // The unit of a key among the units 0 to last; of last the remainder by 16 is taken.

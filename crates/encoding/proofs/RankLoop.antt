@@ -19,7 +19,7 @@ use Rattle.model.specs.StoreLaws.{size_of}
 use Rattle.model.specs.Reads.{first_check}
 use Rattle.lookup.specs.States.{in_service, first_check_found}
 use Rattle.encoding.specs.Made.{made_at, made, made_in, in_group, in_state, at_rank}
-use Rattle.encoding.specs.Holding.{holds_five, holds_long, holds_length}
+use Rattle.encoding.specs.Holding.{holds_five, holds_length}
 use Rattle.encoding.specs.MadeLaws.{MadeFrom, made_nothing, made_as, made_again}
 use Rattle.encoding.specs.PlaceLaws.{state_of}
 
@@ -52,9 +52,6 @@ making_start p l =
     making_of (omega arith) (made_nothing l (up_to 0 p) (λ c q a b. sym (ap (λ t. t && p c) (le-ltb q 0 (omega arith)))))
 
 module _ {p : ℕ → Bool} {s₀ s : List ℕ} {t : ℕ} (m : Making p s₀ s t) where
-  pub making_long : Long s
-  making_long = holds_long m.made.holds
-
   pub making_turn : {s' : List ℕ} (q : ℕ → Bool) → ((c : ℕ) → c < 12 → q c ≡ p c) → t < byte s₀ 5 → s' ≡ bytes (made_at (at_rank t q) (view s))
       → Making p s₀ s' (t + 1)
   making_turn q same l e =

@@ -9,7 +9,6 @@ use lib.ListN.{length, take, drop}
 use lib.Seq.{take-take}
 use Rattle.buffer.specs.RangeLaws.{below-four}
 use Rattle.buffer.specs.Bytes.{byte, part}
-use Rattle.buffer.specs.SpliceLaws.{length_part}
 use Rattle.buffer.specs.TableLaws.{Wide}
 use Rattle.group.specs.Widths.{key_bytes, field_bytes, slot_bytes}
 use Rattle.group.specs.Parity.{parity}
@@ -18,8 +17,7 @@ use Rattle.group.proofs.CheckRecordLaws.{length_key}
 use Rattle.group.specs.Four.{four_bodies}
 use Rattle.lookup.specs.SlotLaws.{drop_part}
 use Rattle.model.specs.Layout.{view, slot_at}
-use Rattle.model.specs.Places.{data_units}
-use Rattle.model.specs.LayoutLaws.{view_shaped, rank_within}
+use Rattle.model.specs.LayoutLaws.{view_shaped}
 use Rattle.model.specs.StoreLaws.{size_of, slot_lent}
 use Rattle.encoding.specs.Ranks.{RankIn}
 
@@ -43,9 +41,6 @@ pub exchanged_low : (j p : ℕ) → j < 3 → p < 4 → bit_xor p j < 4
 exchanged_low j p hj hp = xor_lt 2 p j hp (omega arith)
 
 module _ {s : List ℕ} {g r : ℕ} (h : RankIn s g r) where
-  pub rank_slot : (p : ℕ) → p < 4 → slot_at (byte s 5) (4 * g + p) r + slot_bytes ≤ length s
-  rank_slot p l = rank_within data_units (byte s 5) (4 * g + p) r (length s) (omega (arith, h.group)) h.rank h.long
-
   -- its slots, exchanged for check place j, stand before the check units
   pub exchanged_before : (j p : ℕ) → j < 3 → p < 4 → slot_at (byte s 5) (4 * g + bit_xor p j) r + slot_bytes ≤ slot_at (byte s 5) 16 0
   exchanged_before j p hj hp =
@@ -58,13 +53,6 @@ module _ {s : List ℕ} {g r : ℕ} (h : RankIn s g r) where
 
   pub key_wide : Wide 4 key_bytes (λ p. take key_bytes ((view s).slot (4 * g + p) r))
   key_wide p l = length_key field_bytes ((view s).slot (4 * g + p) r) (slot_long p l)
-
-  pub rank_first : slot_at (byte s 5) (4 * g) r + slot_bytes ≤ length s
-  rank_first = rank_within data_units (byte s 5) (4 * g) r (length s) (omega (arith, h.group)) h.rank h.long
-
--- a field, as it is lent
-pub field_lent : (s : List ℕ) (at : ℕ) → at + slot_bytes ≤ length s → length (part (at + 4) (at + slot_bytes - (at + 4)) s) ≡ field_bytes
-field_lent s at h = let size : at + slot_bytes - (at + 4) ≡ field_bytes = omega arith in rw size (length_part (at + 4) field_bytes s (omega arith))
 
 -- four fields that stand apart are those of f
 pub parity_four : (j : ℕ) (f : ℕ → List ℕ) {a b c d : List ℕ} → a ≡ f 0 → b ≡ f 1 → c ≡ f 2 → d ≡ f 3 → parity j (four_bodies a b c d) ≡ parity j f

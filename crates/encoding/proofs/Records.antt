@@ -37,9 +37,6 @@ record_parts v g r c j keys x ec l ek ex =
     rw (ek, ex, place, group)
 
 module _ {s : List ℕ} {c r : ℕ} (h : CheckIn s c r) where
-  pub check_rank : RankIn s (c / 3) r
-  check_rank = record { long = h.long; group = omega (arith, h.unit); rank = h.rank }
-
   pub record_room : {b at : ℕ} → b ≡ byte s 5 → at ≡ check_at b c r → at + check_bytes ≤ length s
   record_room eb ea = rw (ea, eb) (place_end h)
 

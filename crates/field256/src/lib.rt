@@ -3,13 +3,13 @@
 
 ghost use Rattle.std.specs.Prelude.{◌≡◌, ◌<◌, length};
 ghost use Rattle.field256.specs.Gf256.{product};
-ghost use Rattle.field256.specs.Powers.{order, powers, logarithm, logarithms};
+ghost use Rattle.field256.specs.Powers.{order, power, powers, logarithm, logarithms};
 
 // How many powers of 2 there are.
 pub const ORDER: usize = 255;
 
 // The n-th power of 2 stands at n.
-const POWERS: [u8; ORDER] = [
+static POWERS: [u8; ORDER] = [
     // powers 0 to 14
     0x01, 0x02, 0x04, 0x08, 0x10, 0x20, 0x40, 0x80, 0x1D, 0x3A, 0x74, 0xE8, 0xCD, 0x87, 0x13,
     // powers 15 to 29
@@ -46,56 +46,47 @@ const POWERS: [u8; ORDER] = [
     0x2C, 0x58, 0xB0, 0x7D, 0xFA, 0xE9, 0xCF, 0x83, 0x1B, 0x36, 0x6C, 0xD8, 0xAD, 0x47, 0x8E,
 ];
 
-// The table of powers. Each read of the constant copies it whole, so a caller takes it once and lends it.
-pub fn table() -> [u8; ORDER]
-    ensures { result ≡ powers }
+// The n-th power of 2: exponents count modulo 255.
+pub fn power(n: usize) -> u8
+    ensures { result ≡ power n }
 {
-    POWERS
+    POWERS[n % ORDER]
 }
 
-// Writes the logarithm of each power at its place.
-fn fill_logs(logs: &mut [u8], table: &[u8; ORDER])
-    requires { (length logs.old ≡ order) × (table.now ≡ powers) }
-    ensures { logs.new ≡ logarithms }
-{
-    let mut i = 0;
-    while i < ORDER {
-        logs[buffer::wide(table[i]) - 1] = i as u8;
-        i += 1;
+// The logarithms of 1 to 255, that of a at a - 1. A caller makes them once and lends them.
+#[derive(Drop)]
+pub struct Logarithms {
+    table: [u8; ORDER],
+    ghost are: { table ≡ logarithms },
+}
+
+impl Logarithms {
+    pub fn new() -> Logarithms {
+        let mut table = [0u8; ORDER];
+        for (i, power) in POWERS.iter().enumerate() {
+            table[usize::from(*power) - 1] = i as u8;
+        }
+        Logarithms { table }
     }
-}
 
-// The logarithms of 1 to 255, from the table of powers; that of a stands at a - 1.
-pub fn logs_from(table: &[u8; ORDER]) -> [u8; ORDER]
-    requires { table.now ≡ powers }
-    ensures { result ≡ logarithms }
-{
-    let mut logs = [0u8; ORDER];
-    fill_logs(&mut logs, table);
-    logs
-}
-
-// The logarithm of a number that is not 0, by the table lent.
-pub fn log_in(logs: &[u8; ORDER], a: u8) -> usize
-    requires { (logs.now ≡ logarithms) × (0 < a) }
-    ensures { (result ≡ logarithm a) × (result < order) }
-{
-    buffer::wide(logs[buffer::wide(a) - 1])
-}
-
-// The product of two bytes, by the tables lent. A product with 0 is 0, which has no logarithm. Only the comparisons of tests/ call it (crate comparing):
-// the coder makes weights from logarithms, and weighs bytes by doublings.
-pub fn mul_in(table: &[u8; ORDER], logs: &[u8; ORDER], a: u8, b: u8) -> u8
-    requires { (table.now ≡ powers) × (logs.now ≡ logarithms) }
-    ensures { result ≡ product a b }
-{
-    if a == 0 {
-        return a;
+    // The logarithm of a number that is not 0.
+    pub fn log(&self, a: u8) -> usize
+        requires { 0 < a }
+        ensures { (result ≡ logarithm a) × (result < order) }
+    {
+        usize::from(self.table[usize::from(a) - 1])
     }
-    if b == 0 {
-        return b;
+
+    // The product of two bytes. A product with 0 is 0, which has no logarithm. Only the comparisons of tests/ call it (crate comparing): the coder makes
+    // weights from logarithms, and weighs bytes by doublings.
+    pub fn mul(&self, a: u8, b: u8) -> u8
+        ensures { result ≡ product a b }
+    {
+        if a == 0 || b == 0 {
+            return 0;
+        }
+        power(self.log(a) + self.log(b))
     }
-    table[(log_in(logs, a) + log_in(logs, b)) % ORDER]
 }
 
 // 2 times x: a shift, and the rest of t^8, which leaves the byte.

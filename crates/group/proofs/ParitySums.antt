@@ -61,18 +61,10 @@ low_byte_lt : (x n : ℕ) → low_byte x n < 256
 unfolding low_byte
 low_byte_lt x n = omega arith
 
-low_zero : (x : ℕ) → low_byte x 0 ≡ x % 256
-unfolding low_byte
-low_zero x = omega arith
-
 pub mixed_byte : (a b c d n : ℕ)
     → bit_xor (bit_xor (scale 8 (low_byte (bit_xor a b) n)) (scale 7 (low_byte (bit_xor b d) n))) (low_byte c n)
     ≡ first_sum (low_byte a n) (low_byte b n) (low_byte c n) (low_byte d n)
 mixed_byte a b c d n = rw (sum_byte a b n, sum_byte b d n) (mixed (low_byte a n) (low_byte b n) (low_byte c n) (low_byte d n) (low_byte_lt c n))
-
-pub mixed_low : (a b c d : ℕ) → bit_xor (bit_xor (scale 8 (bit_xor a b % 256)) (scale 7 (bit_xor b d % 256))) (c % 256)
-    ≡ first_sum (low_byte a 0) (low_byte b 0) (low_byte c 0) (low_byte d 0)
-mixed_low a b c d = rw (← low_zero (bit_xor a b), ← low_zero (bit_xor b d), ← low_zero c) (mixed_byte a b c d 0)
 
 -- a row's entry
 pub row_byte : (w x : ℕ) → x < 256 → byte (scaled_row w) x ≡ scale w x

@@ -1,5 +1,4 @@
 pub mod Widths
-pub mod Products
 pub mod Body
 pub mod BodyLaws
 pub mod Four

@@ -1,13 +1,12 @@
 // Layer 3, group: the four data units of a group and its check units. Bodies, parity and check records of one rank, who is in service, and rebuilding.
-// The product table is taken once by the caller and lent.
+// The table of products is taken once by the caller and lent.
 #![tactic(auto)]
 
 pub mod parities;
 
-ghost use Rattle.std.specs.Prelude.{◌≡◌, true, ◌+◌, ◌≤◌, ◌<◌, length, eqb};
+ghost use Rattle.std.specs.Prelude.{◌==◌, count_by, take, ◌≡◌, true, ◌+◌, ◌≤◌, ◌<◌, length, eqb};
 ghost use Rattle.buffer.specs.Bytes.{byte};
 ghost use Rattle.buffer.specs.Range.{count};
-ghost use Rattle.code.specs.Products.{products};
 ghost use Rattle.code.specs.Scaling.{scale};
 ghost use Rattle.code.specs.Matrix.{within};
 ghost use Rattle.group.specs.Widths.{check_bytes};
@@ -17,6 +16,8 @@ ghost use Rattle.group.specs.CheckRecord.{patched};
 ghost use Rattle.group.specs.Members.{rebuildable, serves, next, first_four};
 ghost use Rattle.group.specs.Rebuilding.{weighed};
 ghost use Rattle.group.specs.Four.{four_bodies};
+
+pub use code::Products;
 
 // The widths of a record's parts, in bytes: a key; a field, which has a body and behind it a stamp; a slot, which has a key and a field; the four keys of
 // a check record, and a check record, which has these and the parity of four fields.
@@ -34,19 +35,12 @@ pub const KEYS: usize = 4 * KEY;
 
 pub const CHECK: usize = KEYS + FIELD;
 
-// The table of products, for the layer above; it is taken once and lent.
-pub fn table() -> [u8; 256]
-    ensures { result ≡ products }
-{
-    code::table()
-}
-
 // The coefficient of the data unit at a place in the check unit at a check place.
 pub fn coefficient(place: u8, check: u8) -> u8
     requires { (place < 4) × (check < 3) }
     ensures { (result ≡ coefficient place check) × (result < 16) }
 {
-    code::coefficient(buffer::wide(place), 4 + buffer::wide(check))
+    code::coefficient(usize::from(place), 4 + usize::from(check))
 }
 
 // Adds a body to another.
@@ -54,33 +48,29 @@ pub fn add(into: &mut [u8], x: &[u8])
     requires { length into.old ≡ length x.now }
     ensures { into.new ≡ add_body into.old x.now }
 {
-    let mut i = 0;
-    while i < into.len() {
-        into[i] = into[i] ^ x[i];
-        i += 1;
+    for i in 0..into.len() {
+        into[i] ^= x[i];
     }
 }
 
 // A byte times a symbol; times 1 it is the byte itself, and nothing is looked up.
-fn times(table: &[u8; 256], symbol: u8, b: u8) -> u8
-    requires { (table.now ≡ products) × (symbol < 16) }
+fn times(products: &Products, symbol: u8, b: u8) -> u8
+    requires { symbol < 16 }
     ensures { result ≡ scale symbol b }
 {
     if symbol == 1 {
         return b;
     }
-    code::scale_in(table, symbol, b)
+    products.scale(symbol, b)
 }
 
 // Adds a body, times a symbol, to a parity.
-pub fn add_scaled(parity: &mut [u8], body: &[u8], symbol: u8, table: &[u8; 256])
-    requires { (length parity.old ≡ length body.now) × (symbol < 16) × (table.now ≡ products) }
+pub fn add_scaled(parity: &mut [u8], body: &[u8], symbol: u8, products: &Products)
+    requires { (length parity.old ≡ length body.now) × (symbol < 16) }
     ensures { parity.new ≡ add_body parity.old (scale_body symbol body.now) }
 {
-    let mut i = 0;
-    while i < parity.len() {
-        parity[i] = parity[i] ^ times(table, symbol, body[i]);
-        i += 1;
+    for i in 0..parity.len() {
+        parity[i] ^= times(products, symbol, body[i]);
     }
 }
 
@@ -92,34 +82,26 @@ pub fn follow(
     place: u8,
     key: [u8; KEY],
     change: [u8; FIELD],
-    table: &[u8; 256],
+    products: &Products,
 )
-    requires { (length into.old ≡ check_bytes) × (check < 3) × (place < 4) × (table.now ≡ products) }
+    requires { (length into.old ≡ check_bytes) × (check < 3) × (place < 4) }
     ensures { into.new ≡ patched check place key change into.old }
 {
-    let at = KEY * buffer::wide(place);
-    buffer::copy(&mut into[at..at + KEY], &key);
+    let at = KEY * usize::from(place);
+    into[at..at + KEY].copy_from_slice(&key);
     add_scaled(
         &mut into[KEYS..CHECK],
         &change,
         coefficient(place, check),
-        table,
+        products,
     );
 }
 
 // How many of the first n bytes are 1.
 fn ones(x: &[u8], n: u8) -> u8
-    ensures { (result ≡ count n (λ k. eqb (byte x.now k) 1)) × (result ≤ n) }
+    ensures { result ≡ count_by (λ b. b == 1) (take n x.now) }
 {
-    let mut found: u8 = 0;
-    let mut i: u8 = 0;
-    while i < n {
-        if buffer::byte_at(x, buffer::wide(i)) == 1 {
-            found += 1;
-        }
-        i += 1;
-    }
-    found
+    x.iter().take(usize::from(n)).filter(|b| **b == 1).count() as u8
 }
 
 // Whether a rank can be rebuilt: missing has a 1 for each data unit that is out and has a record there, c are the states of the check units.
@@ -134,25 +116,22 @@ pub fn serving(missing: &[u8], c: &[u8], member: u8) -> bool
     ensures { result ≡ serves (λ p. eqb (byte missing.now p) 1) (byte c.now) member }
 {
     if member < 4 {
-        buffer::byte_at(missing, buffer::wide(member)) != 1
+        buffer::byte_at(missing, usize::from(member)) != 1
     } else {
-        buffer::byte_at(c, buffer::wide(member - 4)) == 1
+        buffer::byte_at(c, usize::from(member - 4)) == 1
     }
 }
 
 // The first member in service from one on, or 7.
 fn next_serving(missing: &[u8], c: &[u8], from: u8) -> u8
-    requires { from < 100 }
     ensures { (result ≡ next (serves (λ p. eqb (byte missing.now p) 1) (byte c.now)) from) × (result ≤ from + 7) }
 {
-    let mut k: u8 = 0;
-    while from + k < 7 {
-        if serving(missing, c, from + k) {
-            return from + k;
+    for member in from..7 {
+        if serving(missing, c, member) {
+            return member;
         }
-        k += 1;
     }
-    from + k
+    from.max(7)
 }
 
 // The first four members in service at a rank, in number order.
@@ -174,15 +153,13 @@ pub fn rebuild_body(
     b: &[u8],
     c: &[u8],
     d: &[u8],
-    table: &[u8; 256],
+    products: &Products,
 )
     requires { (length a.now ≡ length out.old) × (length b.now ≡ length out.old) × (length c.now ≡ length out.old)
-        × (length d.now ≡ length out.old) × (within 15 weights ≡ true) × (table.now ≡ products) }
+        × (length d.now ≡ length out.old) × (within 15 weights ≡ true) }
     ensures { out.new ≡ weighed weights (four_bodies a.now b.now c.now d.now) }
 {
-    let mut i = 0;
-    while i < out.len() {
-        out[i] = code::mix(table, weights, [a[i], b[i], c[i], d[i]]);
-        i += 1;
+    for i in 0..out.len() {
+        out[i] = code::mix(products, weights, [a[i], b[i], c[i], d[i]]);
     }
 }

@@ -1,7 +1,6 @@
 pub mod EntryLaws
 pub mod ReadingLaws
 pub mod WriteLaws
-pub mod ShiftLaws
 pub mod PlaceLaws
 pub mod SearchLaws
 pub mod IndexLaws

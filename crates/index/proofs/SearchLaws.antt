@@ -1,10 +1,20 @@
--- What holds at each turn of a search that halves: for f 0 to f (n - 1), which rise, those before `low` are below k, and those from `high` on are not.
-use Rattle.std.specs.Prelude.{◌≡◌, refl, ℕ, zero, suc, ◌+◌, ◌-◌, ◌≤◌, ◌<◌, eqb, leb, ltb}
-use Rattle.std.proofs.Common.{sym, ap, ◌∙◌, not-suc-le-zero, arith, ltb-true, ltb-false, le-leb, leb-true, leb-false, eq-eqb, ne_eqb}
+-- What a search in entries that rise finds: the first place whose key is not below k, and the key itself.
+use Rattle.std.specs.Prelude.{◌≡◌, refl, ℕ, zero, suc, ◌+◌, ◌*◌, ◌-◌, ◌≤◌, ◌<◌, Bool, true, false, List, [], eqb, leb, ltb, length, get_or, drop, Some, None}
+use Rattle.std.specs.Simd.{first_chunks}
+use Rattle.std.specs.List.Sorted.{IsPartitionedBy, IsPartitionPoint}
+use Rattle.std.proofs.Math.Nat.{mul-zero}
+use Rattle.std.proofs.Math.Seq.{drop-drop}
+use Rattle.std.proofs.Common.{sym, ap, ◌∙◌, not-suc-le-zero, le_of_suc-le-suc, lt-ltb, le-ltb, arith, ltb-true, ltb-false, le-leb, leb-true, leb-false, eq-eqb, ne_eqb}
 use Rattle.std.proofs.lemmas.Bool.{lt-leb}
-use Rattle.buffer.specs.ChoiceLaws.{by-test}
+use Rattle.buffer.specs.Choice.{pick}
+use Rattle.buffer.specs.ChoiceLaws.{by-test, pick_true, pick-false}
+use Rattle.buffer.specs.Bytes.{byte, be32, part}
+use Rattle.buffer.specs.ByteLaws.{be32_ext, be32_part}
 use Rattle.buffer.specs.Range.{first}
 use Rattle.buffer.specs.RangeLaws.{first_at, first_none, first_holds, first_misses}
+use Rattle.index.specs.Entries.{count_bytes, entry_width, entry_at}
+use Rattle.index.specs.Reading.{read_key}
+use Rattle.index.specs.Form.{KeysRise, place_for}
 
 -- f 0 to f (n - 1) do not fall
 pub record Climbing (f : ℕ → ℕ) (n : ℕ) : Type 0 where
@@ -20,42 +30,62 @@ climb f n h (suc d) i j e l =
 pub climbing : {f : ℕ → ℕ} {n : ℕ} → ((i : ℕ) → suc i < n → f i < f (suc i)) → Climbing f n
 climbing {f} {n} h = record { climbs = λ i j p q. climb f n h (j - i) i j (omega arith) q }
 
-pub record Halving (f : ℕ → ℕ) (n k low high : ℕ) : Type 0 where
-  pub ordered : low ≤ high
-  pub within : high ≤ n
-  pub below : (i : ℕ) → i < low → f i < k
-  pub above : (i : ℕ) → high ≤ i → i < n → k ≤ f i
-
-pub halving_start : {f : ℕ → ℕ} {n k : ℕ} → Halving f n k 0 n
-halving_start = record { ordered = omega arith; within = omega arith; below = λ i h. absurd (not-suc-le-zero h); above = λ i h l. absurd (omega arith) }
-
-pub halving_up : {f : ℕ → ℕ} {n k low high : ℕ} (m : ℕ) → Climbing f n → Halving f n k low high → m < high → f m < k → Halving f n k (m + 1) high
-halving_up {f} {n} {k} {low} {high} m c g h l = record {
-  ordered = omega arith;
-  within = g.within;
-  below = λ i p. omega (arith, c.climbs i m (omega arith) (omega (arith, g.within)));
-  above = g.above;
-}
-
-pub halving_down : {f : ℕ → ℕ} {n k low high : ℕ} (m : ℕ) → Climbing f n → Halving f n k low high → low ≤ m → m < high → k ≤ f m → Halving f n k low m
-halving_down {f} {n} {k} {low} {high} m c g p h l = record {
-  ordered = p;
-  within = omega (arith, g.within);
-  below = g.below;
-  above = λ i q r. omega (arith, c.climbs m i q r);
-}
-
-pub halving_end : {f : ℕ → ℕ} {n k low high : ℕ} → Halving f n k low high → high ≤ low → low ≡ first n (λ i. leb k (f i))
-halving_end {f} {n} {k} {low} {high} g h =
-    let same : low ≡ high = omega (arith, g.ordered) in
-    by-test (λ t. low ≡ first n (λ i. leb k (f i))) (ltb low n)
+-- what a search ends with: those before r are below k, and those from r on are not
+pub place_is : {f : ℕ → ℕ} {n k r : ℕ} → r ≤ n → ((i : ℕ) → i < r → f i < k) → ((i : ℕ) → r ≤ i → i < n → k ≤ f i) → r ≡ first n (λ i. leb k (f i))
+place_is {f} {n} {k} {r} h below above =
+    by-test (λ t. r ≡ first n (λ i. leb k (f i))) (ltb r n)
     (λ t.
-    let l : low < n = ltb-true low n t in
-    sym (first_at n (λ i. leb k (f i)) low l (λ i p. lt-leb k (f i) (g.below i p)) (le-leb k (f low) (g.above low (omega arith) l))))
+    let l : r < n = ltb-true r n t in
+    sym (first_at n (λ i. leb k (f i)) r l (λ i p. lt-leb k (f i) (below i p)) (le-leb k (f r) (above r (omega arith) l))))
     (λ t.
-    let l : n ≤ low = ltb-false low n t in
-    let end : low ≡ n = omega (arith, g.within) in
-    end ∙ sym (first_none n (λ i. leb k (f i)) (λ i p. lt-leb k (f i) (g.below i (omega arith)))))
+    let l : n ≤ r = ltb-false r n t in
+    let end : r ≡ n = omega arith in
+    end ∙ sym (first_none n (λ i. leb k (f i)) (λ i p. lt-leb k (f i) (below i (omega arith)))))
+
+-- ---- the entries as chunks of a list
+length_chunks : (w n : ℕ) (y : List ℕ) → length (first_chunks w n y) ≡ n
+length_chunks w zero y = refl
+length_chunks w (suc n) y = ap suc (length_chunks w n (drop w y))
+
+get_or_chunks : (w n : ℕ) (y : List ℕ) (i : ℕ) (d : List ℕ) → i < n → get_or (first_chunks w n y) i d ≡ part (w * i) w y
+unfolding part
+get_or_chunks w zero y i d h = absurd (not-suc-le-zero h)
+get_or_chunks w (suc n) y zero d h = rw mul-zero
+get_or_chunks w (suc n) y (suc i) d h =
+    let next : w * suc i ≡ w + w * i = omega arith in
+    get_or_chunks w n (drop w y) i d (le_of_suc-le-suc h) ∙ rw (next, drop-drop)
+
+-- the chunk's key is below this one
+abbrev pub below : ℕ → List ℕ → Bool
+below key e = ltb (be32 e 0) key
+
+-- y is the entries of the index x
+module _ (x y : List ℕ) (n key : ℕ) (same : (k : ℕ) → k < entry_width * n → byte y k ≡ byte x (count_bytes + k)) where
+  abbrev chunks : List (List ℕ)
+  chunks = first_chunks entry_width n y
+
+  chunk_key : (i : ℕ) (d : List ℕ) → i < n → be32 (get_or chunks i d) 0 ≡ read_key x i
+  chunk_key i d h =
+      ap (λ e. be32 e 0) (get_or_chunks entry_width n y i d h)
+      ∙ be32_part (entry_width * i) entry_width y 0 (omega arith)
+      ∙ be32_ext y (entry_width * i + 0) x (entry_at i) (λ k l. same (entry_width * i + 0 + k) (omega arith) ∙ ap (byte x) (omega arith))
+
+  module _ (rise : KeysRise x n) where
+    pub parted : IsPartitionedBy (below key) chunks
+    parted i j d h l t =
+        let small : j < n = omega (arith, length_chunks entry_width n y) in
+        lt-ltb _ key (omega (arith, chunk_key i d (omega arith), chunk_key j d small, (climbing rise).climbs i j h small, ltb-true _ key t))
+
+    pub searched : {r : ℕ} → r ≤ length chunks → IsPartitionPoint (λ e. below key e ≡ true) (λ e. below key e ≡ false) chunks r
+        → (r ≡ place_for x n key) × (r ≤ n)
+    unfolding place_for
+    searched {r} h p =
+        let few : r ≤ n = omega (arith, length_chunks entry_width n y) in (
+          place_is few
+              (λ i l. omega (arith, chunk_key i [] (omega arith), ltb-true _ key (p.0 i [] (omega arith) l)))
+              (λ i l m. omega (arith, chunk_key i [] m, ltb-false _ key (p.1 i [] l (omega (arith, length_chunks entry_width n y))))),
+          few,
+        )
 
 -- ---- the key itself, by the first place that is not below it
 module _ {f : ℕ → ℕ} {n i : ℕ} (k : ℕ) (c : Climbing f n) (e : i ≡ first n (λ j. leb k (f j))) where
@@ -80,3 +110,10 @@ module _ {f : ℕ → ℕ} {n i : ℕ} (k : ℕ) (c : Climbing f n) (e : i ≡ f
 
   pub found_end : n ≤ i → n ≡ first n (λ j. eqb (f j) k)
   found_end h = sym (first_none n (λ j. eqb (f j) k) (λ j l. ne_eqb (f j) k (λ q. absurd (omega (arith, before_below j (omega arith))))))
+
+-- the place as an option
+pub found_some : {n i at : ℕ} → i < n → i ≡ at → Some i ≡ pick (ltb at n) (Some at) None
+found_some {n} {i} {at} h e = rw (← e) (sym (pick_true (lt-ltb i n h) (Some i) None))
+
+pub found_none : {n at : ℕ} → n ≡ at → None ≡ pick (ltb at n) (Some at) None
+found_none {n} {at} e = rw (← e) (sym (pick-false (le-ltb n n (omega arith)) (Some n) None))

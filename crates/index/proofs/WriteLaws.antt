@@ -3,10 +3,11 @@ use Rattle.std.specs.Prelude.{◌≡◌, get_or, take, drop, set}
 use Rattle.std.proofs.Math.Path.{refl, sym, ap, ap₂}
 use Rattle.std.proofs.Common.{◌∙◌, length-drop, take-append-drop, length-take-le}
 use mathlib.Core.List.{List, [], ◌∷◌, ◌++◌, map, append_assoc}
-use Prim.Native.Nat.{ℕ, suc, ◌+◌, ◌*◌, ◌-◌, ◌≤◌, ◌<◌}
+use Prim.Native.Nat.{ℕ, suc, ◌+◌, ◌*◌, ◌-◌, ◌/◌, ◌%◌, ◌≤◌, ◌<◌}
 use native.Mathlib.Omega.{arith}
 use Rattle.std.proofs.Math.ListN.{length, length-append}
-use Rattle.std.proofs.Math.Seq.{take_at, drop_at, split_at}
+use Rattle.std.proofs.Math.Seq.{take_at, drop_at, drop-drop, split_at}
+use Rattle.std.specs.List.{copy_within}
 use Rattle.std.proofs.lemmas.List.{set_split}
 use Rattle.buffer.specs.Bytes.{bytes32, zeros, part, splice}
 use Rattle.buffer.specs.SpliceLaws.{length_part, length_splice, splice_next, splice_before, set_splice}
@@ -241,6 +242,19 @@ entry_written x at k u r h =
     ap (λ (j : ℕ). set (set y (at + 4) u) j r) last
     ∙ pair_written y (at + 4) u r (omega arith)
     ∙ splice_next at 4 2 (bytes32 k) (u ∷ r ∷ []) x (omega arith) (length_bytes32 k)
+
+-- ---- bytes copied within a list
+pub copied : (x : List ℕ) (i j at : ℕ) → copy_within x i j at ≡ splice at (j - i) (part i (j - i) x) x
+unfolding splice part
+copied x i j at = rw (drop-drop (j - i) at x) (append_assoc (take at x) (take (j - i) (drop i x)) (drop (at + (j - i)) x))
+
+-- the two bytes of a number of 16 bits
+pub low16 : (n : ℕ) → n % 65536 / 256 % 256 ∷ n % 65536 % 256 ∷ [] ≡ bytes16 n
+unfolding bytes16
+low16 n =
+    let high : n % 65536 / 256 % 256 ≡ n / 256 % 256 = omega arith in
+    let low : n % 65536 % 256 ≡ n % 256 = omega arith in
+    rw (high, low)
 
 -- ---- the writes by their steps: the entries behind shifted, the entry written or cleared, the count written
 pub inserted_steps : (n i : ℕ) (e : Entry) (x : List ℕ) {x₁ x₂ x₃ : List ℕ} → i ≤ n → entry_at (n + 1) ≤ length x

@@ -3,6 +3,7 @@
 use Rattle.std.specs.Prelude.{ℕ, ◌+◌, ◌*◌, ◌-◌, ◌/◌, ◌%◌, List, [], ◌∷◌, ◌++◌, ltb, length}
 use Rattle.buffer.specs.Choice.{pick}
 use Rattle.buffer.specs.Bytes.{bytes32, zeros}
+pub use Rattle.index.specs.declared.Entry.{Entry}
 
 -- the widths of the count, and of an entry; where unit and rank stand in an entry; an entry's place
 abbrev pub count_bytes : ℕ
@@ -19,11 +20,6 @@ rank_offset = 5
 
 abbrev pub entry_at : ℕ → ℕ
 entry_at i = count_bytes + entry_width * i
-
-pub record Entry : Type 0 where
-  pub key : ℕ
-  pub unit : ℕ
-  pub rank : ℕ
 
 abbrev pub entry : ℕ → ℕ → ℕ → Entry
 entry k u r = record { key = k; unit = u; rank = r }

@@ -1,5 +1,6 @@
 -- Bytes that are an index: of which entries, where a key has its place in them, and what the writes leave.
-use Rattle.std.specs.Prelude.{ℕ, suc, ◌+◌, ◌*◌, ◌-◌, ◌<◌, ◌≡◌, Bool, List, [], ◌∷◌, ◌++◌, eqb, leb, length, drop}
+use Rattle.std.specs.Prelude.{ℕ, suc, ◌+◌, ◌*◌, ◌-◌, ◌<◌, ◌≡◌, Bool, List, [], ◌∷◌, ◌++◌, eqb, leb, ltb, length, drop, Option, Some, None}
+use Rattle.buffer.specs.Choice.{pick}
 use Rattle.buffer.specs.Bytes.{zeros, part, splice}
 use Rattle.buffer.specs.Range.{first}
 use Rattle.buffer.specs.Loops.{all_zero}
@@ -26,6 +27,10 @@ place_for x n k = first n (λ i. leb k (read_key x i))
 -- the first place of n that has the key k, or n where there is none
 unfoldable pub found_at : List ℕ → ℕ → ℕ → ℕ
 found_at x n k = first n (λ i. eqb (read_key x i) k)
+
+-- that place, where there is one
+unfoldable pub found_in : List ℕ → ℕ → ℕ → Option ℕ
+found_in x n k = pick (ltb (found_at x n k) n) (Some (found_at x n k)) None
 
 -- behind n entries there are zeros
 unfoldable pub zero_behind : List ℕ → ℕ → Bool

@@ -2,13 +2,12 @@
 // slice's end. Nothing here knows of a store.
 #![tactic(auto)]
 
-pub mod shifting;
 pub mod writing;
 
 ghost use Rattle.std.specs.Prelude.{◌≡◌, ◌+◌, ◌*◌, ◌≤◌, ◌<◌, length};
 ghost use Rattle.index.specs.Entries.{entry_at};
-ghost use Rattle.index.specs.Reading.{count_in, read_key, read_unit, read_rank};
-ghost use Rattle.index.specs.Form.{KeysRise, place_for, found_at, zero_behind};
+ghost use Rattle.index.specs.Reading.{count_in, read_key, entry_in};
+ghost use Rattle.index.specs.Form.{KeysRise, place_for, found_in, zero_behind};
 
 // The widths of the count and of an entry, and where unit and rank stand in an entry.
 pub const COUNT: usize = 2;
@@ -19,14 +18,32 @@ pub const UNIT_AT: usize = 4;
 
 pub const RANK_AT: usize = 5;
 
+// A key, and the unit and rank where its record is.
+#[derive(Clone, Copy, PartialEq, Eq)]
+pub struct Entry {
+    pub key: u32,
+    pub unit: u8,
+    pub rank: u8,
+}
+
+// The first `count` entries of a slice, whose keys rise.
+#[derive(Clone, Copy)]
+pub struct Entries<'a> {
+    pub bytes: &'a [u8],
+    pub count: usize,
+    ghost fits: { entry_at count ≤ length bytes.now },
+    ghost rise: { KeysRise bytes.now count },
+}
+
 // How many entries there are, by the count.
+#[tactic(auto, unfolding(crate::specs::Reading::count_in))]
 pub fn count_in(x: &[u8]) -> usize
     ensures { (result ≡ count_in x.now) × (result < 65536) }
 {
-    buffer::wide(buffer::byte_at(x, 0)) * 256 + buffer::wide(buffer::byte_at(x, 1))
+    usize::from(u16::from_be_bytes([buffer::byte_at(x, 0), buffer::byte_at(x, 1)]))
 }
 
-// Key, unit and rank of entry i, which is there.
+// The key of entry i, which is there, and all of it.
 pub fn key_at(x: &[u8], i: usize) -> u32
     requires { entry_at (i + 1) ≤ length x.now }
     ensures { result ≡ read_key x.now i }
@@ -34,58 +51,45 @@ pub fn key_at(x: &[u8], i: usize) -> u32
     buffer::load32(x, COUNT + ENTRY * i)
 }
 
-pub fn unit_at(x: &[u8], i: usize) -> u8
+pub fn entry_in(x: &[u8], i: usize) -> Entry
     requires { entry_at (i + 1) ≤ length x.now }
-    ensures { result ≡ read_unit x.now i }
+    ensures { result ≡ entry_in x.now i }
 {
-    x[COUNT + ENTRY * i + UNIT_AT]
+    let at = COUNT + ENTRY * i;
+    Entry {
+        key: key_at(x, i),
+        unit: x[at + UNIT_AT],
+        rank: x[at + RANK_AT],
+    }
 }
 
-pub fn rank_at(x: &[u8], i: usize) -> u8
-    requires { entry_at (i + 1) ≤ length x.now }
-    ensures { result ≡ read_rank x.now i }
-{
-    x[COUNT + ENTRY * i + RANK_AT]
-}
+impl Entries<'_> {
+    // The first place whose key is not below this one; the count where there is none. Halves what is left.
+    pub fn search(&self, key: u32) -> usize
+        ensures { (result ≡ place_for self.now.bytes.now self.now.count key) × (result ≤ self.now.count) }
+    {
+        let (entries, _) = self.bytes[COUNT..COUNT + ENTRY * self.count].as_chunks::<ENTRY>();
+        entries.partition_point(|entry| buffer::load32(entry, 0) < key)
+    }
 
-// The first place of the n entries, which rise, whose key is not below this one; n where there is none. Halves what is left.
-pub fn search(x: &[u8], n: usize, key: u32) -> usize
-    requires { (entry_at n ≤ length x.now) × KeysRise x.now n }
-    ensures { (result ≡ place_for x.now n key) × (result ≤ n) }
-{
-    let mut low: usize = 0;
-    let mut high = n;
-    while low < high {
-        let middle = low + (high - low) / 2;
-        if key_at(x, middle) < key {
-            low = middle + 1;
+    // The place of a key, where it is there.
+    pub fn find(&self, key: u32) -> Option<usize>
+        ensures { result ≡ found_in self.now.bytes.now self.now.count key }
+    {
+        let i = self.search(key);
+        if i < self.count && key_at(self.bytes, i) == key {
+            Some(i)
         } else {
-            high = middle;
+            None
         }
     }
-    low
-}
-
-// The place of a key in n entries, which rise; n where it is not there.
-pub fn find(x: &[u8], n: usize, key: u32) -> usize
-    requires { (entry_at n ≤ length x.now) × KeysRise x.now n }
-    ensures { result ≡ found_at x.now n key }
-{
-    let i = search(x, n, key);
-    if n <= i {
-        return n;
-    }
-    if key_at(x, i) != key {
-        return n;
-    }
-    i
 }
 
 // Whether all bytes behind the first n entries are zero.
+#[tactic(auto, unfolding(crate::specs::Form::zero_behind))]
 pub fn zero_behind(x: &[u8], n: usize) -> bool
     requires { entry_at n ≤ length x.now }
     ensures { result ≡ zero_behind x.now n }
 {
-    let at = COUNT + ENTRY * n;
-    buffer::is_zero(&x[at..])
+    buffer::is_zero(&x[COUNT + ENTRY * n..])
 }

@@ -3,6 +3,7 @@ pub mod Found
 pub mod DigitLaws
 pub mod Line
 pub mod LineLaws
+pub mod Spoken
 pub mod Output
 pub mod OutputLaws
 pub mod Put

@@ -192,14 +192,14 @@ apart_field l h =
     ∙ ap (λ r. byte l 10 ∷ r) (sym (take_all field_digits (drop 11 l) (simp length-drop (omega arith))))))
 
 -- ---- the arguments of a readable line
-first_argument : (l : List ℕ) → Readable l → (digits_of (byte l 0) ≡ 0 → ⊥) → (byte l 1 ≡ 32) × (hex_at l 2 (digits_of (byte l 0)) ≡ true)
+pub first_argument : (l : List ℕ) → Readable l → (digits_of (byte l 0) ≡ 0 → ⊥) → (byte l 1 ≡ 32) × (hex_at l 2 (digits_of (byte l 0)) ≡ true)
 first_argument l r d =
     let h : (eqb (byte l 1) 32 && hex_at l 2 (digits_of (byte l 0))) ≡ true = rw (ne_eqb (digits_of (byte l 0)) 0 d) at r.first in (
       eqb-true (byte l 1) 32 (and_first (eqb (byte l 1) 32) (hex_at l 2 (digits_of (byte l 0))) h),
       and_second (eqb (byte l 1) 32) (hex_at l 2 (digits_of (byte l 0))) h,
     )
 
-second_argument : (l : List ℕ) → Readable l → has_field (byte l 0) ≡ true → (byte l 10 ≡ 32) × (hex_at l 11 field_digits ≡ true)
+pub second_argument : (l : List ℕ) → Readable l → has_field (byte l 0) ≡ true → (byte l 10 ≡ 32) × (hex_at l 11 field_digits ≡ true)
 second_argument l r b =
     let h : (eqb (byte l 10) 32 && hex_at l 11 field_digits) ≡ true = sym (pick_true b (eqb (byte l 10) 32 && hex_at l 11 field_digits) true) ∙ r.second in
     (eqb-true (byte l 10) 32 (and_first (eqb (byte l 10) 32) (hex_at l 11 field_digits) h), and_second (eqb (byte l 10) 32) (hex_at l 11 field_digits) h)

@@ -1,10 +1,11 @@
 -- The lines of a text, one after the other: the first line of what is left at a place ends where `line_end` says.
 use Rattle.std.specs.Prelude.{ℕ, zero, suc, ◌+◌, ◌-◌, ◌≤◌, ◌<◌, ◌≡◌, ◌≢◌, Bool, ◌&&◌, List, [], ◌∷◌, eqb, leb, length, take, drop}
-use Rattle.std.proofs.Common.{sym, ap, ◌∙◌, arith, not-suc-le-zero, length-drop, drop_of_length-le, get_or-drop, drop-drop, eq-eqb, ne_eqb, eqb-true, le-leb}
+use Rattle.std.proofs.Math.Nat.{sub-zero}
+use Rattle.std.proofs.Common.{refl, sym, ap, ◌∙◌, arith, not-suc-le-zero, length-drop, drop_of_length-le, get_or-drop, drop-drop, eq-eqb, ne_eqb, eqb-true, le-leb}
 use Rattle.buffer.specs.ChoiceLaws.{pick_true, pick-false}
 use Rattle.buffer.specs.TestLaws.{not-both, and-true, and_second}
 use Rattle.buffer.specs.Range.{first}
-use Rattle.buffer.specs.RangeLaws.{first_misses, first_holds}
+use Rattle.buffer.specs.RangeLaws.{first_le, first_misses, first_holds}
 use Rattle.buffer.specs.Bytes.{byte}
 use Rattle.lines.specs.Text.{before, lines_of}
 use Rattle.lines.specs.Found.{line_end, Ends}
@@ -54,6 +55,12 @@ module _ {s : List ℕ} {at end : ℕ} (l : at < length s) (e : Ends s at end) w
       let past : at + suc (end - at) ≡ end + 1 = omega (arith, e.behind (omega arith)) in
       first_line (drop at s) (end - at) (simp length-drop (omega arith)) line_first
       ∙ ap (λ x. take (end - at) (drop at s) ∷ lines_of x) (drop-drop (suc (end - at)) at s ∙ ap (λ n. drop n s) past)
+
+-- from the front on
+pub first_line_is : (s : List ℕ) → 0 < length s → lines_of s ≡ take (line_end s 0) s ∷ lines_of (drop (line_end s 0 + 1) s)
+unfolding line_end
+first_line_is s l =
+    rw (sub-zero (line_end s 0)) at (next_line {s = s} {at = 0} l (record { place = refl; within = first_le (length s) _; behind = λ _. omega arith }))
 
 pub no_line : (s : List ℕ) (at : ℕ) → length s ≤ at → lines_of (drop at s) ≡ []
 unfolding lines_of

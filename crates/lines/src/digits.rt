@@ -1,25 +1,17 @@
 // Capital hexadecimal digits.
-ghost use Rattle.std.specs.Prelude.{◌≡◌, ◌+◌, ◌*◌, ◌≤◌, ◌<◌, length};
+ghost use Rattle.std.specs.Prelude.{◌≡◌, ◌*◌, ◌≤◌, ◌<◌, length, MatchOption};
 ghost use Rattle.lines.specs.Digits.{field_digits, digit, digit_of, hex, hex_bytes};
-ghost use Rattle.lines.specs.Found.{Numbered, FieldFound};
+ghost use Rattle.lines.specs.Found.{number_of, field_of};
 
-// The value of a digit, or 16.
-pub fn digit_value(c: u8) -> u8
-    ensures { (result ≡ digit c) × (result ≤ 16) }
+// The value of a digit.
+pub fn digit_value(c: u8) -> Option<u8>
+    ensures { MatchOption result (digit c ≡ 16) (λ value. (value ≡ digit c) × (value < 16)) }
 {
-    if c < 48 {
-        return 16;
+    match c {
+        b'0'..=b'9' => Some(c - b'0'),
+        b'A'..=b'F' => Some(c - b'A' + 10),
+        _ => None,
     }
-    if c <= 57 {
-        return c - 48;
-    }
-    if c < 65 {
-        return 16;
-    }
-    if c <= 70 {
-        return c - 55;
-    }
-    16
 }
 
 // The digit of a value below 16.
@@ -27,61 +19,31 @@ pub fn digit_byte(v: u8) -> u8
     requires { v < 16 }
     ensures { result ≡ digit_of v }
 {
-    if v < 10 { 48 + v } else { 55 + v }
+    if v < 10 { b'0' + v } else { b'A' + (v - 10) }
 }
 
-#[derive(Clone, Copy)]
-pub struct Digits {
-    pub ok: bool,
-    pub value: u32,
-}
-
-// The number that n digits write; 0, and not ok, where not all of them are digits.
-pub fn number(l: &[u8], at: usize, n: usize) -> Digits
-    requires { (at + n ≤ length l.now) × (n ≤ 8) }
-    ensures { Numbered l.now at n result.ok result.value }
+// The number that digits write, the highest first.
+pub fn number(digits: &[u8]) -> Option<u32>
+    requires { length digits.now ≤ 8 }
+    ensures { result ≡ number_of digits.now }
 {
-    let mut value: u32 = 0;
-    let mut i = 0;
-    while i < n {
-        let d = digit_value(l[at + i]);
-        if 15 < d {
-            return Digits {
-                ok: false,
-                value: 0,
-            };
-        }
-        value = value * 16 + buffer::wide32(d);
-        i += 1;
+    let mut value = 0;
+    for c in digits {
+        value = value * 16 + u32::from(digit_value(*c)?);
     }
-    Digits { ok: true, value }
+    Some(value)
 }
 
-#[derive(Clone, Copy)]
-pub struct Field {
-    pub ok: bool,
-    pub bytes: [u8; group::FIELD],
-}
-
-// The field that digits write, two for each byte; zeros, and not ok, where not all of them are digits.
-pub fn read_field(l: &[u8], at: usize) -> Field
-    requires { at + field_digits ≤ length l.now }
-    ensures { FieldFound l.now at result.ok result.bytes }
+// The field that digits write, two for each byte.
+pub fn read_field(digits: &[u8]) -> Option<[u8; group::FIELD]>
+    requires { length digits.now ≡ field_digits }
+    ensures { result ≡ field_of digits.now }
 {
-    let mut bytes = [0u8; group::FIELD];
-    let mut i = 0;
-    while i < group::FIELD {
-        let d = number(l, at + 2 * i, 2);
-        if !d.ok {
-            return Field {
-                ok: false,
-                bytes: [0u8; group::FIELD],
-            };
-        }
-        bytes[i] = buffer::narrow(d.value);
-        i += 1;
+    let mut field = [0u8; group::FIELD];
+    for i in 0..group::FIELD {
+        field[i] = number(&digits[2 * i..2 * i + 2])? as u8;
     }
-    Field { ok: true, bytes }
+    Some(field)
 }
 
 // The two digits of a byte.
@@ -98,12 +60,7 @@ pub fn put_bytes(into: &mut [u8], from: &[u8])
     requires { length into.old ≡ 2 * length from.now }
     ensures { into.new ≡ hex_bytes (length from.now) from.now }
 {
-    let mut at = 0;
-    let mut i = 0;
-    while i < from.len() {
-        let next = at + 2;
-        put_byte(&mut into[at..next], from[i]);
-        at = next;
-        i += 1;
+    for i in 0..from.len() {
+        put_byte(&mut into[2 * i..2 * i + 2], from[i]);
     }
 }

@@ -1,112 +1,78 @@
 // A line that hallrun reads: a letter and its arguments.
-ghost use Rattle.std.specs.Prelude.{◌≡◌, ◌≤◌};
-ghost use Rattle.buffer.specs.Bytes.{zeros};
+ghost use Rattle.std.specs.Prelude.{◌≡◌, ◌≤◌, drop, MatchOption};
 ghost use Rattle.group.specs.Widths.{field_bytes};
-ghost use Rattle.lines.specs.Line.{line, parsed, unreadable, digits_of, has_field, length_of};
+ghost use Rattle.lines.specs.Digits.{number_at, bytes_at};
+ghost use Rattle.lines.specs.Found.{Spaced, Numbered, Keyed};
+ghost use Rattle.lines.specs.Line.{parsed};
+ghost use Rattle.lines.specs.Spoken.{spoken};
 
 use crate::digits::{number, read_field};
 
-// Where the space before a field and the field's digits stand, behind the letter and a key, and how long the space and the digits are.
-const SPACE_AT: usize = 2 + 2 * group::KEY;
+const KEY_DIGITS: usize = 2 * group::KEY;
 
-const FIELD_AT: usize = SPACE_AT + 1;
+const FIELD_DIGITS: usize = 2 * group::FIELD;
 
-const FIELD_LENGTH: usize = 1 + 2 * group::FIELD;
-
-// What a line says. The letter is 0 where the line is not readable; where a letter has no number or no field, they are zero.
+// What a line asks for, with the layout's b, the unit, the group or the key that it names, and its field.
 #[derive(Clone, Copy)]
-pub struct Line {
-    pub letter: u8,
-    pub number: u32,
-    pub field: [u8; group::FIELD],
+pub enum Command {
+    LayOut(u32),
+    Teach(u32, [u8; group::FIELD]),
+    Correct(u32, [u8; group::FIELD]),
+    Erase(u32),
+    Read(u32),
+    UnitOut(u32),
+    Repair(u32),
+    Grow,
+    Shrink,
+    Raise,
+    List,
 }
 
-// The digits of a letter's first argument, or 9 where no line starts with the letter.
-fn digits_of(c: u8) -> usize
-    ensures { (result ≡ digits_of c) × (result ≤ 9) }
+// The n bytes behind a space, with nothing behind them.
+fn behind_space(text: &[u8], n: usize) -> Option<&[u8]>
+    ensures { MatchOption result (Spaced text.now n → ⊥) (λ x. Spaced text.now n × (x.now ≡ drop 1 text.now)) }
 {
-    match c {
-        b'G' | b'S' | b'K' | b'P' => 0,
-        b'L' | b'O' | b'F' => 2,
-        b'E' | b'R' | b'T' | b'C' => 8,
-        _ => 9,
+    match text {
+        [b' ', rest @ ..] if rest.len() == n => Some(rest),
+        _ => None,
     }
 }
 
-fn has_field(c: u8) -> bool
-    ensures { result ≡ has_field c }
+// The number that n digits behind a space write, with nothing behind them.
+fn number_behind(text: &[u8], n: usize) -> Option<u32>
+    requires { n ≤ 8 }
+    ensures { MatchOption result (Numbered text.now n → ⊥) (λ value. Numbered text.now n × (value ≡ number_at text.now 1 n)) }
 {
-    c == b'T' || c == b'C'
+    number(behind_space(text, n)?)
 }
 
-// The length of a letter's lines.
-fn length_of(c: u8) -> usize
-    ensures { result ≡ length_of c }
+// A key and a field, each behind a space, with nothing behind them.
+fn key_and_field(text: &[u8]) -> Option<(u32, [u8; group::FIELD])>
+    ensures { MatchOption result (Keyed text.now → ⊥)
+        (λ x. Keyed text.now × (x.0 ≡ number_at text.now 1 8) × (x.1 ≡ bytes_at text.now 10 field_bytes)) }
 {
-    let n = digits_of(c);
-    if n == 0 {
-        return 1;
-    }
-    if has_field(c) {
-        2 + n + FIELD_LENGTH
-    } else {
-        2 + n
-    }
-}
-
-// A line without a field.
-fn without_field(letter: u8, number: u32) -> Line
-    ensures { line result.letter result.number result.field ≡ line letter number (zeros field_bytes) }
-{
-    Line {
-        letter,
-        number,
-        field: [0u8; group::FIELD],
-    }
-}
-
-fn unread() -> Line
-    ensures { line result.letter result.number result.field ≡ unreadable }
-{
-    without_field(0, 0)
+    let (key, field) = text.split_at_checked(1 + KEY_DIGITS)?;
+    let key = number_behind(key, KEY_DIGITS)?;
+    Some((key, read_field(behind_space(field, FIELD_DIGITS)?)?))
 }
 
 // Reads a line; its end is not part of it.
-pub fn parse(l: &[u8]) -> Line
-    ensures { line result.letter result.number result.field ≡ parsed l.now }
+pub fn parse(line: &[u8]) -> Option<Command>
+    ensures { spoken result ≡ parsed line.now }
 {
-    let letter = buffer::byte_at(l, 0);
-    let n = digits_of(letter);
-    if 8 < n {
-        return unread();
-    }
-    if l.len() != length_of(letter) {
-        return unread();
-    }
-    if n == 0 {
-        return without_field(letter, 0);
-    }
-    if l[1] != 32 {
-        return unread();
-    }
-    let d = number(l, 2, n);
-    if !d.ok {
-        return unread();
-    }
-    if !has_field(letter) {
-        return without_field(letter, d.value);
-    }
-    if l[SPACE_AT] != 32 {
-        return unread();
-    }
-    let b = read_field(l, FIELD_AT);
-    if !b.ok {
-        return unread();
-    }
-    let field = b.bytes;
-    Line {
-        letter,
-        number: d.value,
-        field,
+    let (letter, arguments) = line.split_first()?;
+    match *letter {
+        b'L' => number_behind(arguments, 2).map(Command::LayOut),
+        b'T' => key_and_field(arguments).map(|(key, field)| Command::Teach(key, field)),
+        b'C' => key_and_field(arguments).map(|(key, field)| Command::Correct(key, field)),
+        b'E' => number_behind(arguments, KEY_DIGITS).map(Command::Erase),
+        b'R' => number_behind(arguments, KEY_DIGITS).map(Command::Read),
+        b'O' => number_behind(arguments, 2).map(Command::UnitOut),
+        b'F' => number_behind(arguments, 2).map(Command::Repair),
+        b'G' => arguments.is_empty().then_some(Command::Grow),
+        b'S' => arguments.is_empty().then_some(Command::Shrink),
+        b'K' => arguments.is_empty().then_some(Command::Raise),
+        b'P' => arguments.is_empty().then_some(Command::List),
+        _ => None,
     }
 }

@@ -21,13 +21,13 @@ pub fn put_number(out: &mut [u8], n: u8) -> usize
     ensures { Put (number_line n) out.old out.new result }
 {
     if n < 10 {
-        out[0] = 48 + n;
-        out[1] = 10;
+        out[0] = b'0' + n;
+        out[1] = b'\n';
         return 2;
     }
-    out[0] = 48 + n / 10;
-    out[1] = 48 + n % 10;
-    out[2] = 10;
+    out[0] = b'0' + n / 10;
+    out[1] = b'0' + n % 10;
+    out[2] = b'\n';
     3
 }
 
@@ -46,9 +46,9 @@ pub fn put_field(out: &mut [u8], field: &[u8; group::FIELD]) -> usize
     requires { field_line_bytes ≤ length out.old }
     ensures { Put (field_line field.now) out.old out.new result }
 {
-    out[0] = 48;
-    out[1] = 32;
-    put_argument(out, 2, field, 10);
+    out[0] = b'0';
+    out[1] = b' ';
+    put_argument(out, 2, field, b'\n');
     FIELD_LINE
 }
 
@@ -57,10 +57,10 @@ fn put_record(line: &mut [u8], unit: u8, rank: u8, slot: &[u8])
     requires { (length line.old ≡ record_line_bytes) × (length slot.now ≡ slot_bytes) }
     ensures { line.new ≡ record_line unit rank slot.now }
 {
-    put_argument(line, 0, &[unit], 32);
-    put_argument(line, 3, &[rank], 32);
-    put_argument(line, KEY_AT, &slot[0..group::KEY], 32);
-    put_argument(line, FIELD_AT, &slot[group::KEY..group::SLOT], 10);
+    put_argument(line, 0, &[unit], b' ');
+    put_argument(line, 3, &[rank], b' ');
+    put_argument(line, KEY_AT, &slot[0..group::KEY], b' ');
+    put_argument(line, FIELD_AT, &slot[group::KEY..group::SLOT], b'\n');
 }
 
 pub fn record_line(unit: u8, rank: u8, slot: &[u8]) -> [u8; RECORD_LINE]

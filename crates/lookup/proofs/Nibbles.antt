@@ -6,7 +6,7 @@ use native.Mathlib.Omega.{arith}
 use lib.Arith.{digits_div, digits_mod}
 use lib.Dec.{lit<}
 use lib.Pow.{pow_pos, split, shr-shr}
-use lib.Bits.{bit_and, and_block, and_mask, and_le_r}
+use lib.Bits.{bit_and, and_block, and_mask}
 use Rattle.model.specs.Units.{digit_sum}
 use Rattle.model.proofs.DigitLaws.{byte_sum, byte_sum_most, by_bytes}
 
@@ -14,10 +14,6 @@ use Rattle.model.proofs.DigitLaws.{byte_sum, byte_sum_most, by_bytes}
 -- the low digits of a number's bytes and the high ones, as a mask picks them, added
 unfoldable nibbles : ℕ → ℕ → ℕ
 nibbles y e = bit_and y e + bit_and (y / 16) e
-
--- no byte of the sum is above 30
-pub nibbles_most : (a b : ℕ) → bit_and a 0x0f0f_0f0f + bit_and b 0x0f0f_0f0f ≤ 0x1e1e_1e1e
-nibbles_most a b = omega (arith, and_le_r a 0x0f0f_0f0f, and_le_r b 0x0f0f_0f0f)
 
 -- a mask whose lowest byte is 0f: the low digit of the lowest byte is kept, and the rest of the mask meets the other bytes
 low_byte_lem : (y e : ℕ) → bit_and y (e * 256 + 15) ≡ bit_and (y / 256) e * 256 + y % 16
@@ -63,9 +59,6 @@ low_most a b c ha hb hc = omega arith
 
 sum_most : (a b c d : ℕ) → a ≤ 30 → b ≤ 30 → c ≤ 30 → d ≤ 30 → a + b + c + d < 256
 sum_most a b c d ha hb hc hd = omega arith
-
-pub sums_fit : (x : ℕ) → x ≤ 0x1e1e_1e1e → x + x / 256 + (x + x / 256) / 65536 < 4294967296
-sums_fit x h = omega arith
 
 fold_sum : (a b c d : ℕ) → a ≤ 30 → b ≤ 30 → c ≤ 30 → d ≤ 30 → fold (((d * 256 + c) * 256 + b) * 256 + a) % 256 ≡ a + b + c + d
 unfolding fold

@@ -37,19 +37,26 @@ module _ (v : Store) (g p r end : ℕ) where
       by-pick (λ n. n ≤ listed_fill v (4 * g + p)) (missing_in v (4 * g + p) r && ltb (listed_fill v (4 * g + p)) end) (listed_fill v (4 * g + p)) end
       (λ e. omega arith) (λ e. omega (arith, ltb-false (listed_fill v (4 * g + p)) end (and_other (missing_in v (4 * g + p) r) _ m e)))
 
--- the end as code computes it: by the mark x of the place, and at an index i the number of the unit's keys
-module _ {s : List ℕ} {g : ℕ} {fills : List ℕ} (counts : Counts s g fills) (p : ℕ) (low : p < 4) (r end : ℕ) {x : ℕ}
-    (seen : x ≡ pick (missing_in (view s) (4 * g + p) r) 1 0) where
-  pub end_kept : x ≡ 0 → ends_before (view s) g p r end ≡ end
-  unfolding ends_before
-  end_kept z = pick-false (and_false_first (marked_no (missing_in (view s) (4 * g + p) r) seen z) _) _ end
+-- the end as code computes it: where the record of the place is kept, and where it is missing with, at an index i, the number of the unit's keys
+pub end_where_kept : (s : List ℕ) (g p r end : ℕ) → missing_in (view s) (4 * g + p) r ≡ false → ends_before (view s) g p r end ≡ end
+unfolding ends_before
+end_where_kept s g p r end e = pick-false (and_false_first e _) _ end
 
-  pub end_earlier : x ≢ 0 → {i : ℕ} → i ≡ 4 * g + p → ends_before (view s) g p r end ≡ pick (ltb (get_or fills i 0) end) (get_or fills i 0) end
+module _ {s : List ℕ} {g : ℕ} {fills : List ℕ} (counts : Counts s g fills) (p : ℕ) (low : p < 4) (r end : ℕ) where
+  pub end_where_missing : missing_in (view s) (4 * g + p) r ≡ true → {i : ℕ} → i ≡ 4 * g + p
+      → ends_before (view s) g p r end ≡ pick (ltb (get_or fills i 0) end) (get_or fills i 0) end
   unfolding ends_before
-  end_earlier some at =
-      let there : missing_in (view s) (4 * g + p) r ≡ true = marked_yes (missing_in (view s) (4 * g + p) r) seen some in
+  end_where_missing there at =
       let out : (view s).dstate (4 * g + p) ≡ 2 = eqb-true ((view s).dstate (4 * g + p)) 2 (missing_out (view s) (4 * g + p) r there) in
       rw (there, ap (λ (j : ℕ). get_or fills j 0) at ∙ counts.counted p low out)
+
+  -- the same, by the mark x of the place
+  module _ {x : ℕ} (seen : x ≡ pick (missing_in (view s) (4 * g + p) r) 1 0) where
+    pub end_kept : x ≡ 0 → ends_before (view s) g p r end ≡ end
+    end_kept z = end_where_kept s g p r end (marked_no (missing_in (view s) (4 * g + p) r) seen z)
+
+    pub end_earlier : x ≢ 0 → {i : ℕ} → i ≡ 4 * g + p → ends_before (view s) g p r end ≡ pick (ltb (get_or fills i 0) end) (get_or fills i 0) end
+    end_earlier some at = end_where_missing (marked_yes (missing_in (view s) (4 * g + p) r) seen some) at
 
 -- the same records are missing up to there
 module _ (v : Store) (g r q : ℕ) (l : r ≤ q) (k : q < changes_at v g r) where

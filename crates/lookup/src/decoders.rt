@@ -1,8 +1,6 @@
 // The decoder of a rank: by which members and weights a missing record is rebuilt. Along the ranks it changes only where the list of an out unit of the
 // group ends, so it is taken once for each stretch of ranks.
-ghost use Rattle.std.specs.Prelude.{◌≡◌, ◌+◌, ◌*◌, ◌/◌, ◌<◌};
-ghost use Rattle.buffer.specs.Loops.{entries};
-ghost use Rattle.group.specs.Products.{products};
+ghost use Rattle.std.specs.Prelude.{◌≡◌, ◌+◌, ◌*◌, ◌/◌, ◌<◌, IfSome};
 ghost use Rattle.model.specs.Layout.{view};
 ghost use Rattle.lookup.specs.Sized.{Sized};
 ghost use Rattle.lookup.specs.Groups.{Counts, Rebuildable};
@@ -18,28 +16,15 @@ pub struct Decoder {
     pub until: u8,
 }
 
-// Of no rank: one is taken at the first that is asked for.
-pub fn none() -> Decoder
-    ensures { (result.members ≡ entries 4 (λ _. 0)) × (result.weights ≡ entries 4 (λ _. 0)) × (result.until ≡ 0) }
-{
-    let members = [0u8; 4];
-    let weights = [0u8; 4];
-    Decoder {
-        members,
-        weights,
-        until: 0,
-    }
-}
-
 // Where the list of the data unit at place p of group g ends, if its record of rank r is missing and that is before the end given; else that end.
 fn ends_before(s: &[u8], g: u8, p: u8, r: u8, fills: [u8; 16], end: u8) -> u8
     requires { (g < 4) × (p < 4) × Counts s.now g fills }
     ensures { result ≡ ends_before (view s.now) g p r end }
 {
-    if losses::missing(s, g, p, r, fills) == 0 {
+    if !losses::missing(s, g, p, r, fills) {
         return end;
     }
-    let n = fills[buffer::wide(4 * g + p)];
+    let n = fills[usize::from(4 * g + p)];
     if n < end {
         return n;
     }
@@ -51,19 +36,20 @@ fn changes_at(s: &[u8], g: u8, r: u8, fills: [u8; 16]) -> u8
     requires { Sized s.now × (g < 4) × Counts s.now g fills }
     ensures { result ≡ changes_at (view s.now) g r }
 {
-    let first = ends_before(s, g, 0, r, fills, s[crate::SIZE_AT]);
-    let second = ends_before(s, g, 1, r, fills, first);
-    let third = ends_before(s, g, 2, r, fills, second);
-    ends_before(s, g, 3, r, fills, third)
+    let mut end = s[crate::SIZE_AT];
+    for p in 0u8..4 {
+        end = ends_before(s, g, p, r, fills, end);
+    }
+    end
 }
 
 // The decoder of data unit u at rank r, where its record is missing.
-pub fn decoder_at(s: &[u8], u: u8, r: u8, fills: [u8; 16], table: &[u8; 256]) -> Decoder
-    requires { Rebuildable s.now u r × Counts s.now (u / 4) fills × (table.now ≡ products) }
+pub fn decoder_at(s: &[u8], u: u8, r: u8, fills: [u8; 16], products: &group::Products) -> Decoder
+    requires { Rebuildable s.now u r × Counts s.now (u / 4) fills }
     ensures { DecoderOf s.now u r result.members result.weights result.until }
 {
     let members = losses::members(s, u / 4, r, fills);
-    let weights = code::weights(table, members, u % 4);
+    let weights = code::weights(products, members, u % 4);
     let until = changes_at(s, u / 4, r, fills);
     Decoder {
         members,
@@ -72,21 +58,21 @@ pub fn decoder_at(s: &[u8], u: u8, r: u8, fills: [u8; 16], table: &[u8; 256]) ->
     }
 }
 
-// The same, where the decoder of an earlier rank is at hand: it is taken anew only where it has changed.
+// The same, where the last rank's decoder may be at hand: one is taken anew only where it has changed.
 pub fn next_decoder(
-    last: Decoder,
+    last: Option<Decoder>,
     s: &[u8],
     u: u8,
     r: u8,
     fills: [u8; 16],
-    table: &[u8; 256],
+    products: &group::Products,
 ) -> Decoder
-    requires { Rebuildable s.now u r × Counts s.now (u / 4) fills × (table.now ≡ products)
-        × (r < last.until → DecoderOf s.now u r last.members last.weights last.until) }
+    requires { Rebuildable s.now u r × Counts s.now (u / 4) fills
+        × IfSome last (λ d. r < d.until → DecoderOf s.now u r d.members d.weights d.until) }
     ensures { DecoderOf s.now u r result.members result.weights result.until }
 {
-    if r < last.until {
-        return last;
+    match last {
+        Some(decoder) if r < decoder.until => decoder,
+        _ => decoder_at(s, u, r, fills, products),
     }
-    decoder_at(s, u, r, fills, table)
 }

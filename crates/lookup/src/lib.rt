@@ -8,7 +8,6 @@ pub mod losses;
 ghost use Rattle.std.specs.Prelude.{◌≡◌, true, ◌+◌, ◌*◌, ◌≤◌, ◌<◌, ℕ, ◌/◌, eqb, length, get_or};
 ghost use Rattle.buffer.specs.Bytes.{byte};
 ghost use Rattle.buffer.specs.Range.{first};
-ghost use Rattle.group.specs.Products.{products};
 ghost use Rattle.code.specs.Matrix.{within};
 ghost use Rattle.group.specs.Widths.{field_bytes, slot_bytes};
 ghost use Rattle.group.specs.Rebuilding.{weighed};
@@ -21,6 +20,8 @@ ghost use Rattle.lookup.specs.Keys.{keys_at, keys_from, keys_step, Known};
 ghost use Rattle.lookup.specs.Groups.{Rebuildable};
 ghost use Rattle.lookup.specs.Slots.{held_at};
 ghost use Rattle.lookup.specs.Decoders.{DecoderOf};
+
+use crate::decoders::Decoder;
 
 // The header of a store: what byte 0 holds, where the length, b, M, K and the states of data units and check units stand, and where the slots begin.
 pub const VERSION: u8 = 4;
@@ -39,6 +40,11 @@ pub const CHECK_STATES: usize = 24;
 
 pub const HEADER: usize = 36;
 
+// The states of units. One that is not in place has 0; a byte of a store may be any number, so states are read as numbers.
+pub const IN_SERVICE: u8 = 1;
+
+pub const OUT: u8 = 2;
+
 // The bytes for each rank of the 16 data units, and of these with the 12 check units.
 pub const DATA_PER_RANK: usize = 16 * group::SLOT;
 
@@ -48,40 +54,34 @@ pub const PER_RANK: usize = DATA_PER_RANK + 12 * group::CHECK;
 fn product(a: u8, b: u8) -> usize
     ensures { (result ≡ a * b) × (result ≤ 65025) }
 {
-    buffer::wide(a) * buffer::wide(b)
+    usize::from(a) * usize::from(b)
 }
 
 // Where the slot of rank r in data unit u stands, with b ranks to a unit.
 pub fn slot_at(b: u8, u: u8, r: u8) -> usize
     ensures { (result ≡ slot_at b u r) × (result < 2000000) }
 {
-    HEADER + (product(u, b) + buffer::wide(r)) * group::SLOT
+    HEADER + (product(u, b) + usize::from(r)) * group::SLOT
 }
 
 // Where the check record of rank r in check unit c stands.
 pub fn check_at(b: u8, c: u8, r: u8) -> usize
     ensures { (result ≡ check_at b c r) × (result < 3000000) }
 {
-    HEADER + DATA_PER_RANK * buffer::wide(b) + (product(c, b) + buffer::wide(r)) * group::CHECK
+    HEADER + DATA_PER_RANK * usize::from(b) + (product(c, b) + usize::from(r)) * group::CHECK
 }
 
 // The largest power of two that is at most m, for m from 1 to 16.
 pub fn power_below(m: u8) -> u8
     ensures { (result ≡ power_below m) × (1 ≤ result) × (result ≤ 16) }
 {
-    if m < 2 {
-        return 1;
+    match m {
+        0..=1 => 1,
+        2..=3 => 2,
+        4..=7 => 4,
+        8..=15 => 8,
+        _ => 16,
     }
-    if m < 4 {
-        return 2;
-    }
-    if m < 8 {
-        return 4;
-    }
-    if m < 16 {
-        return 8;
-    }
-    16
 }
 
 // The unit that is split next, of m units.
@@ -100,8 +100,8 @@ pub fn unit_of(m: u8, key: u32) -> u8
     requires { 1 ≤ m }
     ensures { (result ≡ unit_of m key) × (result < m) }
 {
-    let p = buffer::wide32(power_below(m));
-    let n = buffer::wide32(split_pointer(m));
+    let p = u32::from(power_below(m));
+    let n = u32::from(split_pointer(m));
     let sum = digits::digit_sum(key);
     let first = sum % p;
     let second = sum % (2 * p);
@@ -113,20 +113,25 @@ pub fn unit_of(m: u8, key: u32) -> u8
 pub fn state(s: &[u8], w: u8) -> u8
     ensures { result ≡ state_in (view s.now) w }
 {
-    buffer::byte_at(s, DATA_STATES + buffer::wide(w))
+    buffer::byte_at(s, DATA_STATES + usize::from(w))
 }
 
-// The first of n keys, one every step bytes from base on, that is the given one; n where there is none. All are looked at, from the last one down:
-// nothing depends on where the key is, and the compiler needs no branch for it.
-fn find(s: &[u8], base: usize, step: usize, n: u8, key: u32) -> u8
-    requires { Within s.now base step n }
-    ensures { (result ≡ first n (λ i. eqb (strided32 s.now base step i) key)) × (result ≤ n) }
+// Where the keys of a unit stand: the first, and how far each is from the one before.
+#[derive(Clone, Copy)]
+pub struct Keys {
+    pub base: usize,
+    pub step: usize,
+}
+
+// The rank of a key among the first n of a unit's keys; n where it is not there. All are looked at, from the last one down: nothing depends on where
+// the key is, and the compiler needs no branch for it.
+fn find(s: &[u8], keys: Keys, n: u8, key: u32) -> u8
+    requires { Within s.now keys.base keys.step n }
+    ensures { (result ≡ first n (λ i. eqb (strided32 s.now keys.base keys.step i) key)) × (result ≤ n) }
 {
     let mut found = n;
-    let mut i = n;
-    while 0 < i {
-        i -= 1;
-        if buffer::load32(s, base + step * buffer::wide(i)) == key {
+    for i in (0..n).rev() {
+        if buffer::load32(s, keys.base + keys.step * usize::from(i)) == key {
             found = i;
         }
     }
@@ -141,25 +146,27 @@ pub fn key_at(s: &[u8], u: u8, r: u8) -> u32
     buffer::load32(s, slot_at(s[SIZE_AT], u, r))
 }
 
-// The rank of a key among the first n slots of data unit u; n where it is not there.
+// The rank of a key among the first n slots of data unit u; n where it is not there: the number that the model's definition gives.
 pub fn rank(s: &[u8], u: u8, n: u8, key: u32) -> u8
     requires { Sized s.now × (u < 16) × (n ≤ byte s.now 5) }
     ensures { (result ≡ first n (λ q. eqb (key_of ((view s.now).slot u q)) key)) × (result ≤ n) }
 {
-    find(s, slot_at(s[SIZE_AT], u, 0), group::SLOT, n, key)
+    let keys = Keys {
+        base: slot_at(s[SIZE_AT], u, 0),
+        step: group::SLOT,
+    };
+    find(s, keys, n, key)
 }
 
-// The first check unit in service of group g, or 3g + 3.
+// The first check unit in service of group g, or 3g + 3, as in the model.
 pub fn first_check(s: &[u8], g: u8) -> u8
     requires { (g < 4) × (header_bytes ≤ length s.now) }
     ensures { (result ≡ first_check (view s.now) g) × (result ≤ 3 * g + 3) }
 {
-    let mut j: u8 = 0;
-    while j < 3 {
-        if s[CHECK_STATES + buffer::wide(3 * g + j)] == 1 {
+    for j in 0u8..3 {
+        if s[CHECK_STATES + usize::from(3 * g + j)] == IN_SERVICE {
             return 3 * g + j;
         }
-        j += 1;
     }
     3 * g + 3
 }
@@ -169,14 +176,7 @@ pub fn keys_at(s: &[u8], u: u8, c: u8) -> usize
     requires { Sized s.now × (c ≡ first_check (view s.now) (u / 4)) }
     ensures { result ≡ keys_at s.now u }
 {
-    check_at(s[SIZE_AT], c, 0) + group::KEY * buffer::wide(u % 4)
-}
-
-// Where the keys of a unit stand: the first, and how far each is from the one before.
-#[derive(Clone, Copy)]
-pub struct Keys {
-    pub base: usize,
-    pub step: usize,
+    check_at(s[SIZE_AT], c, 0) + group::KEY * usize::from(u % 4)
 }
 
 // The keys of data unit u: its own, or for a unit that is out those that c lists, the first check unit in service of its group.
@@ -184,7 +184,7 @@ pub fn keys_of(s: &[u8], u: u8, c: u8) -> Keys
     requires { Known s.now u × (c ≡ first_check (view s.now) (u / 4)) }
     ensures { (result.base ≡ keys_from s.now u) × (result.step ≡ keys_step s.now u) }
 {
-    if state(s, u) == 2 {
+    if state(s, u) == OUT {
         return Keys {
             base: keys_at(s, u, c),
             step: group::CHECK,
@@ -201,8 +201,7 @@ pub fn listed_rank(s: &[u8], u: u8, c: u8, n: u8, key: u32) -> u8
     requires { Known s.now u × (c ≡ first_check (view s.now) (u / 4)) × (n ≡ listed_fill (view s.now) u) × (n ≤ byte s.now 5) }
     ensures { (result ≡ listed_rank (view s.now) u key) × (result ≤ n) }
 {
-    let keys = keys_of(s, u, c);
-    find(s, keys.base, keys.step, n, key)
+    find(s, keys_of(s, u, c), n, key)
 }
 
 // Where member m of group g holds the field or the parity of rank r.
@@ -226,25 +225,25 @@ pub fn held(s: &[u8], g: u8, r: u8, m: u8) -> &[u8]
     &s[at..at + group::FIELD]
 }
 
-// Rebuilds a field of rank r from what four members of group g hold, each times its weight.
+// Rebuilds a field of rank r from what a decoder's four members of group g hold, each times its weight.
 pub fn rebuild_field(
     out: &mut [u8],
     s: &[u8],
     g: u8,
     r: u8,
-    members: [u8; 4],
-    weights: [u8; 4],
-    table: &[u8; 256],
+    decoder: Decoder,
+    products: &group::Products,
 )
-    requires { (length out.old ≡ field_bytes) × Sized s.now × (g < 4) × (r < byte s.now 5) × ((i : ℕ) → i < 4 → get_or members i 0 < 7)
-        × (within 15 weights ≡ true) × (table.now ≡ products) }
-    ensures { out.new ≡ weighed weights (λ i. holds (view s.now) g r (get_or members i 0)) }
+    requires { (length out.old ≡ field_bytes) × Sized s.now × (g < 4) × (r < byte s.now 5) × ((i : ℕ) → i < 4 → get_or decoder.members i 0 < 7)
+        × (within 15 decoder.weights ≡ true) }
+    ensures { out.new ≡ weighed decoder.weights (λ i. holds (view s.now) g r (get_or decoder.members i 0)) }
 {
+    let members = decoder.members;
     let a = held(s, g, r, members[0]);
     let b = held(s, g, r, members[1]);
     let c = held(s, g, r, members[2]);
     let d = held(s, g, r, members[3]);
-    group::rebuild_body(out, weights, a, b, c, d, table)
+    group::rebuild_body(out, decoder.weights, a, b, c, d, products)
 }
 
 // Rebuilds the slot of rank r of data unit u, whose record is missing, by the decoder of that rank. The keys of the unit are listed from keys on.
@@ -254,24 +253,21 @@ pub fn rebuild_slot(
     u: u8,
     r: u8,
     keys: usize,
-    decoder: decoders::Decoder,
-    table: &[u8; 256],
+    decoder: Decoder,
+    products: &group::Products,
 )
     requires { (length out.old ≡ slot_bytes) × Rebuildable s.now u r × DecoderOf s.now u r decoder.members decoder.weights decoder.until
-        × (keys ≡ keys_at s.now u) × (table.now ≡ products) }
+        × (keys ≡ keys_at s.now u) }
     ensures { out.new ≡ whole_slot (view s.now) u r }
 {
-    let members = decoder.members;
-    let weights = decoder.weights;
-    let at = keys + group::CHECK * buffer::wide(r);
-    buffer::copy(&mut out[0..group::KEY], &s[at..at + group::KEY]);
+    let at = keys + group::CHECK * usize::from(r);
+    out[0..group::KEY].copy_from_slice(&s[at..at + group::KEY]);
     rebuild_field(
         &mut out[group::KEY..group::SLOT],
         s,
         u / 4,
         r,
-        members,
-        weights,
-        table,
+        decoder,
+        products,
     );
 }

@@ -1,5 +1,6 @@
 // Records that are missing: their data unit is out, and a check unit in service lists a key at their rank. Rank by rank this decides what can be rebuilt,
 // by which members, and what is beyond recovery. fills are the numbers of keys listed for each data unit, c is the first check unit in service of a group.
+// They travel beside the store, not with it in a struct: repair changes the store between two calls.
 ghost use Rattle.std.specs.Prelude.{◌≡◌, not, ◌&&◌, ℕ, ◌+◌, ◌*◌, ◌/◌, ◌<◌, eqb, get_or};
 ghost use Rattle.buffer.specs.Choice.{pick};
 ghost use Rattle.buffer.specs.Bytes.{part};
@@ -10,31 +11,27 @@ ghost use Rattle.model.specs.Reads.{outs_in, first_check, missing_in, serves_in,
 ghost use Rattle.lookup.specs.Sized.{Sized};
 ghost use Rattle.lookup.specs.Groups.{Counts, CountsKnown};
 
-// Whether the record of rank r at place p of group g is missing: 1, else 0.
-pub fn missing(s: &[u8], g: u8, p: u8, r: u8, fills: [u8; 16]) -> u8
+use crate::OUT;
+
+// Whether the record of rank r at place p of group g is missing.
+pub fn missing(s: &[u8], g: u8, p: u8, r: u8, fills: [u8; 16]) -> bool
     requires { (g < 4) × (p < 4) × Counts s.now g fills }
-    ensures { result ≡ pick (missing_in (view s.now) (4 * g + p) r) 1 0 }
+    ensures { result ≡ missing_in (view s.now) (4 * g + p) r }
 {
     let u = 4 * g + p;
-    if crate::state(s, u) != 2 {
-        return 0;
-    }
-    if r < fills[buffer::wide(u)] {
-        return 1;
-    }
-    0
+    crate::state(s, u) == OUT && r < fills[usize::from(u)]
 }
 
-// The same of all four places.
+// The same of all four places, 1 for each that is missing and else 0, as `group` takes them.
 fn missing_at(s: &[u8], g: u8, r: u8, fills: [u8; 16]) -> [u8; 4]
     requires { (g < 4) × Counts s.now g fills }
     ensures { result ≡ entries 4 (λ p. pick (missing_in (view s.now) (4 * g + p) r) 1 0) }
 {
     [
-        missing(s, g, 0, r, fills),
-        missing(s, g, 1, r, fills),
-        missing(s, g, 2, r, fills),
-        missing(s, g, 3, r, fills),
+        u8::from(missing(s, g, 0, r, fills)),
+        u8::from(missing(s, g, 1, r, fills)),
+        u8::from(missing(s, g, 2, r, fills)),
+        u8::from(missing(s, g, 3, r, fills)),
     ]
 }
 
@@ -45,7 +42,7 @@ fn check_states(s: &[u8], g: u8) -> &[u8]
     ensures bytes { result.now ≡ part (24 + 3 * g) 3 s.now }
     ensures start { result.ref_ptr ≡ (s.entry.ref_ptr.0, s.entry.ref_ptr.1 + (24 + 3 * g)) }
 {
-    let at = crate::CHECK_STATES + 3 * buffer::wide(g);
+    let at = crate::CHECK_STATES + 3 * usize::from(g);
     &s[at..at + 3]
 }
 
@@ -72,10 +69,7 @@ pub fn keys_lost(s: &[u8], u: u8, c: u8) -> bool
     requires { (u < 16) × (c ≡ first_check (view s.now) (u / 4)) }
     ensures { result ≡ keys_lost_in (view s.now) u }
 {
-    if crate::state(s, u) == 2 {
-        return c == 3 * (u / 4) + 3;
-    }
-    false
+    crate::state(s, u) == OUT && c == 3 * (u / 4) + 3
 }
 
 // Whether data unit u is out and rank r of its group can't be rebuilt.
@@ -83,10 +77,7 @@ pub fn gone(s: &[u8], u: u8, r: u8, fills: [u8; 16]) -> bool
     requires { Sized s.now × (u < 16) × ((view s.now).dstate u ≡ 2 → Counts s.now (u / 4) fills) }
     ensures { result ≡ (eqb ((view s.now).dstate u) 2 && not (rebuildable_in (view s.now) (u / 4) r)) }
 {
-    if crate::state(s, u) != 2 {
-        return false;
-    }
-    !rebuildable(s, u / 4, r, fills)
+    crate::state(s, u) == OUT && !rebuildable(s, u / 4, r, fills)
 }
 
 // Whether group g, of which outs units are out, is beyond recovery. Lists have no gaps, so no rank misses more records than the first one does: it decides
@@ -98,12 +89,10 @@ pub fn beyond(s: &[u8], g: u8, outs: u8, fills: [u8; 16], c: u8) -> bool
     if outs == 0 {
         return false;
     }
-    let mut p: u8 = 0;
-    while p < 4 {
+    for p in 0u8..4 {
         if keys_lost(s, 4 * g + p, c) {
             return true;
         }
-        p += 1;
     }
     !rebuildable(s, g, 0, fills)
 }
@@ -114,13 +103,11 @@ pub fn lost(s: &[u8], outs: [u8; 4], fills: [u8; 16], first_checks: [u8; 4]) -> 
         × (get_or first_checks g 0 ≡ first_check (view s.now) g)) }
     ensures { result ≡ lost_in (view s.now) }
 {
-    let mut g: u8 = 0;
-    while g < 4 {
-        let i = buffer::wide(g);
+    for g in 0u8..4 {
+        let i = usize::from(g);
         if beyond(s, g, outs[i], fills, first_checks[i]) {
             return true;
         }
-        g += 1;
     }
     false
 }

@@ -1,2 +1,1 @@
 pub mod MovesLaws
-pub mod Types

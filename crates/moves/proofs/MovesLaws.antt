@@ -1,10 +1,14 @@
--- Laws of lists of moves: the test of sameness is sameness.
+-- Laws of lists of moves: the test of sameness is sameness, and what `==` says of moves and of lists of them.
 use Rattle.std.specs.Prelude.{◌≡◌, refl, ℕ, Bool, true, ◌&&◌, List, eqb, length, get_or}
-use Rattle.std.proofs.Common.{ext_get_or, eq-eqb, eqb-true}
-use Rattle.buffer.specs.TestLaws.{and-true, and_first, and_second}
+use Rattle.std.proofs.Common.{sym, ◌∙◌, ext_get_or, eq-eqb, eqb-true}
+use Rattle.std.proofs.Math.Bool.{and_assoc}
+use Rattle.std.proofs.lemmas.Slice.Eq.{slice_eq-Decides}
+use Rattle.std.specs.Cmp.Lexicographic.{pointwise}
+use Rattle.buffer.specs.TestLaws.{and-true, and_first, and_second, same_test}
 use Rattle.buffer.specs.Range.{all}
 use Rattle.buffer.specs.RangeLaws.{all_true, all_holds}
 use Rattle.moves.specs.declared.Move.{Move}
+use Rattle.moves.specs.contracts.MovePartialEq.TheImpl.{eq-value}
 use Rattle.moves.specs.Moves.{no_move, same_move, same_moves}
 
 same_move_lem : (a b : Move) → same_move a b ≡ true → a ≡ b
@@ -40,3 +44,13 @@ same_moves_lem xs ys e =
 pub moves_same : (xs : List Move) → same_moves xs xs ≡ true
 unfolding same_moves
 moves_same xs = and-true (eq-eqb (length xs) (length xs) refl) (all_holds (length xs) _ (λ k l. move_same _))
+
+-- the derived `==` is the test of sameness
+derived : (a b : Move) → eq-value.it a b ≡ same_move a b
+unfolding same_move
+derived a b = simp and_assoc
+
+pub slices_same : (xs ys : List Move) → pointwise eq-value.it xs ys ≡ same_moves xs ys
+slices_same xs ys =
+    let d = slice_eq-Decides (λ a b. (λ e. same_move_lem a b (sym (derived a b) ∙ e), λ e. derived a b ∙ rw e (move_same b))) xs ys _ refl in
+    same_test (pointwise eq-value.it xs ys) (same_moves xs ys) (λ e. rw (d.0 e) (moves_same ys)) (λ e. d.1 (same_moves_lem xs ys e))

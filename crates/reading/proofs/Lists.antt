@@ -1,34 +1,25 @@
 -- The bytes that list writes: the records of a unit one behind the other, and unit behind unit.
-use Prim.Native.Nat.{ℕ, ◌+◌, ◌*◌, ◌/◌, ◌≤◌, ◌<◌}
-use mathlib.Core.Path.{◌≡◌, ap, ◌∙◌}
-use mathlib.Core.List.{List, ◌++◌, append-nil}
-use native.Mathlib.Omega.{arith}
-use lib.ListN.{length, drop, get_or, drop_of_length-le}
+use Rattle.std.specs.Prelude.{ℕ, ◌+◌, ◌*◌, ◌/◌, ◌≤◌, ◌<◌, ◌≡◌, refl, true, List, ◌++◌, length, drop}
+use Rattle.std.proofs.Common.{arith}
 use Rattle.buffer.specs.Table.{tab}
 use Rattle.buffer.specs.TableLaws.{length_tab, tab_room}
 use Rattle.group.specs.Widths.{slot_bytes}
 use Rattle.model.specs.Layout.{view}
-use Rattle.model.specs.Reads.{first_check, listed_fill, whole_slot, total_in, listing_in}
+use Rattle.model.specs.Reads.{listed_fill, whole_slot, total_in, listing_in}
 use Rattle.model.proofs.ReadLaws.{listing_long}
 use Rattle.lookup.specs.Groups.{Counts, Whole}
+use Rattle.lookup.specs.GroupLaws.{all_counted, whole_kept}
+use Rattle.soundness.specs.Survey.{Surveyed}
+use Rattle.soundness.specs.SurveyLaws.{group_counts}
 use Rattle.lookup.specs.SlotLaws.{length_record}
-use Rattle.reading.specs.Listing.{Learned}
 
 -- the records of a unit
 abbrev pub records : List ℕ → ℕ → List ℕ
 records s u = tab (listed_fill (view s) u) (whole_slot (view s) u)
 
--- the count of a unit, and the first check unit in service of its group, which the code reads at the index i
-pub fill_at : {s fills first_checks : List ℕ} {u i : ℕ} → Learned s fills first_checks → u < 16 → i ≡ u → get_or fills i 0 ≡ listed_fill (view s) u
-fill_at {s} {fills} {u = u} h l e = ap (λ j. get_or fills j 0) e ∙ h.listed u l
-
-pub first_check_at : {s fills first_checks : List ℕ} {u i : ℕ} → Learned s fills first_checks → u < 16 → i ≡ u / 4
-    → get_or first_checks i 0 ≡ first_check (view s) (u / 4)
-first_check_at {first_checks = first_checks} {u = u} h l e = ap (λ j. get_or first_checks j 0) e ∙ h.kept (u / 4) (omega arith)
-
--- and the counts of its group
-pub group_counted : {s fills first_checks : List ℕ} → Learned s fills first_checks → (g : ℕ) → g < 4 → Counts s g fills
-group_counted h g l = record { counted = λ p k _. h.listed (4 * g + p) (omega arith) }
+-- every unit of the group is counted
+pub group_counted : {s fills first_checks outs : List ℕ} → Surveyed s true fills first_checks outs → Whole s → (u : ℕ) → u < 16 → Counts s (u / 4) fills
+group_counted g whole u l = all_counted (group_counts g refl (u / 4) (omega arith)) (λ p k. whole_kept whole (4 * (u / 4) + p) (omega arith))
 
 module _ {s : List ℕ} (whole : Whole s) where
   pub records_long : (u : ℕ) → u < 16 → length (records s u) ≡ slot_bytes * listed_fill (view s) u
@@ -44,7 +35,3 @@ pub listing_is : (s o o₀ : List ℕ) → o ≡ tab 16 (records s) ++ drop (len
     → o ≡ listing_in (view s) ++ drop (length (listing_in (view s))) o₀
 unfolding listing_in
 listing_is s o o₀ e = e
-
--- a buffer filled to its end
-pub filled_whole : (o o₀ x : List ℕ) → o ≡ x ++ drop (length x) o₀ → length o₀ ≡ length x → o ≡ x
-filled_whole o o₀ x e l = e ∙ rw (drop_of_length-le o₀ {i = length x} (omega arith)) (append-nil x)

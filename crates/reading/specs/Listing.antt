@@ -1,20 +1,19 @@
--- What a verdict on list hands on: its number and its count; and what of the survey list goes by.
-use Rattle.std.specs.Prelude.{ℕ, ◌*◌, ◌≤◌, ◌<◌, ◌≡◌, Bool, true, List, eqb, get_or}
-use Rattle.buffer.specs.Choice.{pick}
+-- What the count of the records for a list answers: its refusal, or the records.
+use Rattle.std.specs.Prelude.{ℕ, ◌*◌, ◌≤◌, ◌≡◌, List, Result, Ok, Err}
 use Rattle.group.specs.Widths.{slot_bytes}
 use Rattle.model.specs.Layout.{view}
-use Rattle.model.specs.Reads.{first_check, listed_fill, total_in}
-use Rattle.lookup.specs.Groups.{Whole}
+use Rattle.model.specs.Sound.{sound}
+use Rattle.refusal.specs.Number.{code}
+use Rattle.refusal.specs.declared.Refusal.{Refusal}
+use Rattle.reading.specs.declared.records.Records.{Records}
 use Rattle.reading.specs.Rows.{list_number}
 
-pub record Counted (s : List ℕ) (ok : Bool) (n number count : ℕ) : Type 0 where
-  pub given : number ≡ list_number ok (view s) n
-  pub records : count ≡ pick (eqb number 0) (total_in (view s)) 0
-  pub sound : number ≡ 0 → ok ≡ true
-  pub whole : number ≡ 0 → Whole s
-  pub room : number ≡ 0 → slot_bytes * total_in (view s) ≤ n
+-- a list into n bytes is granted, and x are the records of the store s
+pub record Listed (s : List ℕ) (n : ℕ) (x : Records) : Type 0 where
+  pub given : 0 ≡ list_number (sound s) (view s) n
+  pub store : x.survey.store.now ≡ s
+  pub room : slot_bytes * x.count ≤ n
 
--- how many keys are listed for each unit, and the first check unit in service of each group
-pub record Learned (s fills first_checks : List ℕ) : Type 0 where
-  pub listed : (u : ℕ) → u < 16 → get_or fills u 0 ≡ listed_fill (view s) u
-  pub kept : (g : ℕ) → g < 4 → get_or first_checks g 0 ≡ first_check (view s) g
+abbrev pub Counted : List ℕ → ℕ → Result Records Refusal → Type 0
+Counted s n (Err refusal) = code refusal ≡ list_number (sound s) (view s) n
+Counted s n (Ok x) = Listed s n x

@@ -7,6 +7,7 @@ use native.Mathlib.Omega.{arith}
 use native.Mathlib.Nat.{zero-add}
 use lib.Dec.{eqb, leb, ltb}
 use lib.ListN.{length, get_or}
+use Rattle.std.specs.Prelude.{Option, Some, None, IfSome}
 use borrow.Author.Tests.{eq-eqb, eqb-true, ltb-true, ltb-false}
 use Rattle.buffer.specs.Choice.{pick}
 use Rattle.buffer.specs.ChoiceLaws.{by-pick, by-test}
@@ -27,6 +28,7 @@ use Rattle.model.proofs.LossLaws.{none_past, out_missing, whole_kept}
 use Rattle.model.proofs.RebuildingLaws.{whole_same}
 use Rattle.lookup.specs.Keys.{keys_at}
 use Rattle.lookup.specs.Groups.{Counts, Rebuildable}
+use Rattle.lookup.specs.declared.decoders.Decoder.{Decoder}
 use Rattle.lookup.specs.Decoders.{DecoderOf}
 use Rattle.lookup.specs.DecoderLaws.{decoder_now, decoder_then, next_rank}
 use Rattle.lookup.specs.GroupLaws.{unit_counted, near_missing}
@@ -106,9 +108,10 @@ module _ {s₀ : List ℕ} {u : ℕ} {fills : List ℕ} (h : OutUnit s₀ u fill
     pub standing_missing : t < listed_fill (view s₀) u → Rebuildable s u t
     standing_missing l = missing_kept standing h.unit h.near (record_missing t l)
 
-    pub standing_decoder : {members weights : List ℕ} {until : ℕ} → (t < until → DecoderOf s₀ u t members weights until)
-        → t < until → DecoderOf s u t members weights until
-    standing_decoder f l = decoder_now s₀ s (rebuilding standing) u t h.unit h.near.whole (f l)
+    pub standing_decoder : (last : Option Decoder) → IfSome last (λ d. t < d.until → DecoderOf s₀ u t d.members d.weights d.until)
+        → IfSome last (λ d. t < d.until → DecoderOf s u t d.members d.weights d.until)
+    standing_decoder (Some d) f = λ l. decoder_now s₀ s (rebuilding standing) u t h.unit h.near.whole (f l)
+    standing_decoder None f = f
 
     -- of the next rank, in the store at the start
     pub next_decoder : {members weights : List ℕ} {until : ℕ} → DecoderOf s u t members weights until

@@ -1,52 +1,57 @@
 // Repair of a group: its lost data units are rebuilt, its lost check units are made from the data, and all of them are put in service.
 #![tactic(auto)]
 
-ghost use Rattle.std.specs.Prelude.{◌≡◌, map, ◌+◌, ◌/◌, ◌<◌};
-ghost use Rattle.group.specs.Products.{products};
+ghost use Rattle.std.specs.Prelude.{◌≡◌, map, ◌+◌, ◌/◌};
 ghost use Rattle.model.specs.Layout.{bytes, view};
 ghost use Rattle.model.specs.Reads.{first_check};
 ghost use Rattle.model.specs.Changes.{repaired};
-ghost use Rattle.model.specs.Numbers.{Call, repair, first_of, refusals_in};
+ghost use Rattle.model.specs.Numbers.{Call};
 ghost use Rattle.model.specs.Perform.{outcome, plain, perform};
-ghost use Rattle.soundness.specs.Survey.{Surveyed};
-ghost use Rattle.lookup.specs.Groups.{Counts};
+ghost use Rattle.refusal.specs.Number.{number};
 ghost use Rattle.encoding.specs.Made.{made_in, in_group};
-ghost use Rattle.repairing.specs.Groups.{Group, Repairable, OutUnit};
+ghost use Rattle.repairing.specs.Groups.{Group, OutUnit};
+ghost use Rattle.repairing.specs.Found.{Known, Verdict};
 ghost use Rattle.repairing.specs.Steps.{unit_rebuilt, units_rebuilt, in_service, units_serving};
 
-// Rebuilds the slots of data unit u, which is out, at the ranks for which c, the first check unit in service of its group, lists a key.
-fn rebuild_unit(s: &mut [u8], u: u8, c: u8, fills: [u8; 16], table: &[u8; 256])
-    requires { OutUnit s.old u fills × (table.now ≡ products) × (c ≡ first_check (view s.old) (u / 4)) }
+use refusal::Refusal;
+
+// A group that is to be repaired and is not beyond recovery: its first check unit in service, if there is one, which lists the keys of its data units, and
+// how many are listed for each data unit of the store.
+#[derive(Clone, Copy)]
+struct Degraded {
+    group: u8,
+    check: u8,
+    fills: [u8; 16],
+}
+
+// Rebuilds the slots of data unit u, which is out, at the ranks for which a key is listed.
+fn rebuild_unit(s: &mut [u8], u: u8, degraded: Degraded, products: &group::Products)
+    requires { OutUnit s.old u degraded.fills × (degraded.check ≡ first_check (view s.old) (u / 4)) }
     ensures { s.new ≡ bytes (unit_rebuilt (view s.old) u) }
 {
     let b = s[lookup::SIZE_AT];
-    let n = fills[buffer::wide(u)];
-    let keys = lookup::keys_at(s, u, c);
-    let mut decoder = lookup::decoders::none();
-    let mut r: u8 = 0;
-    while r < n {
-        decoder = lookup::decoders::next_decoder(decoder, s, u, r, fills, table);
+    let keys = lookup::keys_at(s, u, degraded.check);
+    let mut last = None;
+    for r in 0..degraded.fills[usize::from(u)] {
+        let decoder = lookup::decoders::next_decoder(last, s, u, r, degraded.fills, products);
+        last = Some(decoder);
         let mut slot = [0u8; group::SLOT];
-        lookup::rebuild_slot(&mut slot, s, u, r, keys, decoder, table);
+        lookup::rebuild_slot(&mut slot, s, u, r, keys, decoder, products);
         let at = lookup::slot_at(b, u, r);
-        buffer::copy(&mut s[at..at + group::SLOT], &slot);
-        r += 1;
+        s[at..at + group::SLOT].copy_from_slice(&slot);
     }
 }
 
-// Rebuilds the data units of group g that are out, each record from the first four members in service at its rank. The first check unit in service,
-// check, lists their keys.
-fn rebuild_units(s: &mut [u8], g: u8, check: u8, fills: [u8; 16], table: &[u8; 256])
-    requires { Repairable s.old g × Counts s.old g fills × (table.now ≡ products) × (check ≡ first_check (view s.old) g) }
-    ensures { s.new ≡ bytes (units_rebuilt (view s.old) g) }
+// Rebuilds the data units of a group that are out, each record from the first four members in service at its rank.
+fn rebuild_units(s: &mut [u8], degraded: Degraded, products: &group::Products)
+    requires { Known s.old degraded }
+    ensures { s.new ≡ bytes (units_rebuilt (view s.old) degraded.group) }
 {
-    let mut p: u8 = 0;
-    while p < 4 {
-        let u = 4 * g + p;
-        if lookup::state(s, u) == 2 {
-            rebuild_unit(s, u, check, fills, table);
+    for p in 0u8..4 {
+        let u = 4 * degraded.group + p;
+        if lookup::state(s, u) == lookup::OUT {
+            rebuild_unit(s, u, degraded, products);
         }
-        p += 1;
     }
 }
 
@@ -55,15 +60,12 @@ fn make_units(s: &mut [u8], g: u8)
     requires { Group s.old g }
     ensures { s.new ≡ bytes (made_in 2 (in_group g) (view s.old)) }
 {
-    let mut j: u8 = 0;
-    while j < 3 {
+    for j in 0u8..3 {
         let c = 3 * g + j;
-        if s[lookup::CHECK_STATES + buffer::wide(c)] == 2 {
-            let first = group::parities::first_row();
-            let second = group::parities::second_row();
-            encoding::make_unit(s, c, &first, &second);
+        if s[lookup::CHECK_STATES + usize::from(c)] == lookup::OUT {
+            let rows = group::parities::Rows::new();
+            encoding::make_unit(s, c, &rows);
         }
-        j += 1;
     }
 }
 
@@ -71,12 +73,10 @@ fn make_units(s: &mut [u8], g: u8)
 fn put_in_service(states: &mut [u8])
     ensures { states.new ≡ map in_service states.old }
 {
-    let mut i = 0;
-    while i < states.len() {
-        if states[i] == 2 {
-            states[i] = 1;
+    for state in states.iter_mut() {
+        if *state == lookup::OUT {
+            *state = lookup::IN_SERVICE;
         }
-        i += 1;
     }
 }
 
@@ -85,64 +85,54 @@ fn serve_units(s: &mut [u8], g: u8)
     requires { Group s.old g }
     ensures { s.new ≡ bytes (units_serving (view s.old) g) }
 {
-    let group = buffer::wide(g);
+    let group = usize::from(g);
     let data_at = lookup::DATA_STATES + 4 * group;
     put_in_service(&mut s[data_at..data_at + 4]);
     let checks_at = lookup::CHECK_STATES + 3 * group;
     put_in_service(&mut s[checks_at..checks_at + 3]);
 }
 
-// Repairs group g, which is not beyond recovery and has check for its first check unit in service. fills are the numbers of keys listed for each
-// data unit.
-fn repair_group(s: &mut [u8], g: u8, check: u8, fills: [u8; 16])
-    requires { Repairable s.old g × Counts s.old g fills × (check ≡ first_check (view s.old) g) }
-    ensures { s.new ≡ bytes (repaired (view s.old) g) }
+// Repairs a group that is not beyond recovery.
+fn repair_group(s: &mut [u8], degraded: Degraded)
+    requires { Known s.old degraded }
+    ensures { s.new ≡ bytes (repaired (view s.old) degraded.group) }
 {
-    let table = group::table();
-    rebuild_units(s, g, check, fills, &table);
-    make_units(s, g);
-    serve_units(s, g);
+    let products = group::Products::new();
+    rebuild_units(s, degraded, &products);
+    make_units(s, degraded.group);
+    serve_units(s, degraded.group);
 }
 
-// The number of a repair, by the survey of the store.
-fn repair_number(s: &[u8], survey: soundness::Survey, group: u32) -> u8
-    requires { Surveyed s.now survey.sound survey.fills survey.first_checks survey.outs }
-    ensures { result ≡ first_of (refusals_in survey.sound (view s.now) (Call.repair group)) }
+// Looks at a group for its repair.
+fn look_at(s: &[u8], group: u32) -> Result<Degraded, Refusal>
+    ensures { Verdict s.now group result }
 {
-    let above = 3 < group;
-    if above {
-        return 2;
+    if 3 < group {
+        return Err(Refusal::BadArgument);
     }
-    if !survey.sound {
-        return 1;
-    }
+    let survey = soundness::survey_of(s).ok_or(Refusal::NotSound)?;
     let g = group as u8;
-    let absent = buffer::byte_at(s, lookup::UNITS_AT) <= 4 * g;
-    if absent {
-        return 3;
+    if s[lookup::UNITS_AT] <= 4 * g {
+        return Err(Refusal::NotInPlace);
     }
-    let outs = survey.outs;
+    let i = usize::from(g);
+    let check = survey.first_checks[i];
     let fills = survey.fills;
-    let first_checks = survey.first_checks;
-    let i = buffer::wide(g);
-    if lookup::losses::beyond(s, g, outs[i], fills, first_checks[i]) {
-        return 8;
+    if lookup::losses::beyond(s, g, survey.outs[i], fills, check) {
+        return Err(Refusal::BeyondRecovery);
     }
-    0 // no row holds
+    Ok(Degraded {
+        group: g,
+        check,
+        fills,
+    })
 }
 
 // Repairs a group: its units that are out are rebuilt and put in service.
-pub fn repair(s: &mut [u8], group: u32) -> u8
-    ensures { outcome (plain result) s.new ≡ perform s.old (Call.repair group) }
+pub fn repair(s: &mut [u8], group: u32) -> Result<(), Refusal>
+    ensures { outcome (plain (number result)) s.new ≡ perform s.old (Call.repair group) }
 {
-    let survey = soundness::survey_of(s);
-    let number = repair_number(s, survey, group);
-    if number != 0 {
-        return number;
-    }
-    let g = group as u8;
-    let fills = survey.fills;
-    let first_checks = survey.first_checks;
-    repair_group(s, g, first_checks[buffer::wide(g)], fills);
-    0
+    let degraded = look_at(s, group)?;
+    repair_group(s, degraded);
+    Ok(())
 }

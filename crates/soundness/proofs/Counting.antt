@@ -1,5 +1,7 @@
--- The counts of keys: their bounds, what a count with 65 for a failed test tells, and what counting the keys of the units hands on.
-use mathlib.Core.Path.{◌≡◌, refl, sym, ap, ◌∙◌}
+-- The counts of keys: their bounds, what the test of a list beside another tells, and what counting the keys of the units hands on.
+use mathlib.Core.Path.{◌≡◌, refl, sym, ap, ap₂, ◌∙◌}
+use Rattle.std.specs.Prelude.{None}
+use Rattle.std.specs.Bool.{then_some}
 use mathlib.Core.Bool.{Bool, true, false, ◌&&◌}
 use mathlib.Core.List.{List, ◌∷◌}
 use Prim.Native.Nat.{ℕ, zero, suc, ◌+◌, ◌/◌, ◌≤◌, ◌<◌}
@@ -9,7 +11,7 @@ use lib.Dec.{eqb, ltb, leb}
 use lib.ListN.{length, set, length-set}
 use borrow.Author.Tests.{le-leb, le-ltb}
 use Rattle.buffer.specs.Choice.{pick}
-use Rattle.buffer.specs.ChoiceLaws.{by-test, by-pick, pick_true, pick-false}
+use Rattle.buffer.specs.ChoiceLaws.{by-pick, pick-false}
 use Rattle.buffer.specs.Bytes.{byte}
 use Rattle.buffer.specs.Range.{all}
 use Rattle.buffer.specs.Loops.{entries}
@@ -18,27 +20,14 @@ use Rattle.buffer.specs.LoopTests.{Passing, passing_start, passing_turn, passing
 use Rattle.buffer.specs.LoopWrites.{filled, Filling, filling_start, filling_turn}
 use Rattle.soundness.specs.Keys.{fill_of, new_and_same, matched}
 use Rattle.soundness.specs.Pieces.{Ranged, data_keys, column_keys, unkept, data_fill, lost_fill, served_or_lost, unit_fill, own_listed, unit_good}
-use Rattle.soundness.specs.Survey.{Counted}
-use Rattle.soundness.proofs.Surveys.{all_known, none_known}
+use Rattle.soundness.specs.Survey.{counted_fills}
+use Rattle.soundness.proofs.Told.{fails}
 
--- ---- a count that is 65 where a test fails
-pub good_count : {t : Bool} {f n : ℕ} → n ≡ pick t f 65 → n ≤ 64 → (t ≡ true) × (n ≡ f)
-good_count {t} {f} {n} count l =
-    by-test
-    (λ t. (t ≡ true) × (n ≡ f))
-    t
-    (λ e. (refl, count ∙ pick_true e f 65))
-    (λ e. let h : n ≡ 65 = count ∙ pick-false e f 65 in absurd (omega arith))
-
-pub bad_count : {t : Bool} {f n : ℕ} → n ≡ pick t f 65 → f ≤ 64 → 64 < n → t ≡ false
-bad_count {t} {f} {n} count most l =
-    by-test (λ t. t ≡ false) t (λ e. let h : n ≡ f = count ∙ pick_true e f 65 in absurd (omega arith)) (λ _. refl)
-
--- it tells the test
-pub told_count : (t : Bool) (f : ℕ) → f ≤ 64 → pick t f 65 ≡ pick (leb (pick t f 65) 64) f 65
+-- no unit has room for 65: a count that is 65 where a test fails tells the test
+told : (t : Bool) (n : ℕ) → n ≤ 64 → leb (pick t n 65) 64 ≡ t
 unfolding pick
-told_count true f l = rw (le-leb f 64 l)
-told_count false f l = refl
+told true n l = le-leb n 64 l
+told false n l = refl
 
 -- ---- no unit has more keys than ranks
 pub fill_most : (b : ℕ) (key : ℕ → ℕ) → fill_of b key ≤ b
@@ -68,24 +57,19 @@ unit_fill_most s u =
     by-pick (λ n. n ≤ byte s 5) (eqb (byte s (8 + u)) 1) (data_fill s u) (lost_fill s u) (λ _. data_fill_most s u) (λ _. lost_fill_most s u))
     (λ _. omega arith)
 
--- ---- the count of a list beside another
-pub matched_most : (b : ℕ) (key other : ℕ → ℕ) {n : ℕ} → n ≡ matched b key other → b ≤ 64 → n ≤ 65
+-- ---- the test of a list beside another
+pub matched_told : (b : ℕ) (key other : ℕ → ℕ) → b ≤ 64 → leb (matched b key other) 64 ≡ all (fill_of b key) (new_and_same key other)
 unfolding matched
-matched_most b key other e few =
-    rw e
-    (by-pick (λ n. n ≤ 65) (all (fill_of b key) (new_and_same key other)) (fill_of b key) 65 (λ _. omega (arith, fill_most b key)) (λ _. omega arith))
-
-pub matched_told : (b : ℕ) (key other : ℕ → ℕ) → b ≤ 64 → matched b key other ≡ pick (leb (matched b key other) 64) (fill_of b key) 65
-unfolding matched
-matched_told b key other few = told_count (all (fill_of b key) (new_and_same key other)) (fill_of b key) (omega (arith, fill_most b key))
+matched_told b key other few = told (all (fill_of b key) (new_and_same key other)) (fill_of b key) (omega (arith, fill_most b key))
 
 -- ---- what counting hands on
-pub counted : {s fills : List ℕ} → true ≡ all (byte s 6) (unit_good s) → fills ≡ entries 16 (unit_fill s) → Counted s true fills
-counted {s} h f = record { tested = h; filled = all_known 16 (unit_fill s) refl f }
+pub uncounted : (s : List ℕ) → all (byte s 6) (unit_good s) ≡ false → None ≡ counted_fills s
+unfolding counted_fills
+uncounted s e = fails (entries 16 (unit_fill s)) e
 
-pub not_counted : {s : List ℕ} {ok : Bool} {fills : List ℕ} → ok ≡ false → fills ≡ entries 16 (λ _. 0) → false ≡ all (byte s 6) (unit_good s)
-    → Counted s ok fills
-not_counted {s} e f h = record { tested = e ∙ h; filled = none_known 16 (unit_fill s) e f }
+pub counted : (s : List ℕ) {fills : List ℕ} (t : Bool) → t ≡ all (byte s 6) (unit_good s) → fills ≡ entries 16 (unit_fill s) → then_some t fills ≡ counted_fills s
+unfolding counted_fills
+counted s t h f = ap₂ then_some h f
 
 -- both tests of each unit
 pub both_good : (s : List ℕ) → (all (byte s 6) (served_or_lost s) && all (byte s 6) (own_listed s)) ≡ all (byte s 6) (unit_good s)
@@ -110,17 +94,16 @@ pub tallying_start : {s fills : List ℕ} {p : ℕ → Bool} → fills ≡ entri
 tallying_start e = record { passing = passing_start; filling = rw e filling_start; long = ap length e ∙ length_entries 16 (λ _. 0) }
 
 module _ {s fills : List ℕ} {p : ℕ → Bool} {u : ℕ} (r : Ranged s) (t : Tallying s p fills u) where
-  pub tallying_turn : {i n : ℕ} → u < byte s 6 → i ≡ u → n ≡ pick (p u) (unit_fill s u) 65 → n ≤ 64 → Tallying s p (set fills i n) (u + 1)
-  tallying_turn {i} {n} l e count few =
-      let good = good_count count few in
+  pub tallying_turn : {i n : ℕ} → u < byte s 6 → i ≡ u → p u ≡ true → n ≡ unit_fill s u → Tallying s p (set fills i n) (u + 1)
+  tallying_turn {i} {n} l e good count =
       record {
-        passing = passing_turn t.passing l good.0;
-        filling = rw e (filling_turn n t.filling (omega (arith, t.long, r.most)) good.1);
+        passing = passing_turn t.passing l good;
+        filling = rw e (filling_turn n t.filling (omega (arith, t.long, r.most)) count);
         long = length-set fills i n ∙ t.long;
       }
 
-  pub tallying_fail : {n : ℕ} → u < byte s 6 → n ≡ pick (p u) (unit_fill s u) 65 → 64 < n → false ≡ all (byte s 6) p
-  tallying_fail l count many = passing_fail t.passing l (bad_count count (omega (arith, unit_fill_most s u, r.few)) many)
+  pub tallying_fail : u < byte s 6 → p u ≡ false → all (byte s 6) p ≡ false
+  tallying_fail l bad = sym (passing_fail t.passing l bad)
 
   pub tallying_end : byte s 6 ≤ u → fills ≡ entries 16 (unit_fill s)
   unfolding unit_fill

@@ -1,4 +1,5 @@
 pub mod Surveys
+pub mod Told
 pub mod Counting
 pub mod Runs
 pub mod Joined
@@ -9,7 +10,7 @@ pub mod Masks
 pub mod Stepping
 pub mod Matching
 pub mod Endings
-pub mod FewKeys
+pub mod UnitCounts
 pub mod Together
 pub mod Listed
 pub mod Zeros

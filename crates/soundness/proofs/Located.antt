@@ -13,7 +13,7 @@ use Rattle.model.specs.Reads.{first_check}
 use Rattle.lookup.specs.Keys.{keys_at}
 use Rattle.buffer.specs.Strided.{strided32, Within}
 use Rattle.group.specs.Widths.{slot_bytes, check_bytes}
-use Rattle.soundness.specs.Pieces.{data_keys, column_keys, unkept, beside_keys, Beside}
+use Rattle.soundness.specs.Pieces.{data_keys, column_keys, unkept, beside_keys}
 
 -- row u of n rows of b ends within them
 pub row_within : (n u b : ℕ) → u < n → u * b + b ≤ n * b
@@ -39,14 +39,10 @@ unfolding data_keys
 data_list s u e = ap (λ x. strided32 s x slot_bytes) e
 
 -- ---- the list beside the slots of a unit
-pub beside_own : {s : List ℕ} {u at : ℕ} → unkept s (u / 4) ≡ true → at ≡ slot_at (byte s 5) u 0 → at + slot_bytes * byte s 5 ≤ length s
-    → Beside s u at slot_bytes
+pub beside_own : (s : List ℕ) (u : ℕ) {key : ℕ → ℕ} → unkept s (u / 4) ≡ true → key ≡ data_keys s u → key ≡ beside_keys s u
 unfolding beside_keys
-beside_own {s} {u} k e l =
-    record { keys = data_list s u e ∙ sym (pick_true k (data_keys s u) (column_keys s u)); within = within_slots l; narrow = omega arith }
+beside_own s u k e = e ∙ sym (pick_true k (data_keys s u) (column_keys s u))
 
-pub beside_listed : {s : List ℕ} {u at : ℕ} → unkept s (u / 4) ≡ false → at ≡ keys_at s u → at + check_bytes * byte s 5 ≤ length s + 12
-    → Beside s u at check_bytes
+pub beside_listed : (s : List ℕ) (u : ℕ) {key : ℕ → ℕ} → unkept s (u / 4) ≡ false → key ≡ column_keys s u → key ≡ beside_keys s u
 unfolding beside_keys
-beside_listed {s} {u} k e l =
-    record { keys = column_list s u e ∙ sym (pick-false k (data_keys s u) (column_keys s u)); within = within_column l; narrow = omega arith }
+beside_listed s u k e = e ∙ sym (pick-false k (data_keys s u) (column_keys s u))

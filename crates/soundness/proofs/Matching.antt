@@ -2,7 +2,7 @@
 -- each has left the mark at its place in the table, where 0 has it too, and what was gathered is 0 where the other list has the same keys. In the loop for
 -- few keys each has passed every test.
 use mathlib.Core.Path.{◌≡◌, refl, sym, ap, ◌∙◌}
-use mathlib.Core.Bool.{Bool, true, false, not, ◌&&◌}
+use mathlib.Core.Bool.{Bool, true, false, not, ◌&&◌, and-true}
 use mathlib.Core.List.{List}
 use Prim.Native.Nat.{ℕ, ◌+◌, ◌*◌, ◌≤◌, ◌<◌}
 use native.Mathlib.Nat.{not-suc-le-zero}
@@ -13,14 +13,16 @@ use lib.ListN.{length, get_or, set, length-set}
 use lib.Seq.{get_or-set_same, get_or-set_other}
 use borrow.Author.Count.{below_more}
 use borrow.Author.Tests.{eqb-true, eqb-false, ltb-true, ltb-false, ne_eqb}
-use Rattle.buffer.specs.Choice.{pick}
-use Rattle.buffer.specs.ChoiceLaws.{by-test, pick_true, pick-false}
-use Rattle.buffer.specs.TestLaws.{and-true, and_false_first, and_false_second, not-both, or_zero}
+use Rattle.std.specs.Prelude.{Option, Some, None}
+use Rattle.std.specs.Bool.{then_some}
+use Rattle.buffer.specs.ChoiceLaws.{by-test}
+use Rattle.buffer.specs.TestLaws.{and-true as both, and_false_first, and_false_second, not-both, or_zero}
 use Rattle.buffer.specs.Range.{all, first}
 use Rattle.buffer.specs.RangeLaws.{all_none, all_more, all_holds, all_fails, all_both, first_holds}
 use Rattle.buffer.specs.LoopTests.{Missing, missing_start, missing_turn, missing_found, missing_end}
 use Rattle.model.specs.Units.{unit_of}
-use Rattle.soundness.specs.Keys.{place_of, fill_of, is_new, new_and_same, matched, own_keys, matched_own}
+use Rattle.soundness.specs.Keys.{place_of, fill_of, is_new, new_and_same, any_keys, own_keys, found}
+use Rattle.soundness.proofs.Told.{holds, fails}
 use Rattle.soundness.proofs.Stepping.{at_start, further}
 
 -- ---- the ranks before the first key 0
@@ -31,11 +33,12 @@ stopped : (key : ℕ → ℕ) {b r : ℕ} → NoneYet key b r → r < b → eqb 
 unfolding fill_of
 stopped key = missing_found
 
+whole : (key : ℕ → ℕ) {b r : ℕ} → NoneYet key b r → b ≤ r → r ≡ b
+whole key g l = omega (arith, g.within)
+
 full : (key : ℕ → ℕ) {b r : ℕ} → NoneYet key b r → b ≤ r → r ≡ fill_of b key
 unfolding fill_of
-full key {b} {r} g l =
-    let w : r ≡ b = let k : r ≤ b = g.within in omega arith in
-    w ∙ missing_end g l
+full key g l = whole key g l ∙ missing_end g l
 
 before : (key : ℕ → ℕ) {b r : ℕ} → NoneYet key b r → r < b → eqb (key r) 0 ≡ false → r < fill_of b key
 unfolding fill_of
@@ -54,12 +57,12 @@ before key {b} {r} g l z =
     misses : (i : ℕ) → i < r + 1 → p i ≡ false
     misses = below_more (λ i. p i ≡ false) r g.missed z
 
--- the count where every key passes a test, and 65 where one does not
-abbrev count_if : ℕ → (ℕ → ℕ) → (ℕ → Bool) → ℕ
-count_if b key p = pick (all (fill_of b key) p) (fill_of b key) 65
+-- the count, where every key passes a test
+abbrev count_if : ℕ → (ℕ → ℕ) → (ℕ → Bool) → Option ℕ
+count_if b key p = then_some (all (fill_of b key) p) (fill_of b key)
 
-failed : (key : ℕ → ℕ) {b r : ℕ} (p : ℕ → Bool) → NoneYet key b r → r < b → eqb (key r) 0 ≡ false → p r ≡ false → 65 ≡ count_if b key p
-failed key {b} {r} p g l z e = sym (pick-false (all_fails (fill_of b key) p r (before key g l z) e) (fill_of b key) 65)
+failed : (key : ℕ → ℕ) {b r : ℕ} (p : ℕ → Bool) → NoneYet key b r → r < b → eqb (key r) 0 ≡ false → p r ≡ false → None ≡ count_if b key p
+failed key {b} {r} p g l z e = fails (fill_of b key) (all_fails (fill_of b key) p r (before key g l z) e)
 
 -- ---- the loop with a table
 abbrev pub new_at : (ℕ → ℕ) → ℕ → Bool
@@ -100,6 +103,11 @@ place_zero : place_of 0 ≡ 0
 unfolding place_of
 place_zero = refl
 
+-- nothing else is asked of the keys
+marks_test : (key other : ℕ → ℕ) (b m u : ℕ) → count_if b key (new_and_same key other) ≡ found (any_keys m u) b key other
+unfolding found any_keys
+marks_test key other b m u = ap (λ t. then_some t (fill_of b key)) (sym (and-true (all (fill_of b key) (new_and_same key other))))
+
 -- a test of a key, as read, is one of the list's
 pub new_told : (key : ℕ → ℕ) (r : ℕ) {k : ℕ} {t v : Bool} → k ≡ key r → t ≡ is_new r key k → t ≡ v → is_new r key (key r) ≡ v
 new_told key r read e told =
@@ -112,7 +120,7 @@ module _ {key other : ℕ → ℕ} {b mark : ℕ} {t : List ℕ} {differ r : ℕ
       let k : h < length t = omega (arith, g.sized) in
       record {
         missing = missing_turn g.missing l z;
-        new = all_more (new_at key) r ∙ and-true g.new e;
+        new = all_more (new_at key) r ∙ both g.new e;
         same = or_zero differ v ∙ rw (g.same, d) (sym (all_more (same_at key other) r));
         marked =
             below_more
@@ -136,22 +144,24 @@ module _ {key other : ℕ → ℕ} {b mark : ℕ} {t : List ℕ} {differ r : ℕ
   pub matching_some : {h : ℕ} → h ≡ place_of (key r) → (get_or t h 0 ≡ mark → ⊥) → eqb (key r) 0 ≡ false
   matching_some {h} p n = ne_eqb (key r) 0 (λ e. n (ap (λ i. get_or t i 0) (p ∙ ap place_of e ∙ place_zero) ∙ g.zero))
 
-  ended : r ≡ fill_of b key → pick (eqb differ 0) r 65 ≡ matched b key other
-  unfolding matched new_and_same
-  ended e =
-      let both : all r (λ i. new_at key i && same_at key other i) ≡ eqb differ 0 =
-      all_both r (new_at key) (same_at key other) ∙ rw g.new (sym g.same) in
-      ap (λ t. pick t r 65) (sym both) ∙ ap (λ n. pick (all n (λ i. new_at key i && same_at key other i)) n 65) e
+  module _ (m u : ℕ) where
+    ended : r ≡ fill_of b key → then_some (eqb differ 0) r ≡ found (any_keys m u) b key other
+    unfolding new_and_same
+    ended e =
+        let one : all r (λ i. new_at key i && same_at key other i) ≡ eqb differ 0 =
+        all_both r (new_at key) (same_at key other) ∙ rw g.new (sym g.same) in
+        ap (λ t. then_some t r) (sym one) ∙ ap (λ n. then_some (all n (λ i. new_at key i && same_at key other i)) n) e ∙ marks_test key other b m u
 
-  pub matching_stop : r < b → eqb (key r) 0 ≡ true → pick (eqb differ 0) r 65 ≡ matched b key other
-  matching_stop l z = ended (stopped key g.missing l z)
+    pub matching_stop : r < b → eqb (key r) 0 ≡ true → then_some (eqb differ 0) r ≡ found (any_keys m u) b key other
+    matching_stop l z = ended (stopped key g.missing l z)
 
-  pub matching_full : b ≤ r → pick (eqb differ 0) r 65 ≡ matched b key other
-  matching_full l = ended (full key g.missing l)
+    pub matching_full : b ≤ r → then_some (eqb differ 0) b ≡ found (any_keys m u) b key other
+    matching_full l = ap (then_some (eqb differ 0)) (sym (whole key g.missing l)) ∙ ended (full key g.missing l)
 
-  pub matching_twice : r < b → eqb (key r) 0 ≡ false → is_new r key (key r) ≡ false → 65 ≡ matched b key other
-  unfolding matched new_and_same
-  matching_twice l z e = failed key (λ i. new_at key i && same_at key other i) g.missing l z (and_false_first e (same_at key other r))
+    pub matching_twice : r < b → eqb (key r) 0 ≡ false → is_new r key (key r) ≡ false → None ≡ found (any_keys m u) b key other
+    unfolding new_and_same
+    matching_twice l z e =
+        failed key (λ i. new_at key i && same_at key other i) g.missing l z (and_false_first e (same_at key other r)) ∙ marks_test key other b m u
 
 -- with the places that run beside the ranks
 pub record Running (key other : ℕ → ℕ) (b mark base step column apart : ℕ) (t : List ℕ) (differ p q r : ℕ) : Type 0 where
@@ -182,19 +192,20 @@ pub few_start : {key other : ℕ → ℕ} {b m u : ℕ} → MatchingFew key othe
 few_start {key} {other} {b} {m} {u} = record { missing = missing_start; good = all_none (good_at m u key other) }
 
 -- the two tests of all keys are one of each
-one_test : (key other : ℕ → ℕ) (b m u : ℕ) → count_if b key (good_at m u key other) ≡ matched_own b m u key other
-unfolding matched_own own_keys
-one_test key other b m u = ap (λ t. pick t (fill_of b key) 65) (all_both (fill_of b key) (new_and_same key other) (λ i. eqb (unit_of m (other i)) u))
+one_test : (key other : ℕ → ℕ) (b m u : ℕ) → count_if b key (good_at m u key other) ≡ found (own_keys m u) b key other
+unfolding found own_keys
+one_test key other b m u =
+    ap (λ t. then_some t (fill_of b key)) (all_both (fill_of b key) (new_and_same key other) (λ i. eqb (unit_of m (other i)) u))
 
 module _ {key other : ℕ → ℕ} {b m u r : ℕ} (g : MatchingFew key other b m u r) where
-  few_ended : r ≡ fill_of b key → r ≡ matched_own b m u key other
-  few_ended e = sym (pick_true g.good r 65) ∙ ap (λ n. pick (all n (good_at m u key other)) n 65) e ∙ one_test key other b m u
+  few_ended : r ≡ fill_of b key → Some r ≡ found (own_keys m u) b key other
+  few_ended e = holds r g.good ∙ ap (λ n. then_some (all n (good_at m u key other)) n) e ∙ one_test key other b m u
 
-  pub few_stop : r < b → eqb (key r) 0 ≡ true → r ≡ matched_own b m u key other
+  pub few_stop : r < b → eqb (key r) 0 ≡ true → Some r ≡ found (own_keys m u) b key other
   few_stop l z = few_ended (stopped key g.missing l z)
 
-  pub few_full : b ≤ r → r ≡ matched_own b m u key other
-  few_full l = few_ended (full key g.missing l)
+  pub few_full : b ≤ r → Some b ≡ found (own_keys m u) b key other
+  few_full l = ap Some (sym (whole key g.missing l)) ∙ few_ended (full key g.missing l)
 
   pub few_turn : r < b → eqb (key r) 0 ≡ false → eqb (key r) (other r) ≡ true → eqb (unit_of m (other r)) u ≡ true → is_new r key (key r) ≡ true
       → MatchingFew key other b m u (r + 1)
@@ -202,19 +213,19 @@ module _ {key other : ℕ → ℕ} {b m u r : ℕ} (g : MatchingFew key other b 
   few_turn l z same own new =
       record {
         missing = missing_turn g.missing l z;
-        good = all_more (good_at m u key other) r ∙ and-true g.good (and-true (and-true new same) own);
+        good = all_more (good_at m u key other) r ∙ both g.good (both (both new same) own);
       }
 
-  few_fail : r < b → eqb (key r) 0 ≡ false → good_at m u key other r ≡ false → 65 ≡ matched_own b m u key other
+  few_fail : r < b → eqb (key r) 0 ≡ false → good_at m u key other r ≡ false → None ≡ found (own_keys m u) b key other
   few_fail l z e = failed key (good_at m u key other) g.missing l z e ∙ one_test key other b m u
 
-  pub few_other : r < b → eqb (key r) 0 ≡ false → eqb (key r) (other r) ≡ false → 65 ≡ matched_own b m u key other
+  pub few_other : r < b → eqb (key r) 0 ≡ false → eqb (key r) (other r) ≡ false → None ≡ found (own_keys m u) b key other
   unfolding new_and_same
   few_other l z e = few_fail l z (and_false_first (and_false_second (new_at key r) e) _)
 
-  pub few_astray : r < b → eqb (key r) 0 ≡ false → eqb (unit_of m (other r)) u ≡ false → 65 ≡ matched_own b m u key other
+  pub few_astray : r < b → eqb (key r) 0 ≡ false → eqb (unit_of m (other r)) u ≡ false → None ≡ found (own_keys m u) b key other
   few_astray l z e = few_fail l z (and_false_second (new_and_same key other r) e)
 
-  pub few_twice : r < b → eqb (key r) 0 ≡ false → is_new r key (key r) ≡ false → 65 ≡ matched_own b m u key other
+  pub few_twice : r < b → eqb (key r) 0 ≡ false → is_new r key (key r) ≡ false → None ≡ found (own_keys m u) b key other
   unfolding new_and_same
   few_twice l z e = few_fail l z (and_false_first (and_false_first e (same_at key other r)) _)

@@ -8,7 +8,7 @@ use lib.Dec.{eqb, ltb}
 use lib.Seq.{get_or-take}
 use borrow.Author.Tests.{eqb-true, eqb-false, eq-eqb, ne_eqb, ltb-true, ltb-false, not-false}
 use Rattle.buffer.specs.Choice.{pick}
-use Rattle.buffer.specs.ChoiceLaws.{by-test}
+use Rattle.buffer.specs.ChoiceLaws.{by-test, pick_true}
 use Rattle.buffer.specs.TestLaws.{and-true, and_first, and_second, and_ext, or_else, or_other, same_test}
 use Rattle.buffer.specs.Range.{all, first}
 use Rattle.buffer.specs.Loops.{entries}
@@ -23,7 +23,9 @@ use Rattle.group.specs.Widths.{slot_bytes, check_bytes}
 use Rattle.soundness.specs.Keys.{fill_of, is_new}
 use Rattle.soundness.specs.Pieces.{Ranged, data_fits, check_fits, column_keys, unkept, unit_fill, unit_good}
 use Rattle.soundness.specs.Pieces.{groups_in, columns_empty, behind_zero, check_good, pieces}
-use Rattle.soundness.specs.Survey.{known_fill, Counted, Nothing, Surveyed}
+use Rattle.soundness.specs.Survey.{known_fill, counted_fills, Surveyed}
+use Rattle.std.specs.Prelude.{Some}
+use Rattle.soundness.proofs.Told.{some_told}
 use Rattle.soundness.proofs.Joined.{and_assoc, and_three, and_four}
 use Rattle.soundness.proofs.Endings.{first_check_before}
 use Rattle.soundness.proofs.Listed.{check_key_lem}
@@ -31,7 +33,7 @@ use Rattle.soundness.proofs.Good.{own_and_new, keys_good}
 use Rattle.soundness.proofs.UnitClauses.{Unit, unit_asked, good_unit, good_fill, unit_good_lem}
 use Rattle.soundness.proofs.CheckClauses.{check_key, Check, good_check, check_good_lem}
 use Rattle.soundness.proofs.Stretches.{stretches}
-use Rattle.soundness.proofs.Surveys.{all_known, none_known}
+use Rattle.soundness.proofs.Surveys.{all_known}
 
 -- ---- M and K, and the states
 module _ (s : List ℕ) where
@@ -209,23 +211,19 @@ pieces_sound s =
     tests = all (byte s 6) (unit_good s) && columns_empty s && all (3 * groups_in s) (check_good s) && behind_zero s
 
 -- ---- the whole test
-module _ {s fills first_checks outs : List ℕ} where
-  pub not_sound : {ok : Bool} → Nothing ok fills first_checks outs → false ≡ pieces s → Surveyed s ok fills first_checks outs
-  not_sound n h =
-      record {
-        tested = n.unsound ∙ h ∙ pieces_sound s;
-        filled = none_known 16 (known_fill (view s)) n.unsound n.uncounted;
-        kept = none_known 4 (first_check (view s)) n.unsound n.unkept;
-        out = none_known 4 (outs_in (view s)) n.unsound n.unknown;
-      }
+pub not_sound : (s : List ℕ) → false ≡ pieces s → sound s ≡ false
+not_sound s h =
+    sym (h ∙ pieces_sound s)
 
-  pub surveyed : {good : Bool} → ranges s ≡ true → (all 16 (data_fits s) && all 12 (check_fits s)) ≡ true
+module _ {s fills first_checks outs : List ℕ} where
+  pub surveyed : ranges s ≡ true → (all 16 (data_fits s) && all 12 (check_fits s)) ≡ true
       → first_checks ≡ entries 4 (first_check (view s)) → outs ≡ entries 4 (outs_in (view s))
-      → Counted s good fills → good ≡ true → columns_empty s ≡ true → all (3 * groups_in s) (check_good s) ≡ true → behind_zero s ≡ true
+      → Some fills ≡ counted_fills s → columns_empty s ≡ true → all (3 * groups_in s) (check_good s) ≡ true → behind_zero s ≡ true
       → Surveyed s true fills first_checks outs
-  unfolding pieces
-  surveyed {good} range states kept out found e columns checks zeros =
-      let units : all (byte s 6) (unit_good s) ≡ true = sym found.tested ∙ e in
+  unfolding pieces counted_fills
+  surveyed range states kept out found columns checks zeros =
+      let counted = some_told (all (byte s 6) (unit_good s)) (entries 16 (unit_fill s)) found in
+      let units : all (byte s 6) (unit_good s) ≡ true = counted.0 in
       let whole : true ≡ pieces s = rw (range, states, units, columns, checks, zeros) in
       let fit = and_first (all 16 (data_fits s)) _ states in
       let ok = ranged s range in
@@ -233,9 +231,10 @@ module _ {s fills first_checks outs : List ℕ} where
       record {
         tested = whole ∙ pieces_sound s;
         filled =
-            found.filled
-            ∙ entries_ext 16 (λ u. pick good (unit_fill s u) 0) (λ u. pick true (known_fill (view s) u) 0) (λ u l.
-            ap₂ (λ t n. pick t n 0) e (good_fill s ok u l (all_true 16 (data_fits s) fit u l) (all_true 16 (unit_asked s) asked u l)));
+            counted.1
+            ∙ entries_ext 16 (unit_fill s) (λ u. pick true (known_fill (view s) u) 0) (λ u l.
+            good_fill s ok u l (all_true 16 (data_fits s) fit u l) (all_true 16 (unit_asked s) asked u l)
+            ∙ sym (pick_true refl (known_fill (view s) u) 0));
         kept = all_known 4 (first_check (view s)) refl kept;
         out = all_known 4 (outs_in (view s)) refl out;
       }

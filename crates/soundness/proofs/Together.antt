@@ -20,7 +20,7 @@ use Rattle.model.specs.Layout.{view, check_at}
 use Rattle.model.specs.Reads.{first_check}
 use Rattle.model.specs.Units.{unit_of}
 use Rattle.soundness.specs.Keys.{own_keys, own_from, own_row}
-use Rattle.soundness.specs.Pieces.{Kept, Common, Beside, data_keys, column_keys, beside_keys, unkept, data_fill, lost_fill, unit_fill, none_behind, own_listed}
+use Rattle.soundness.specs.Pieces.{Common, data_keys, column_keys, beside_keys, unkept, data_fill, lost_fill, unit_fill, none_behind, own_listed}
 use Rattle.soundness.proofs.Located.{column_place, column_list}
 
 -- ---- the keys of one unit
@@ -43,10 +43,11 @@ module _ (m u : ℕ) (key : ℕ → ℕ) where
       (λ e. sym (all_true f (λ r. eqb (unit_of m (key r)) u) h r (ltb-true r f e))) (λ _. refl))
 
 -- those of its list
-pub from_list : (s : List ℕ) (u : ℕ) {to step i j f n : ℕ} {r : Bool} → Beside s u to step → i ≡ f → j ≡ n
-    → r ≡ own_from (byte s 6) u i j (strided32 s to step)
+pub from_list : (s : List ℕ) (u : ℕ) {key : ℕ → ℕ} {m i j f n : ℕ} {r : Bool} → key ≡ beside_keys s u → m ≡ byte s 6 → i ≡ f → j ≡ n
+    → r ≡ own_from m u i j key
     → r ≡ own_from (byte s 6) u f n (beside_keys s u)
-from_list s u {to} {step} {f = f} {n} b d e h = h ∙ ap₂ (λ i j. own_from (byte s 6) u i j (strided32 s to step)) d e ∙ ap (own_from (byte s 6) u f n) b.keys
+from_list s u {key} {m} {f = f} {n} b units d e h =
+    h ∙ ap₂ (λ i j. own_from m u i j key) d e ∙ ap₂ (λ m key. own_from m u f n key) units b
 
 -- ---- the four lists of a check unit, rank by rank
 module _ (s : List ℕ) (list m u n : ℕ) where
@@ -79,25 +80,20 @@ none_up_to s g l p _ = own_none (byte s 6) (4 * g + p) (beside_keys s (4 * g + p
 pub fill_at : (s : List ℕ) (u : ℕ) {fills : List ℕ} {i : ℕ} → fills ≡ entries 16 (unit_fill s) → i ≡ u → u < 16 → get_or fills i 0 ≡ unit_fill s u
 fill_at s u h e l = ap₂ (λ x j. get_or x j 0) h e ∙ get_or_entries 16 (unit_fill s) u 0 l
 
--- the first check unit in service of a group is that of each of its units
-pub kept_in : {s : List ℕ} {g h k : ℕ} → Kept s g k → g ≡ h → Kept s h k
-kept_in {s} r e = record { found = r.found ∙ ap (first_check (view s)) e; most = omega (arith, r.most) }
-
--- the least of four counts, from the least of two and two
-pub common : {fills : List ℕ} {g k r : ℕ} (i a b : ℕ) → i ≡ 4 * g → (a ≤ get_or fills i 0) × (a ≤ get_or fills (i + 1) 0)
-    → (b ≤ get_or fills (i + 2) 0) × (b ≤ get_or fills (i + 3) 0) → (r ≤ a) × (r ≤ b) → (k ≡ 3 * g + 3 → ⊥)
+-- the least of four counts
+pub common : {fills : List ℕ} {g k r : ℕ} (i : ℕ) → i ≡ 4 * g → r ≤ get_or fills i 0 → r ≤ get_or fills (i + 1) 0 → r ≤ get_or fills (i + 2) 0
+    → r ≤ get_or fills (i + 3) 0 → (k ≡ 3 * g + 3 → ⊥)
     → Common fills g k r
-common {fills} {g} {k} {r} i a b e front back least kept =
+common {fills} {g} {k} {r} i e first second third fourth kept =
     record {
       least =
           below-four (λ p. r ≤ get_or fills (4 * g + p) 0)
-          (at i (omega arith) front.0 least.0) (at (i + 1) (omega arith) front.1 least.0)
-          (at (i + 2) (omega arith) back.0 least.1) (at (i + 3) (omega arith) back.1 least.1);
+          (at i (omega arith) first) (at (i + 1) (omega arith) second) (at (i + 2) (omega arith) third) (at (i + 3) (omega arith) fourth);
       alone = λ h. absurd (kept h);
     }
   where
-    at : (j : ℕ) {v w : ℕ} → j ≡ v → w ≤ get_or fills j 0 → r ≤ w → r ≤ get_or fills v 0
-    at j d h l = omega (arith, ap (λ x. get_or fills x 0) d)
+    at : (j : ℕ) {v : ℕ} → j ≡ v → r ≤ get_or fills j 0 → r ≤ get_or fills v 0
+    at j d h = omega (arith, ap (λ x. get_or fills x 0) d)
 
 -- a unit that has keys is there
 has_keys : (s : List ℕ) (u : ℕ) → 0 < unit_fill s u → u < byte s 6

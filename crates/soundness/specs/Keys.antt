@@ -1,12 +1,17 @@
 -- Lists of keys within bytes, and what is asked of the keys of one unit. A list is a function, rank → key; ranks are counted from 0.
-use Rattle.std.specs.Prelude.{ℕ, ◌+◌, ◌*◌, ◌-◌, ◌/◌, ◌%◌, ◌<◌, ◌≡◌, List, Bool, not, ◌&&◌, ◌||◌, eqb, ltb}
+use Rattle.std.specs.Prelude.{ℕ, ◌+◌, ◌*◌, ◌-◌, ◌/◌, ◌%◌, ◌<◌, ◌≡◌, List, Bool, Option, true, not, ◌&&◌, ◌||◌, eqb, ltb}
+use Rattle.std.specs.Bool.{then_some}
 use Rattle.buffer.specs.Choice.{pick}
 use Rattle.buffer.specs.Range.{all, first}
-use Rattle.buffer.specs.Bytes.{be32}
+use Rattle.buffer.specs.Bytes.{byte, be32}
 use Rattle.buffer.specs.ByteOrder.{le32}
 use Rattle.buffer.specs.Strided.{strided32}
 use Rattle.model.specs.Units.{power_below, split_pointer, unit_of}
 use Rattle.group.specs.Widths.{check_bytes}
+
+-- all numbers are bytes
+pub record Octets (s : List ℕ) : Type 0 where
+  pub below : (i : ℕ) → byte s i < 256
 
 -- a list of keys with the bytes of each in the other order
 unfoldable pub turned_keys : List ℕ → ℕ → ℕ → ℕ → ℕ
@@ -57,9 +62,13 @@ pub record RowMasks (m u first second third fourth : ℕ) : Type 0 where
   pub four : fourth ≡ mask_of m (u + 3)
   pub low : (p : ℕ) → mask_of m p < 256
 
--- the same count, 65 also where a key belongs to another unit
-unfoldable pub matched_own : ℕ → ℕ → ℕ → (ℕ → ℕ) → (ℕ → ℕ) → ℕ
-matched_own b m u key other = pick (all (fill_of b key) (new_and_same key other) && own_keys m u (fill_of b key) other) (fill_of b key) 65
+-- how many keys there are before the first key 0, where all of them match and pass a further test of the other list
+unfoldable pub found : (ℕ → (ℕ → ℕ) → Bool) → ℕ → (ℕ → ℕ) → (ℕ → ℕ) → Option ℕ
+found own b key other = then_some (all (fill_of b key) (new_and_same key other) && own (fill_of b key) other) (fill_of b key)
+
+-- no further test
+unfoldable pub any_keys : ℕ → ℕ → ℕ → (ℕ → ℕ) → Bool
+any_keys m u n key = true
 
 -- from rank n on there is no key
 unfoldable pub no_keys : ℕ → ℕ → (ℕ → ℕ) → Bool

@@ -1,6 +1,7 @@
 -- The pieces that the soundness test is made of, over the bytes: one test for each unit in place, and some for all that are not. That they say what
 -- document 01 asks is the theorem `pieces_sound`.
-use Rattle.std.specs.Prelude.{ℕ, ◌+◌, ◌*◌, ◌-◌, ◌/◌, ◌≤◌, ◌<◌, ◌≡◌, List, Bool, ◌&&◌, ◌||◌, eqb, ltb, leb, length, get_or}
+use Rattle.std.specs.Prelude.{ℕ, ◌+◌, ◌*◌, ◌-◌, ◌/◌, ◌≤◌, ◌<◌, ◌≡◌, List, Bool, Option, ◌&&◌, ◌||◌, eqb, ltb, leb, length, get_or}
+use Rattle.std.specs.Bool.{then_some}
 use Rattle.buffer.specs.Choice.{pick}
 use Rattle.buffer.specs.Range.{all}
 use Rattle.buffer.specs.Bytes.{byte, part}
@@ -8,7 +9,7 @@ use Rattle.buffer.specs.Loops.{all_zero}
 use Rattle.model.specs.Layout.{view, store_bytes, slot_at, check_at}
 use Rattle.model.specs.Reads.{first_check}
 use Rattle.model.specs.Sound.{ranges, state_fits, check_placed}
-use Rattle.buffer.specs.Strided.{strided32, Within}
+use Rattle.buffer.specs.Strided.{strided32}
 use Rattle.lookup.specs.Keys.{keys_at}
 use Rattle.group.specs.Widths.{slot_bytes, check_bytes}
 use Rattle.soundness.specs.Keys.{fill_of, matched, own_keys, no_keys, same_lists}
@@ -51,12 +52,6 @@ unkept s g = eqb (first_check (view s) g) (3 * g + 3)
 unfoldable pub beside_keys : List ℕ → ℕ → ℕ → ℕ
 beside_keys s u = pick (unkept s (u / 4)) (data_keys s u) (column_keys s u)
 
--- a list in the bytes, from a place on, that has them
-pub record Beside (s : List ℕ) (u at step : ℕ) : Type 0 where
-  pub keys : strided32 s at step ≡ beside_keys s u
-  pub within : Within s at step (byte s 5)
-  pub narrow : step ≤ 64
-
 -- how many keys a unit in service has, and how many are listed for one that is out: none where no check unit of its group is in service
 unfoldable pub data_fill : List ℕ → ℕ → ℕ
 data_fill s u = fill_of (byte s 5) (data_keys s u)
@@ -86,6 +81,16 @@ served_or_lost s u = pick (eqb (byte s (8 + u)) 1) (served s u) (lost s u)
 -- how many keys are listed for a unit
 unfoldable pub unit_fill : List ℕ → ℕ → ℕ
 unit_fill s u = pick (ltb u (byte s 6)) (pick (eqb (byte s (8 + u)) 1) (data_fill s u) (lost_fill s u)) 0
+
+-- the counts of a unit in service, of one that is out, and of any in place, where the unit passes the test and its keys a further one
+abbrev pub served_count : (ℕ → ℕ → ℕ → (ℕ → ℕ) → Bool) → List ℕ → ℕ → Option ℕ
+served_count own s u = then_some (served s u && own (byte s 6) u (data_fill s u) (beside_keys s u)) (data_fill s u)
+
+abbrev pub lost_count : (ℕ → ℕ → ℕ → (ℕ → ℕ) → Bool) → List ℕ → ℕ → Option ℕ
+lost_count own s u = then_some (lost s u && own (byte s 6) u (lost_fill s u) (beside_keys s u)) (lost_fill s u)
+
+abbrev pub unit_count : (ℕ → ℕ → ℕ → (ℕ → ℕ) → Bool) → List ℕ → ℕ → Option ℕ
+unit_count own s u = then_some (served_or_lost s u && own (byte s 6) u (unit_fill s u) (beside_keys s u)) (unit_fill s u)
 
 -- behind n keys none is listed for a unit
 unfoldable pub none_behind : List ℕ → ℕ → ℕ → Bool

@@ -1,5 +1,6 @@
 -- What the soundness test hands on of a store.
-use Rattle.std.specs.Prelude.{ℕ, ◌≡◌, List, Bool, false}
+use Rattle.std.specs.Prelude.{ℕ, ◌≡◌, List, Bool, Option}
+use Rattle.std.specs.Bool.{then_some}
 use Rattle.buffer.specs.Bytes.{byte}
 use Rattle.buffer.specs.Choice.{pick}
 use Rattle.buffer.specs.Range.{all}
@@ -13,17 +14,9 @@ use Rattle.soundness.specs.Pieces.{unit_good, unit_fill}
 unfoldable pub known_fill : Store → ℕ → ℕ
 known_fill v u = pick (keys_lost_in v u) 0 (listed_fill v u)
 
--- the data units in place are good, and the keys of each are counted; where one is not good, nothing is
-pub record Counted (s : List ℕ) (good : Bool) (fills : List ℕ) : Type 0 where
-  pub tested : good ≡ all (byte s 6) (unit_good s)
-  pub filled : fills ≡ entries 16 (λ u. pick good (unit_fill s u) 0)
-
--- what is handed on of a store that is not sound
-pub record Nothing (ok : Bool) (fills first_checks outs : List ℕ) : Type 0 where
-  pub unsound : ok ≡ false
-  pub uncounted : fills ≡ entries 16 (λ _. 0)
-  pub unkept : first_checks ≡ entries 4 (λ _. 0)
-  pub unknown : outs ≡ entries 4 (λ _. 0)
+-- the keys of each data unit, where those in place are good
+unfoldable pub counted_fills : List ℕ → Option (List ℕ)
+counted_fills s = then_some (all (byte s 6) (unit_good s)) (entries 16 (unit_fill s))
 
 -- the store is sound, the keys that are listed for each data unit are counted, and for each group the first check unit in service is found and
 -- the units out are counted; where it is not sound, nothing is

@@ -1,29 +1,24 @@
 // The units of a store that are not in place.
 ghost use Rattle.std.specs.Prelude.{◌≡◌, ◌≤◌, length};
-ghost use Rattle.buffer.specs.Loops.{entries};
-ghost use Rattle.model.specs.Layout.{view};
-ghost use Rattle.model.specs.Reads.{first_check};
-ghost use Rattle.soundness.specs.Pieces.{Ranged, zero_between, columns_empty, behind_zero};
+ghost use Rattle.soundness.specs.Pieces.{zero_between, columns_empty, behind_zero};
 
-use crate::units;
+use crate::header::Header;
 
 // Whether no keys are listed for the data units of the last group in place that are not.
-pub fn columns_empty(s: &[u8], first_checks: [u8; 4]) -> bool
-    requires { Ranged s.now × (first_checks ≡ entries 4 (first_check (view s.now))) }
-    ensures { result ≡ columns_empty s.now }
+pub fn columns_empty(header: Header<'_>) -> bool
+    ensures { result ≡ columns_empty header.entry.store.now }
 {
-    let m = s[lookup::UNITS_AT];
+    let m = header.units();
     let end = (m + 3) / 4 * 4;
-    let mut u = m;
-    while u < end {
-        if !units::none_behind(s, first_checks[buffer::wide(u / 4)], u, 0) {
+    for u in m..end {
+        if !header.unit(u).none_behind(0) {
             return false;
         }
-        u += 1;
     }
     true
 }
 
+// As `places::zero_between`, for a long stretch: two halves at once, which costs more than it saves where there are few bytes.
 fn zero_stretch(s: &[u8], at: usize, end: usize) -> bool
     requires { (at ≤ end) × (end ≤ length s.now) }
     ensures { result ≡ zero_between s.now at end }
@@ -32,12 +27,12 @@ fn zero_stretch(s: &[u8], at: usize, end: usize) -> bool
 }
 
 // Whether the data units behind the last in place, and the check units behind the last group in place, are zero: each in one stretch.
-pub fn behind_zero(s: &[u8]) -> bool
-    requires { Ranged s.now }
-    ensures { result ≡ behind_zero s.now }
+pub fn behind_zero(header: Header<'_>) -> bool
+    ensures { result ≡ behind_zero header.entry.store.now }
 {
-    let b = s[lookup::SIZE_AT];
-    let m = s[lookup::UNITS_AT];
+    let s = header.store;
+    let b = header.size();
+    let m = header.units();
     let groups = (m + 3) / 4;
     if !zero_stretch(s, lookup::slot_at(b, m, 0), lookup::slot_at(b, 16, 0)) {
         return false;

@@ -10,7 +10,8 @@ use lib.ListN.{length, set, length-set}
 use lib.Seq.{get_or-set_other}
 use borrow.Author.Tests.{eq-eqb, ne_eqb, eqb-true, lt-ltb, le-leb}
 use Rattle.buffer.specs.Choice.{pick}
-use Rattle.buffer.specs.ChoiceLaws.{pick-false, pick-or}
+use Rattle.std.proofs.lemmas.Bool.Decides.{nat_tests}
+use Rattle.buffer.specs.ChoiceLaws.{pick-false, pick-or, pick-ext}
 use Rattle.buffer.specs.TestLaws.{and_ext, same_test}
 use Rattle.buffer.specs.Bytes.{byte, zeros, splice}
 use Rattle.buffer.specs.Table.{upd}
@@ -23,10 +24,9 @@ use Rattle.model.specs.LayoutLaws.{Shaped, Same, bytes_ext, bytes_view, view_sha
 use Rattle.model.specs.RunLaws.{run}
 use Rattle.model.specs.StoreLaws.{size_of, front_set, dstate_set, cstate_set, chunks_clear, chunks_ext, chunks_same}
 use Rattle.encoding.specs.Made.{is_unit, in_group}
-use Rattle.encoding.specs.Holding.{holds_start, holds_step}
-use Rattle.encoding.specs.PlaceLaws.{by_place, three_places}
+use Rattle.encoding.specs.Holding.{holds_start, holds_step, holds_long}
 use Rattle.splitting.specs.Steps.{cleared, marked, levelled, wiped, of_first, of_both}
-use Rattle.splitting.proofs.StepLaws.{wiped_change}
+use Rattle.splitting.proofs.StepLaws.{levelled_change, wiped_change}
 
 -- ---- a run to the end of a unit
 run_rest : (f : ℕ → ℕ → List ℕ) (u q m : ℕ) (z : List ℕ) (w r : ℕ) → r < q + m → run f u q m (λ _. z) w r ≡ pick (eqb w u && leb q r) z (f w r)
@@ -63,29 +63,19 @@ clear_check s s' b from to n c l eb ef et en hc es =
     run_rest v.check c 0 b (zeros check_bytes) d r (omega arith)
     ∙ ap (λ t. pick t (zeros check_bytes) (v.check d r)) (ap (λ t. eqb d c && t) (le-leb 0 r (omega arith)) ∙ and-true (eqb d c)))
 
--- ---- the states of a group's check units: three state bytes written
-pub set_states : (s : List ℕ) (at g k x y z : ℕ) → Long s → at ≡ 24 + 3 * g → g < 4 → x ≡ pick (ltb 0 k) 1 0 → y ≡ pick (ltb 1 k) 1 0 → z ≡ pick (ltb 2 k) 1 0
-    → set (set (set s at x) (at + 1) y) (at + 2) z ≡ bytes (levelled (in_group g) k (view s))
-unfolding levelled with_cstates upd
-set_states s at g k x y z l ea hg ex ey ez =
-    let v : Store = view s in
-    let h : Shaped v = view_shaped s l in
-    let t₁ : Store = with_cstates v (upd v.cstate (3 * g) x) in
-    let h₁ : Shaped t₁ = record { front = h.front; size = h.size; slot = h.slot; check = h.check } in
-    let t₂ : Store = with_cstates t₁ (upd t₁.cstate (3 * g + 1) y) in
-    let h₂ : Shaped t₂ = record { front = h.front; size = h.size; slot = h.slot; check = h.check } in
-    let b₁ : set s at x ≡ bytes t₁ = cstate_set v h s (sym (bytes_view s l)) _ at (3 * g) x ea (omega arith) refl in
-    let b₂ : set (set s at x) (at + 1) y ≡ bytes t₂ = cstate_set t₁ h₁ _ b₁ _ (at + 1) (3 * g + 1) y (omega arith) (omega arith) refl in
-    cstate_set t₂ h₂ _ b₂ _ (at + 2) (3 * g + 2) z (omega arith) (omega arith) refl
-    ∙ bytes_ext _ _ (record {
-      front = refl;
-      size = refl;
-      dstate = λ u a. refl;
-      cstate = λ c a. rw (ex, ey, ez) (by_place c g (λ j. pick (ltb j k) 1 0) (v.cstate c));
-      slot = λ u r a b. refl;
-      check = λ u r a b. refl;
-      rest = refl;
-    })
+-- ---- the check units of group g that stand before check unit c: a loop over the group has met them
+module _ (g : ℕ) where
+  abbrev pub before : ℕ → ℕ → Bool
+  before c d = in_group g d && ltb d c
+
+  pub before_first : (c d : ℕ) → c ≡ 3 * g → before c d ≡ false
+  before_first c d e = grind (arith, nat_tests)
+
+  pub before_next : (c n d : ℕ) → n ≡ c + 1 → 3 * g ≤ c → c < 3 * g + 3 → (before c d || is_unit c d) ≡ before n d
+  before_next c n d e low high = grind (arith, nat_tests)
+
+  pub before_last : (d : ℕ) → before (3 * g + 3) d ≡ in_group g d
+  before_last d = grind (arith, nat_tests)
 
 -- ---- how many units there are, and the state of one
 pub set_marks : (s : List ℕ) (at m u state : ℕ) → Long s → at ≡ 8 + u → u < 16 → set (set s 6 m) at state ≡ bytes (marked (view s) m u state)
@@ -119,13 +109,6 @@ module _ (p q o : ℕ → Bool) (e : (c : ℕ) → (p c || q c) ≡ o c) where
   two_wiped : (s : List ℕ) {s₁ s₂ : List ℕ} → Long s → s₁ ≡ bytes (wiped p (view s)) → s₂ ≡ bytes (wiped q (view s₁)) → s₂ ≡ bytes (wiped o (view s))
   two_wiped s l e₁ e₂ = (holds_step (wiped_change q) (holds_step (wiped_change p) (holds_start l) e₁) e₂).state ∙ bytes_ext _ _ (wiped_twice (view s))
 
--- the three check units of a group
-pub three_wiped : (s : List ℕ) {s₁ s₂ s₃ : List ℕ} (g : ℕ) → Long s → s₁ ≡ bytes (wiped (is_unit (3 * g)) (view s))
-    → s₂ ≡ bytes (wiped (is_unit (3 * g + 1)) (view s₁)) → s₃ ≡ bytes (wiped (is_unit (3 * g + 2)) (view s₂)) → s₃ ≡ bytes (wiped (in_group g) (view s))
-three_wiped s g l e₁ e₂ e₃ =
-    let pair : ℕ → Bool = λ c. is_unit (3 * g) c || is_unit (3 * g + 1) c in
-    two_wiped pair (is_unit (3 * g + 2)) (in_group g) (three_places g) s l (two_wiped (is_unit (3 * g)) (is_unit (3 * g + 1)) pair (λ c. refl) s l e₁ e₂) e₃
-
 -- ---- where the test picks none
 module _ (p : ℕ → Bool) (none : (c : ℕ) → p c ≡ false) (s : List ℕ) (l : Long s) where
   pub levelled_none : (k : ℕ) → s ≡ bytes (levelled p k (view s))
@@ -146,6 +129,50 @@ module _ (p : ℕ → Bool) (none : (c : ℕ) → p c ≡ false) (s : List ℕ) 
   unfolding wiped
   wiped_none =
       chunks_same check_units s _ l (λ c r a b. sym (pick-false (none c) _ _))
+
+-- ---- the check units of a group, one after another: before turn c those before c are cleared, and before turn j their states are set
+module _ (s : List ℕ) (g : ℕ) (l : Long s) where
+  pub wiping_start : s ≡ bytes (wiped (before g (3 * g)) (view s))
+  wiping_start = wiped_none (before g (3 * g)) (λ d. before_first g _ d refl) s l
+
+  pub wiping_turn : {s₁ s₂ : List ℕ} (c : ℕ) → 3 * g ≤ c → c < 3 * g + 3 → s₁ ≡ bytes (wiped (before g c) (view s)) → s₂ ≡ bytes (wiped (is_unit c) (view s₁))
+      → s₂ ≡ bytes (wiped (before g (c + 1)) (view s))
+  wiping_turn c low high = two_wiped (before g c) (is_unit c) (before g (c + 1)) (λ d. before_next g c (c + 1) d refl low high) s l
+
+  pub wiping_long : {s₁ : List ℕ} (c : ℕ) → s₁ ≡ bytes (wiped (before g c) (view s)) → Long s₁
+  wiping_long c e = holds_long (holds_step (wiped_change (before g c)) (holds_start l) e)
+
+  pub wiping_end : {s₁ : List ℕ} (c : ℕ) → c ≡ 3 * g + 3 → s₁ ≡ bytes (wiped (before g c) (view s)) → s₁ ≡ bytes (wiped (in_group g) (view s))
+  wiping_end c ec e = e ∙ rw ec (ap (λ p. bytes (wiped p (view s))) (λ i d. before_last g d i))
+
+  pub setting_start : (k : ℕ) → s ≡ bytes (levelled (before g (3 * g + 0)) k (view s))
+  setting_start = levelled_none (before g (3 * g + 0)) (λ d. before_first g _ d (omega arith)) s l
+
+  pub setting_turn : {s₁ : List ℕ} (k j at x : ℕ) → g < 4 → j < 3 → at ≡ 24 + (3 * g + j) → x ≡ pick (ltb j k) 1 0
+      → s₁ ≡ bytes (levelled (before g (3 * g + j)) k (view s)) → set s₁ at x ≡ bytes (levelled (before g (3 * g + (j + 1))) k (view s))
+  unfolding levelled with_cstates upd
+  setting_turn {s₁} k j at x hg hj ea ex e =
+      let c : ℕ = 3 * g + j in
+      let n : ℕ = 3 * g + (j + 1) in
+      let v : Store = view s in
+      let state : ℕ → ℕ = λ d. pick (ltb (d % 3) k) 1 0 in
+      let t : Store = levelled (before g c) k v in
+      let same : (d : ℕ) → pick (eqb d c) x (pick (before g c d) (state d) (v.cstate d)) ≡ pick (before g n d) (state d) (v.cstate d) =
+      λ d. pick-ext (eqb d c) x _ (state d) _ (λ f. let q : d % 3 ≡ j = omega (arith, eqb-true d c f) in ex ∙ rw q) (λ _. refl)
+      ∙ pick-or (before g c d) (eqb d c) (state d) (v.cstate d) ∙ ap (λ b. pick b (state d) (v.cstate d)) (before_next g c n d (omega arith) (omega arith) (omega arith)) in
+      cstate_set t ((levelled_change (before g c) k).shaped v (view_shaped s l)) s₁ e _ at c x (omega arith) (omega arith) refl
+      ∙ bytes_ext _ _ (record {
+        front = refl;
+        size = refl;
+        dstate = λ u a. refl;
+        cstate = λ d a. same d;
+        slot = λ u r a b. refl;
+        check = λ u r a b. refl;
+        rest = refl;
+      })
+
+  pub setting_end : {s₁ : List ℕ} (k j : ℕ) → j ≡ 3 → s₁ ≡ bytes (levelled (before g (3 * g + j)) k (view s)) → s₁ ≡ bytes (levelled (in_group g) k (view s))
+  setting_end k j ej e = e ∙ rw ej (ap (λ p. bytes (levelled p k (view s))) (λ i d. before_last g d i))
 
 -- the group of unit u, where u is its first, and where it isn't
 module _ (u : ℕ) where

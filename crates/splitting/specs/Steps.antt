@@ -1,5 +1,5 @@
 -- The steps of grow and shrink on the parts of a store, and what the functions that take them ask for.
-use Rattle.std.specs.Prelude.{ℕ, ◌+◌, ◌/◌, ◌%◌, ◌<◌, ◌≡◌, List, Bool, ◌&&◌, ◌||◌, eqb, ltb, leb, set}
+use Rattle.std.specs.Prelude.{ℕ, ◌+◌, ◌/◌, ◌%◌, ◌<◌, ◌≤◌, ◌≡◌, List, Bool, ◌&&◌, ◌||◌, eqb, ltb, leb, set}
 use Rattle.buffer.specs.Choice.{pick}
 use Rattle.buffer.specs.Bytes.{byte, zeros}
 use Rattle.buffer.specs.Table.{upd}
@@ -7,7 +7,9 @@ use Rattle.group.specs.Widths.{slot_bytes, check_bytes}
 use Rattle.model.specs.Units.{split_pointer, touched, begins}
 use Rattle.model.specs.Layout.{Store, view}
 use Rattle.model.specs.Parts.{with_front, with_dstates, with_cstates, with_slots, with_checks}
+use Rattle.model.specs.Reads.{fill_in}
 use Rattle.lookup.specs.Sized.{Sized}
+use Rattle.splitting.specs.declared.dealing.Merge.{Merge}
 
 -- unit m of a store, and the unit n that it is split from
 pub record Split (s : List ℕ) (n m : ℕ) : Type 0 where
@@ -15,6 +17,13 @@ pub record Split (s : List ℕ) (n m : ℕ) : Type 0 where
   pub from : n ≡ split_pointer m
   pub apart : n < m
   pub unit : m < 16
+
+-- the last unit and the one that it was split from, with how many records each has, and room for both in one unit
+pub record Merges (s : List ℕ) (merge : Merge) : Type 0 where
+  pub split : Split s merge.into merge.last
+  pub count : merge.count ≡ fill_in (view s) merge.into
+  pub more : merge.more ≡ fill_in (view s) merge.last
+  pub room : merge.count + merge.more ≤ byte s 5
 
 -- a unit is out in the group of unit m or in the group of the unit that m is split from, by the units out of each group
 unfoldable pub pair_out : (ℕ → ℕ) → ℕ → Bool

@@ -7,7 +7,7 @@ ghost use Rattle.model.specs.Places.{Long, SlotIn};
 ghost use Rattle.model.specs.Parts.{with_slots};
 ghost use Rattle.model.specs.Reads.{fill_in};
 ghost use Rattle.model.specs.Changes.{dealt, merged};
-ghost use Rattle.splitting.specs.Steps.{Split, cleared};
+ghost use Rattle.splitting.specs.Steps.{Split, Merges, cleared};
 
 // Copies slot (u, r) to slot (v, q).
 fn move_record(s: &mut [u8], u: u8, r: u8, v: u8, q: u8)
@@ -18,8 +18,8 @@ fn move_record(s: &mut [u8], u: u8, r: u8, v: u8, q: u8)
     let from = lookup::slot_at(b, u, r);
     let to = lookup::slot_at(b, v, q);
     let mut held = [0u8; group::SLOT];
-    buffer::copy(&mut held, &s[from..from + group::SLOT]);
-    buffer::copy(&mut s[to..to + group::SLOT], &held);
+    held.copy_from_slice(&s[from..from + group::SLOT]);
+    s[to..to + group::SLOT].copy_from_slice(&held);
 }
 
 // Empties the slots of unit u from rank q on.
@@ -40,32 +40,40 @@ pub fn deal_out(s: &mut [u8], n: u8, m: u8, count: u8)
 {
     let mut kept: u8 = 0;
     let mut gone: u8 = 0;
-    let mut t: u8 = 0;
-    while t < count {
+    for t in 0..count {
         let key = lookup::key_at(s, n, t);
-        let goes = lookup::unit_of(m + 1, key) == m;
-        if goes {
+        if lookup::unit_of(m + 1, key) == m {
             move_record(s, n, t, m, gone);
             gone += 1;
         } else {
             move_record(s, n, t, n, kept);
             kept += 1;
         }
-        t += 1;
     }
     clear_from(s, n, kept);
     clear_from(s, m, gone);
 }
 
-// Moves the records of unit m behind those of unit n, where there is room for them. Unit n has count records, and unit m has more.
-pub fn merge_into(s: &mut [u8], n: u8, m: u8, count: u8, more: u8)
-    requires { Split s.old n m × (count ≡ fill_in (view s.old) n) × (more ≡ fill_in (view s.old) m) × (count + more ≤ byte s.old 5) }
-    ensures { s.new ≡ bytes (with_slots (view s.old) (merged (view s.old) m)) }
+// Two units that are put together: the last, which has `more` records, and the one that it was split from, which has `count`.
+#[derive(Clone, Copy)]
+pub struct Merge {
+    pub into: u8,
+    pub last: u8,
+    pub count: u8,
+    pub more: u8,
+}
+
+// Moves the records of the last unit behind those of the other, where there is room for them.
+pub fn merge_into(s: &mut [u8], merge: Merge)
+    requires { Merges s.old merge }
+    ensures { s.new ≡ bytes (with_slots (view s.old) (merged (view s.old) merge.last)) }
 {
-    let mut t: u8 = 0;
-    while t < more {
+    let n = merge.into;
+    let m = merge.last;
+    let count = merge.count;
+    let more = merge.more;
+    for t in 0..more {
         move_record(s, m, t, n, count + t);
-        t += 1;
     }
     clear_from(s, n, count + more);
     clear_from(s, m, 0);

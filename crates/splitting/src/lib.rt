@@ -6,18 +6,21 @@ pub mod making;
 pub mod raising;
 pub mod states;
 
-ghost use Rattle.std.specs.Prelude.{◌≡◌, ◌+◌, ◌≤◌, ◌<◌, eqb, ltb, get_or};
-ghost use Rattle.buffer.specs.Choice.{pick};
+ghost use Rattle.std.specs.Prelude.{◌≡◌, ◌+◌, ◌≤◌, ◌<◌, ltb, get_or, IfOk};
 ghost use Rattle.buffer.specs.Range.{sum};
 ghost use Rattle.buffer.specs.Bytes.{byte};
+ghost use Rattle.refusal.specs.Number.{number};
 ghost use Rattle.model.specs.Units.{split_pointer};
 ghost use Rattle.model.specs.Layout.{bytes, view};
 ghost use Rattle.model.specs.Reads.{fill_in};
 ghost use Rattle.model.specs.Numbers.{Call, grow, shrink, raise, first_of, refusals_in, number_in};
+ghost use Rattle.model.specs.Sound.{sound};
 ghost use Rattle.model.specs.Changes.{grown, shrunk};
 ghost use Rattle.model.specs.Perform.{outcome, plain, granted_in, perform};
-ghost use Rattle.soundness.specs.Survey.{Surveyed};
-ghost use Rattle.splitting.specs.Steps.{Split, Blank, pair_out, pair_crowded};
+ghost use Rattle.splitting.specs.Steps.{Split, Merges, Blank, pair_out};
+
+use dealing::Merge;
+use refusal::Refusal;
 
 // Adds unit m: the records of unit n, which is split and has count of them, are dealt out, and the check units of both groups are made anew.
 fn add_unit(s: &mut [u8], n: u8, m: u8, count: u8)
@@ -26,21 +29,22 @@ fn add_unit(s: &mut [u8], n: u8, m: u8, count: u8)
 {
     let level = s[lookup::LEVEL_AT];
     dealing::deal_out(s, n, m, count);
-    states::mark(s, m + 1, m, 1);
+    states::mark(s, m + 1, m, lookup::IN_SERVICE);
     states::set_first(s, m, level);
     making::make_groups(s, n, m);
 }
 
-// Removes unit m, the last: its records go behind those of unit n, which it was split from. Unit n has count records, and unit m has more.
-fn remove_unit(s: &mut [u8], n: u8, m: u8, count: u8, more: u8)
-    requires { Split s.old n m × Blank s.old × (count ≡ fill_in (view s.old) n) × (more ≡ fill_in (view s.old) m) × (count + more ≤ byte s.old 5) }
-    ensures { s.new ≡ bytes (shrunk (view s.old) m) }
+// Removes the last unit: its records go behind those of the unit that it was split from.
+fn remove_unit(s: &mut [u8], merge: Merge)
+    requires { Merges s.old merge × Blank s.old }
+    ensures { s.new ≡ bytes (shrunk (view s.old) merge.last) }
 {
-    dealing::merge_into(s, n, m, count, more);
+    let m = merge.last;
+    dealing::merge_into(s, merge);
     states::mark(s, m, m, 0);
     states::set_first(s, m, 0);
     making::clear_first(s, m);
-    making::make_groups(s, n, m);
+    making::make_groups(s, merge.into, m);
 }
 
 // Whether a unit is out in the group of unit m or in the group of the unit that m is split from, by the units out of each group.
@@ -48,82 +52,32 @@ fn pair_out(outs: [u8; 4], m: u8) -> bool
     requires { (1 ≤ m) × (m < 16) }
     ensures { result ≡ pair_out (λ g. get_or outs g 0) m }
 {
-    let own = 0 < outs[buffer::wide(m / 4)];
-    let other = 0 < outs[buffer::wide(lookup::split_pointer(m) / 4)];
-    own || other
-}
-
-// Whether unit m and the unit that it was split from have more records than the b that one unit holds, by the records of each unit.
-fn pair_crowded(b: u8, fills: [u8; 16], m: u8) -> bool
-    requires { (1 ≤ m) × (m < 16) }
-    ensures { result ≡ pair_crowded b (λ u. get_or fills u 0) m }
-{
-    let into = buffer::wide(fills[buffer::wide(lookup::split_pointer(m))]);
-    let own = buffer::wide(fills[buffer::wide(m)]);
-    buffer::wide(b) < into + own
+    0 < outs[usize::from(m / 4)] || 0 < outs[usize::from(lookup::split_pointer(m) / 4)]
 }
 
 // Whether a unit of the store is out, by the units out of each group.
 fn any_out(outs: [u8; 4]) -> bool
     ensures { result ≡ ltb 0 (sum 4 (λ g. get_or outs g 0)) }
 {
-    let total = buffer::wide(outs[0])
-        + buffer::wide(outs[1])
-        + buffer::wide(outs[2])
-        + buffer::wide(outs[3]);
-    0 < total
+    outs != [0; 4]
 }
 
-// The number of a row of the table where its test holds, and otherwise that of the rows behind it.
-fn row(holds: bool, number: u8, rest: u8) -> u8
-    ensures { result ≡ pick holds number rest }
+// Before a grow is made: how many records the unit that is split has.
+pub fn growth_of(s: &[u8]) -> Result<u8, Refusal>
+    ensures number { number result ≡ number_in s.now Call.grow }
+    ensures records { IfOk result (λ count. count ≡ fill_in (view s.now) (split_pointer (byte s.now 6))) }
 {
-    if holds {
-        return number;
-    }
-    rest
-}
-
-// The number of a grow, by the survey of the store.
-fn grow_number(s: &[u8], survey: soundness::Survey) -> u8
-    requires { Surveyed s.now survey.sound survey.fills survey.first_checks survey.outs }
-    ensures { result ≡ first_of (refusals_in survey.sound (view s.now) Call.grow) }
-{
-    if !survey.sound {
-        return 1;
-    }
-    let m = buffer::byte_at(s, lookup::UNITS_AT);
-    let full = 16 <= m;
-    if full {
-        return 9;
+    let survey = soundness::survey_of(s).ok_or(Refusal::NotSound)?;
+    let m = s[lookup::UNITS_AT];
+    if 16 <= m {
+        return Err(Refusal::AtTheLimit);
     }
     let outs = survey.outs;
-    row(pair_out(outs, m), 4, 0)
-}
-
-// What a grow comes to before it is made: its number, and where that is 0 how many records the unit that is split has, else 0.
-#[derive(Clone, Copy)]
-pub struct Growth {
-    pub number: u8,
-    pub count: u8,
-}
-
-// That of a store.
-pub fn growth_of(s: &[u8]) -> Growth
-    ensures { (result.number ≡ number_in s.now Call.grow)
-        × (result.count ≡ pick (eqb result.number 0) (fill_in (view s.now) (split_pointer (byte s.now 6))) 0) }
-{
-    let survey = soundness::survey_of(s);
-    let number = grow_number(s, survey);
-    if number != 0 {
-        return Growth { number, count: 0 };
+    if pair_out(outs, m) {
+        return Err(Refusal::UnitOut);
     }
-    let n = lookup::split_pointer(buffer::byte_at(s, lookup::UNITS_AT));
     let fills = survey.fills;
-    Growth {
-        number: 0,
-        count: fills[buffer::wide(n)],
-    }
+    Ok(fills[usize::from(lookup::split_pointer(m))])
 }
 
 // Grows the store where that is granted, by a unit split from one with count records.
@@ -135,76 +89,74 @@ pub fn add_next(s: &mut [u8], count: u8)
     add_unit(s, lookup::split_pointer(m), m, count);
 }
 
-// The number of a shrink.
-fn shrink_number(s: &[u8], survey: soundness::Survey) -> u8
-    requires { Surveyed s.now survey.sound survey.fills survey.first_checks survey.outs }
-    ensures { result ≡ first_of (refusals_in survey.sound (view s.now) Call.shrink) }
+// Before a shrink is made: the units that it puts together.
+fn merge_of(s: &[u8]) -> Result<Merge, Refusal>
+    ensures number { number result ≡ first_of (refusals_in (sound s.now) (view s.now) Call.shrink) }
+    ensures units { IfOk result (λ merge. Merges s.now merge × Blank s.now × (merge.last + 1 ≡ byte s.now 6)) }
 {
-    if !survey.sound {
-        return 1;
+    let survey = soundness::survey_of(s).ok_or(Refusal::NotSound)?;
+    let units = s[lookup::UNITS_AT];
+    if units <= 1 {
+        return Err(Refusal::AtTheLimit);
     }
-    let units = buffer::byte_at(s, lookup::UNITS_AT);
-    let alone = units <= 1;
-    if alone {
-        return 9;
-    }
-    let m = units - 1;
-    let b = buffer::byte_at(s, lookup::SIZE_AT);
-    let fills = survey.fills;
+    let last = units - 1;
     let outs = survey.outs;
-    row(pair_out(outs, m), 4, row(pair_crowded(b, fills, m), 7, 0))
+    if pair_out(outs, last) {
+        return Err(Refusal::UnitOut);
+    }
+    let into = lookup::split_pointer(last);
+    let fills = survey.fills;
+    let count = fills[usize::from(into)];
+    let more = fills[usize::from(last)];
+    if usize::from(s[lookup::SIZE_AT]) < usize::from(count) + usize::from(more) {
+        return Err(Refusal::NoRoom);
+    }
+    Ok(Merge {
+        into,
+        last,
+        count,
+        more,
+    })
 }
 
-// The number of a raise.
-fn raise_number(s: &[u8], survey: soundness::Survey) -> u8
-    requires { Surveyed s.now survey.sound survey.fills survey.first_checks survey.outs }
-    ensures { result ≡ first_of (refusals_in survey.sound (view s.now) Call.raise) }
+// Whether a raise may be made.
+fn may_raise(s: &[u8]) -> Result<(), Refusal>
+    ensures { number result ≡ first_of (refusals_in (sound s.now) (view s.now) Call.raise) }
 {
-    if !survey.sound {
-        return 1;
+    let survey = soundness::survey_of(s).ok_or(Refusal::NotSound)?;
+    if 3 <= s[lookup::LEVEL_AT] {
+        return Err(Refusal::AtTheLimit);
     }
-    let top = 3 <= buffer::byte_at(s, lookup::LEVEL_AT);
     let outs = survey.outs;
-    row(top, 9, row(any_out(outs), 4, 0))
+    if any_out(outs) {
+        return Err(Refusal::UnitOut);
+    }
+    Ok(())
 }
 
 // Grows the store by a unit.
-pub fn grow(s: &mut [u8]) -> u8
-    ensures { outcome (plain result) s.new ≡ perform s.old Call.grow }
+pub fn grow(s: &mut [u8]) -> Result<(), Refusal>
+    ensures { outcome (plain (number result)) s.new ≡ perform s.old Call.grow }
 {
-    let growth = growth_of(s);
-    if growth.number != 0 {
-        return growth.number;
-    }
-    add_next(s, growth.count);
-    0
+    let count = growth_of(s)?;
+    add_next(s, count);
+    Ok(())
 }
 
 // Shrinks the store by its last unit.
-pub fn shrink(s: &mut [u8]) -> u8
-    ensures { outcome (plain result) s.new ≡ perform s.old Call.shrink }
+pub fn shrink(s: &mut [u8]) -> Result<(), Refusal>
+    ensures { outcome (plain (number result)) s.new ≡ perform s.old Call.shrink }
 {
-    let survey = soundness::survey_of(s);
-    let number = shrink_number(s, survey);
-    if number != 0 {
-        return number;
-    }
-    let m = buffer::byte_at(s, lookup::UNITS_AT) - 1;
-    let n = lookup::split_pointer(m);
-    let fills = survey.fills;
-    remove_unit(s, n, m, fills[buffer::wide(n)], fills[buffer::wide(m)]);
-    0
+    let merge = merge_of(s)?;
+    remove_unit(s, merge);
+    Ok(())
 }
 
 // Raises the store's level by one: each group in place gets a check unit.
-pub fn raise(s: &mut [u8]) -> u8
-    ensures { outcome (plain result) s.new ≡ perform s.old Call.raise }
+pub fn raise(s: &mut [u8]) -> Result<(), Refusal>
+    ensures { outcome (plain (number result)) s.new ≡ perform s.old Call.raise }
 {
-    let survey = soundness::survey_of(s);
-    let number = raise_number(s, survey);
-    if number != 0 {
-        return number;
-    }
+    may_raise(s)?;
     raising::raise_level(s);
-    0
+    Ok(())
 }

@@ -11,11 +11,10 @@ pub fn make_groups(s: &mut [u8], n: u8, m: u8)
     requires { Long s.old × (n ≡ split_pointer m) × (n < m) × (m < 16) }
     ensures { s.new ≡ bytes (made_in 1 (of_both m) (view s.old)) }
 {
-    let first = group::parities::first_row();
-    let second = group::parities::second_row();
-    encoding::make_group(s, m / 4, &first, &second);
+    let rows = group::parities::Rows::new();
+    encoding::make_group(s, m / 4, &rows);
     if n / 4 != m / 4 {
-        encoding::make_group(s, n / 4, &first, &second);
+        encoding::make_group(s, n / 4, &rows);
     }
 }
 
@@ -35,9 +34,9 @@ fn clear_checks(s: &mut [u8], g: u8)
     requires { Long s.old × (g < 4) }
     ensures { s.new ≡ bytes (wiped (in_group g) (view s.old)) }
 {
-    clear_unit(s, 3 * g);
-    clear_unit(s, 3 * g + 1);
-    clear_unit(s, 3 * g + 2);
+    for c in 3 * g..3 * g + 3 {
+        clear_unit(s, c);
+    }
 }
 
 // The same of the group of data unit u, if u is the first of its group.

@@ -1,6 +1,5 @@
 // The header of a store that grows or shrinks: how many units it has, and the states of units.
-ghost use Rattle.std.specs.Prelude.{◌≡◌, ◌/◌, ◌%◌, ◌<◌, ltb};
-ghost use Rattle.buffer.specs.Choice.{pick};
+ghost use Rattle.std.specs.Prelude.{◌≡◌, ◌<◌};
 ghost use Rattle.model.specs.Layout.{bytes, view};
 ghost use Rattle.model.specs.Places.{Long};
 ghost use Rattle.encoding.specs.Made.{in_group};
@@ -12,15 +11,7 @@ pub fn mark(s: &mut [u8], m: u8, u: u8, state: u8)
     ensures { s.new ≡ bytes (marked (view s.old) m u state) }
 {
     s[lookup::UNITS_AT] = m;
-    s[lookup::DATA_STATES + buffer::wide(u)] = state;
-}
-
-// The state of the check unit at place j of a group with this many in service.
-fn state_at(j: u8, level: u8) -> u8
-    ensures { result ≡ pick (ltb j level) 1 0 }
-{
-    let inside = j < level;
-    if inside { 1 } else { 0 }
+    s[lookup::DATA_STATES + usize::from(u)] = state;
 }
 
 // The lowest check units of group g, this many, are in service, and its others not in place.
@@ -28,10 +19,9 @@ fn set_checks(s: &mut [u8], g: u8, level: u8)
     requires { Long s.old × (g < 4) }
     ensures { s.new ≡ bytes (levelled (in_group g) level (view s.old)) }
 {
-    let at = lookup::CHECK_STATES + 3 * buffer::wide(g);
-    s[at] = state_at(0, level);
-    s[at + 1] = state_at(1, level);
-    s[at + 2] = state_at(2, level);
+    for j in 0u8..3 {
+        s[lookup::CHECK_STATES + usize::from(3 * g + j)] = u8::from(j < level);
+    }
 }
 
 // The same of the group of data unit u, if u is the first of its group.

@@ -1,31 +1,26 @@
 -- Lay out on a slice: its two ways out, and the bytes that clearing and a header leave.
 use Prim.Native.Nat.{ℕ, ◌+◌, ◌*◌, ◌-◌, ◌≤◌}
 use mathlib.Core.Path.{◌≡◌}
-use mathlib.Core.Bool.{true, false, not}
 use mathlib.Core.List.{List, ◌∷◌, ◌++◌, append_assoc}
 use native.Mathlib.Omega.{arith}
-use lib.Dec.{eqb}
 use lib.ListN.{length, take, drop}
 use lib.Seq.{drop-drop, drop_at, length-take-le}
-use borrow.Author.Tests.{eqb-true, not-true, not-false}
+use Rattle.refusal.specs.declared.Refusal.{Refusal}
+use Rattle.refusal.specs.Number.{code}
+use Rattle.refusal.specs.NumberLaws.{refused as numbered}
 use Rattle.buffer.specs.Choice.{pick}
 use Rattle.buffer.specs.Bytes.{zeros, splice}
 use Rattle.group.specs.Widths.{slot_bytes, check_bytes}
 use Rattle.model.specs.Layout.{header_bytes, store_bytes, front_of}
 use Rattle.model.specs.Perform.{outcome, plain, lay_out, lay_out_number, laid_out}
 
-pub refused : (s : List ℕ) (b r : ℕ) → r ≡ lay_out_number s b → not (eqb r 0) ≡ true → outcome (plain r) s ≡ lay_out s b
+pub refused : (s : List ℕ) (b : ℕ) (e : Refusal) → code e ≡ lay_out_number s b → outcome (plain (code e)) s ≡ lay_out s b
 unfolding lay_out pick
-refused s b r e h = rw (← e, not-true (eqb r 0) h)
+refused s b e h = rw (← h, numbered e)
 
-pub granted : (s s' : List ℕ) (b r : ℕ) → r ≡ lay_out_number s b → not (eqb r 0) ≡ false → s' ≡ laid_out b s → outcome (plain 0) s' ≡ lay_out s b
+pub granted : (s s' : List ℕ) (b : ℕ) → 0 ≡ lay_out_number s b → s' ≡ laid_out b s → outcome (plain 0) s' ≡ lay_out s b
 unfolding lay_out pick
-granted s s' b r e h q =
-    let z : r ≡ 0 = eqb-true r 0 (not-false (eqb r 0) h) in
-    rw (← e, z, q)
-
-pub is_zero : (r : ℕ) → not (eqb r 0) ≡ false → r ≡ 0
-is_zero r h = eqb-true r 0 (not-false (eqb r 0) h)
+granted s s' b h q = rw (← h, q)
 
 -- cleared behind the header, then with the header of an empty store
 pub laid : (s head new : List ℕ) (b n : ℕ) → store_bytes b ≤ length s → n ≡ store_bytes b - header_bytes → new ≡ zeros n

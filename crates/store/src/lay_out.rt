@@ -1,26 +1,28 @@
 // Lay out: an empty store in a lent slice.
-ghost use Rattle.std.specs.Prelude.{◌≡◌, [], ◌∷◌, ◌++◌, ◌+◌, ◌*◌, ◌≤◌, ◌<◌};
+ghost use Rattle.std.specs.Prelude.{◌≡◌, [], ◌∷◌, ◌++◌, ◌≤◌, IfOk};
 ghost use Rattle.buffer.specs.Bytes.{zeros};
-ghost use Rattle.model.specs.Layout.{front_of};
+ghost use Rattle.refusal.specs.Number.{number};
+ghost use Rattle.model.specs.Layout.{front_of, store_bytes};
 ghost use Rattle.model.specs.Perform.{outcome, plain, lay_out, lay_out_number};
 
-// The number of a layout: 2 for a b outside 1 to 64, 7 for a slice that is too short.
-fn layout_number(s: &[u8], b: u32) -> u8
-    ensures { result ≡ lay_out_number s.now b }
+use refusal::Refusal;
+
+// How long a store with b ranks to a unit is, where b is 1 to 64 and the slice has room for it.
+fn size_for(s: &[u8], b: u32) -> Result<usize, Refusal>
+    ensures verdict { number result ≡ lay_out_number s.now b }
+    ensures size { IfOk result (λ n. n ≡ store_bytes b) }
 {
-    let none = b < 1;
-    if none {
-        return 2;
+    if b < 1 {
+        return Err(Refusal::BadArgument);
     }
-    let many = 64 < b;
-    if many {
-        return 2;
+    if 64 < b {
+        return Err(Refusal::BadArgument);
     }
-    let short = s.len() < lookup::HEADER + lookup::PER_RANK * buffer::index(b);
-    if short {
-        return 7;
+    let size = lookup::HEADER + lookup::PER_RANK * (b as usize);
+    if s.len() < size {
+        return Err(Refusal::NoRoom);
     }
-    0
+    Ok(size)
 }
 
 // The header of an empty store: version, length, b, M = 1, K = 1, data unit 0 and check unit 0 in service.
@@ -31,30 +33,21 @@ fn header(b: u32) -> [u8; lookup::HEADER]
     let size = lookup::HEADER as u32 + lookup::PER_RANK as u32 * b;
     let mut head = [0u8; lookup::HEADER];
     head[0] = lookup::VERSION;
-    head[1] = (size / 16777216 % 256) as u8;
-    head[2] = (size / 65536 % 256) as u8;
-    head[3] = (size / 256 % 256) as u8;
-    head[4] = (size % 256) as u8;
+    head[lookup::LENGTH_AT..lookup::SIZE_AT].copy_from_slice(&size.to_be_bytes());
     head[lookup::SIZE_AT] = b as u8;
     head[lookup::UNITS_AT] = 1;
     head[lookup::LEVEL_AT] = 1;
-    head[lookup::DATA_STATES] = 1;
-    head[lookup::CHECK_STATES] = 1;
+    head[lookup::DATA_STATES] = lookup::IN_SERVICE;
+    head[lookup::CHECK_STATES] = lookup::IN_SERVICE;
     head
 }
 
 // Lays out an empty store with b ranks to a unit. Bytes behind it are not touched.
-pub fn lay_out(s: &mut [u8], b: u32) -> u8
-    ensures { outcome (plain result) s.new ≡ lay_out s.old b }
+pub fn lay_out(s: &mut [u8], b: u32) -> Result<(), Refusal>
+    ensures { outcome (plain (number result)) s.new ≡ lay_out s.old b }
 {
-    let number = layout_number(s, b);
-    let refused = number != 0;
-    if refused {
-        return number;
-    }
-    let size = lookup::HEADER + lookup::PER_RANK * buffer::index(b);
+    let size = size_for(s, b)?;
     buffer::clear(&mut s[lookup::HEADER..size]);
-    let head = header(b);
-    buffer::copy(&mut s[0..lookup::HEADER], &head);
-    0
+    s[0..lookup::HEADER].copy_from_slice(&header(b));
+    Ok(())
 }

@@ -1,9 +1,8 @@
 -- Where a key belongs, from what the code looks up.
-use Prim.Native.Nat.{ℕ, suc, ◌/◌, ◌<◌}
+use Prim.Native.Nat.{ℕ, ◌/◌, ◌<◌}
 use mathlib.Core.Path.{◌≡◌, refl, sym, ap, ◌∙◌}
 use mathlib.Core.Bool.{Bool, true, false, not}
 use mathlib.Core.List.{List}
-use native.Mathlib.Omega.{arith}
 use lib.Dec.{eqb, ltb}
 use lib.ListN.{get_or}
 use Rattle.buffer.specs.Choice.{pick}
@@ -17,18 +16,7 @@ use Rattle.soundness.specs.Survey.{Surveyed}
 use Rattle.soundness.specs.SurveyLaws.{fill_most, own_fill_read}
 use Rattle.lookup.specs.SizedLaws.{sound_sized}
 use Rattle.lookup.specs.KeyLaws.{rank_in_lem}
-use Rattle.writing.specs.Homes.{opening_rows, Homed}
-
--- a key that is refused
-pub homeless : {s : List ℕ} {k : ℕ} {fits : Bool} {number u n r m : ℕ} → (number ≡ suc m) × (u ≡ 0) × (n ≡ 0) × (r ≡ 0)
-    → first_of (opening_rows s k fits) ≡ suc m → Homed s k fits number u n r
-homeless e f =
-    record {
-      found = e.0 ∙ sym f;
-      fitting = λ z. absurd (omega (arith, e.0, z));
-      located = λ z. absurd (omega (arith, e.0, z));
-      nowhere = λ _. (e.1, e.2, e.3);
-    }
+use Rattle.writing.specs.Homes.{opening_rows, Located}
 
 -- ---- key k of a call whose field fits belongs to unit u of a sound store
 pub record Belongs (s : List ℕ) (k : ℕ) (fits : Bool) (u : ℕ) : Type 0 where
@@ -47,21 +35,16 @@ module _ {s : List ℕ} {k : ℕ} {fits : Bool} {u : ℕ} (h : Belongs s k fits 
       ∙ ap (λ v. pick (ltb 0 (outs_in (view s) (v / 4))) 4 0) (sym h.home)
 
   -- no unit of its group is out; the code reads n at the index i, and r
-  pub homed : {ok : Bool} {fills first_checks outs : List ℕ} {i r : ℕ} → Surveyed s ok fills first_checks outs → ok ≡ true
+  pub located : {fills first_checks outs : List ℕ} {i r : ℕ} → Surveyed s true fills first_checks outs
       → ltb 0 (outs_in (view s) (u / 4)) ≡ false → i ≡ u → r ≡ first (get_or fills i 0) (λ q. eqb (key_of ((view s).slot u q)) k)
-      → Homed s k fits 0 u (get_or fills i 0) r
-  homed {ok} {fills} {i = i} {r = r} g e none ei er =
-      let own = own_fill_read g e u ei h.low none in
+      → Located s k (record { unit = u; fill = get_or fills i 0; rank = r })
+  located {fills} {i = i} {r = r} g none ei er =
+      let own = own_fill_read g refl u ei h.low none in
       record {
-        found = sym (opening ∙ pick-false none _ _);
-        fitting = λ _. h.fitting;
-        located = λ _. record {
-          sized = sound_sized h.tested;
-          unit = sym h.home;
-          fill = sym own;
-          rank = sym (rank_in_lem s u (get_or fills i 0) r k own er);
-          below = h.low;
-          most = rw ei (fill_most g u h.low);
-        };
-        nowhere = λ z. absurd (z refl);
+        sized = sound_sized h.tested;
+        unit = sym h.home;
+        fill = sym own;
+        rank = sym (rank_in_lem s u (get_or fills i 0) r k own er);
+        below = h.low;
+        most = rw ei (fill_most g u h.low);
       }

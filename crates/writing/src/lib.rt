@@ -1,19 +1,22 @@
 // Teach, correct, erase and unit out: a slot is written and its group's check units follow; a unit's bytes are cleared.
 #![tactic(auto)]
 
-ghost use Rattle.std.specs.Prelude.{◌≡◌, ◌+◌, ◌*◌, ◌-◌, ◌<◌, length, take};
-ghost use Rattle.group.specs.Products.{products};
+ghost use Rattle.std.specs.Prelude.{◌≡◌, ◌+◌, ◌*◌, ◌-◌, ◌<◌, length, take, IfOk};
 ghost use Rattle.group.specs.Widths.{key_bytes, field_bytes, slot_bytes};
 ghost use Rattle.group.specs.Body.{add_body};
 ghost use Rattle.model.specs.Layout.{bytes, view, slot_of};
 ghost use Rattle.model.specs.Places.{SlotIn, Long};
 ghost use Rattle.model.specs.Parts.{with_checks};
 ghost use Rattle.model.specs.Numbers.{Call, teach, correct, erase, unit_out, first_of, refusals_in};
+ghost use Rattle.model.specs.Sound.{sound};
 ghost use Rattle.model.specs.Perform.{plain, outcome, perform};
 ghost use Rattle.model.specs.Changes.{written, erased, unit_lost};
 ghost use Rattle.writing.specs.Following.{followed};
-ghost use Rattle.writing.specs.Homes.{Homed};
+ghost use Rattle.refusal.specs.Number.{number};
+ghost use Rattle.writing.specs.Homes.{opening_rows, taught_rows, Located};
 ghost use Rattle.writing.specs.Places.{unit_at};
+
+use refusal::Refusal;
 
 // Each check unit in service of u's group follows, at rank r, the new key and the change of field of the record there.
 fn follow_checks(
@@ -22,22 +25,27 @@ fn follow_checks(
     r: u8,
     key: [u8; group::KEY],
     change: [u8; group::FIELD],
-    table: &[u8; 256],
+    products: &group::Products,
 )
-    requires { SlotIn s.old u r × (table.now ≡ products) }
+    requires { SlotIn s.old u r }
     ensures { s.new ≡ bytes (with_checks (view s.old) (followed 3 (view s.old) u r key change)) }
 {
     let b = s[lookup::SIZE_AT];
     let place = u % 4;
     let first = 3 * (u / 4);
-    let mut j: u8 = 0;
-    while j < 3 {
+    for j in 0u8..3 {
         let c = first + j;
-        if s[lookup::CHECK_STATES + buffer::wide(c)] == 1 {
+        if s[lookup::CHECK_STATES + usize::from(c)] == lookup::IN_SERVICE {
             let at = lookup::check_at(b, c, r);
-            group::follow(&mut s[at..at + group::CHECK], j, place, key, change, table);
+            group::follow(
+                &mut s[at..at + group::CHECK],
+                j,
+                place,
+                key,
+                change,
+                products,
+            );
         }
-        j += 1;
     }
 }
 
@@ -47,7 +55,7 @@ fn change_of(old: &[u8], new: &[u8]) -> [u8; group::FIELD]
     ensures { result ≡ add_body old.now new.now }
 {
     let mut change = [0u8; group::FIELD];
-    buffer::copy(&mut change, old);
+    change.copy_from_slice(old);
     group::add(&mut change, new);
     change
 }
@@ -58,14 +66,14 @@ fn key_of(slot: &[u8]) -> [u8; group::KEY]
     ensures { result ≡ take key_bytes slot.now }
 {
     let mut key = [0u8; group::KEY];
-    buffer::copy(&mut key, &slot[0..group::KEY]);
+    key.copy_from_slice(&slot[0..group::KEY]);
     key
 }
 
 // Slot r of unit u becomes these bytes, and each check unit in service of its group follows. They come by value: the compiler knows that they stand
 // apart from the store.
-fn write_slot(s: &mut [u8], u: u8, r: u8, slot: [u8; group::SLOT], table: &[u8; 256])
-    requires { SlotIn s.old u r × (table.now ≡ products) }
+fn write_slot(s: &mut [u8], u: u8, r: u8, slot: [u8; group::SLOT], products: &group::Products)
+    requires { SlotIn s.old u r }
     ensures { s.new ≡ bytes (written (view s.old) u r slot) }
 {
     let at = lookup::slot_at(s[lookup::SIZE_AT], u, r);
@@ -73,30 +81,21 @@ fn write_slot(s: &mut [u8], u: u8, r: u8, slot: [u8; group::SLOT], table: &[u8; 
         &s[at + group::KEY..at + group::SLOT],
         &slot[group::KEY..group::SLOT],
     );
-    follow_checks(s, u, r, key_of(&slot), change, table);
-    buffer::copy(&mut s[at..at + group::SLOT], &slot);
+    follow_checks(s, u, r, key_of(&slot), change, products);
+    s[at..at + group::SLOT].copy_from_slice(&slot);
 }
 
 // The record of rank last moves into rank r of unit u, and its own slot becomes empty.
-fn erase_at(s: &mut [u8], u: u8, r: u8, last: u8, table: &[u8; 256])
-    requires { SlotIn s.old u r × SlotIn s.old u last × (table.now ≡ products) }
+fn erase_at(s: &mut [u8], u: u8, r: u8, last: u8, products: &group::Products)
+    requires { SlotIn s.old u r × SlotIn s.old u last }
     ensures { s.new ≡ bytes (erased (view s.old) u r last) }
 {
     let from = lookup::slot_at(s[lookup::SIZE_AT], u, last);
     let mut held = [0u8; group::SLOT];
-    buffer::copy(&mut held, &s[from..from + group::SLOT]);
-    write_slot(s, u, r, held, table);
+    held.copy_from_slice(&s[from..from + group::SLOT]);
+    write_slot(s, u, r, held, products);
     let empty = [0u8; group::SLOT];
-    write_slot(s, u, last, empty, table);
-}
-
-// A slot becomes a key and a field.
-fn put_record(slot: &mut [u8], key: u32, field: &[u8])
-    requires { (length slot.old ≡ slot_bytes) × (length field.now ≡ field_bytes) }
-    ensures { slot.new ≡ slot_of key field.now }
-{
-    buffer::put32(&mut slot[0..group::KEY], key);
-    buffer::copy(&mut slot[group::KEY..group::SLOT], field);
+    write_slot(s, u, last, empty, products);
 }
 
 // The bytes of a slot with a key and a field.
@@ -105,7 +104,8 @@ fn slot_of(key: u32, field: &[u8]) -> [u8; group::SLOT]
     ensures { result ≡ slot_of key field.now }
 {
     let mut slot = [0u8; group::SLOT];
-    put_record(&mut slot, key, field);
+    buffer::put32(&mut slot[0..group::KEY], key);
+    slot[group::KEY..group::SLOT].copy_from_slice(field);
     slot
 }
 
@@ -114,8 +114,8 @@ fn write_record(s: &mut [u8], u: u8, r: u8, key: u32, field: &[u8])
     requires { SlotIn s.old u r × (length field.now ≡ field_bytes) }
     ensures { s.new ≡ bytes (written (view s.old) u r (slot_of key field.now)) }
 {
-    let table = group::table();
-    write_slot(s, u, r, slot_of(key, field), &table);
+    let products = group::Products::new();
+    write_slot(s, u, r, slot_of(key, field), &products);
 }
 
 // Where the bytes of unit w start: 0 to 15 data, 16 + 3g + j check. They end where those of the next one start.
@@ -137,148 +137,105 @@ fn clear_unit(s: &mut [u8], w: u8)
     let from = unit_at(b, w);
     let to = unit_at(b, w + 1);
     buffer::clear(&mut s[from..to]);
-    s[lookup::DATA_STATES + buffer::wide(w)] = 2;
+    s[lookup::DATA_STATES + usize::from(w)] = lookup::OUT;
 }
 
-// Where a key belongs, or why it is refused: the number, and where that is 0 the key's unit, how many records the unit has and the key's rank among
-// them; else 0, 0 and 0.
+// Where a key belongs: its unit, how many records the unit has, and the key's rank among them.
 #[derive(Clone, Copy)]
 struct Home {
-    number: u8,
     unit: u8,
     fill: u8,
     rank: u8,
 }
 
-// A key that is refused with this number.
-fn refusal(number: u8) -> Home
-    ensures { (result.number ≡ number) × (result.unit ≡ 0) × (result.fill ≡ 0) × (result.rank ≡ 0) }
-{
-    Home {
-        number,
-        unit: 0,
-        fill: 0,
-        rank: 0,
-    }
-}
-
 // The home of a key, for a call with a field that fits or not.
-fn home_of(s: &[u8], key: u32, fits: bool) -> Home
-    ensures { Homed s.now key fits result.number result.unit result.fill result.rank }
+fn home_of(s: &[u8], key: u32, fits: bool) -> Result<Home, Refusal>
+    ensures number { number result ≡ first_of (opening_rows s.now key fits) }
+    ensures place { IfOk result (Located s.now key) }
 {
-    let no_key = key == 0;
-    if no_key {
-        return refusal(2);
+    if key == 0 || !fits {
+        return Err(Refusal::BadArgument);
     }
-    if !fits {
-        return refusal(2);
-    }
-    let survey = soundness::survey_of(s);
-    if !survey.sound {
-        return refusal(1);
-    }
+    let survey = soundness::survey_of(s).ok_or(Refusal::NotSound)?;
     let unit = lookup::unit_of(s[lookup::UNITS_AT], key);
     let outs = survey.outs;
-    let out = 0 < outs[buffer::wide(unit / 4)];
-    if out {
-        return refusal(4);
+    if 0 < outs[usize::from(unit / 4)] {
+        return Err(Refusal::UnitOut);
     }
     let fills = survey.fills;
-    let fill = fills[buffer::wide(unit)];
+    let fill = fills[usize::from(unit)];
     let rank = lookup::rank(s, unit, fill, key);
-    Home {
-        number: 0,
-        unit,
-        fill,
-        rank,
-    }
+    Ok(Home { unit, fill, rank })
 }
 
-// The number of a unit out.
-fn out_number(s: &[u8], ok: bool, unit: u32) -> u8
-    ensures { result ≡ first_of (refusals_in ok (view s.now) (Call.unit_out unit)) }
+// The home of a key that is taught.
+fn taught_home(s: &[u8], key: u32, fits: bool) -> Result<Home, Refusal>
+    ensures number { number result ≡ first_of (taught_rows s.now key fits) }
+    ensures place { IfOk result (Located s.now key) }
 {
-    let above = 27 < unit;
-    if above {
-        return 2;
+    let home = home_of(s, key, fits)?;
+    if home.fill <= home.rank {
+        return Err(Refusal::KeyNotTaught);
     }
-    if !ok {
-        return 1;
+    Ok(home)
+}
+
+// The unit that a call marks as lost: in place, and not out.
+fn unit_to_lose(s: &[u8], unit: u32) -> Result<u8, Refusal>
+    ensures number { number result ≡ first_of (refusals_in (sound s.now) (view s.now) (Call.unit_out unit)) }
+    ensures same { IfOk result (λ w. w ≡ unit) }
+{
+    if 27 < unit {
+        return Err(Refusal::BadArgument);
     }
-    let state = lookup::state(s, unit as u8);
-    let absent = state == 0;
-    if absent {
-        return 3;
+    if !soundness::is_sound(s) {
+        return Err(Refusal::NotSound);
     }
-    let out = state == 2;
-    if out {
-        return 4;
+    match lookup::state(s, unit as u8) {
+        0 => Err(Refusal::NotInPlace),
+        2 => Err(Refusal::UnitOut),
+        _ => Ok(unit as u8),
     }
-    0
 }
 
 // Teaches a new key.
-pub fn teach(s: &mut [u8], key: u32, field: &[u8]) -> u8
-    ensures { outcome (plain result) s.new ≡ perform s.old (Call.teach key field.now) }
+pub fn teach(s: &mut [u8], key: u32, field: &[u8]) -> Result<(), Refusal>
+    ensures { outcome (plain (number result)) s.new ≡ perform s.old (Call.teach key field.now) }
 {
-    let home = home_of(s, key, field.len() == group::FIELD);
-    if home.number != 0 {
-        return home.number;
+    let home = home_of(s, key, field.len() == group::FIELD)?;
+    if home.rank < home.fill {
+        return Err(Refusal::KeyTaught);
     }
-    let known = home.rank < home.fill;
-    if known {
-        return 5;
-    }
-    let full = buffer::byte_at(s, lookup::SIZE_AT) <= home.fill;
-    if full {
-        return 7;
+    if s[lookup::SIZE_AT] <= home.fill {
+        return Err(Refusal::NoRoom);
     }
     write_record(s, home.unit, home.fill, key, field);
-    0
+    Ok(())
 }
 
 // Gives a key a new field.
-pub fn correct(s: &mut [u8], key: u32, field: &[u8]) -> u8
-    ensures { outcome (plain result) s.new ≡ perform s.old (Call.correct key field.now) }
+pub fn correct(s: &mut [u8], key: u32, field: &[u8]) -> Result<(), Refusal>
+    ensures { outcome (plain (number result)) s.new ≡ perform s.old (Call.correct key field.now) }
 {
-    let home = home_of(s, key, field.len() == group::FIELD);
-    if home.number != 0 {
-        return home.number;
-    }
-    let missing = home.fill <= home.rank;
-    if missing {
-        return 6;
-    }
+    let home = taught_home(s, key, field.len() == group::FIELD)?;
     write_record(s, home.unit, home.rank, key, field);
-    0
+    Ok(())
 }
 
 // Erases a key: the last record of its unit takes the freed rank.
-pub fn erase(s: &mut [u8], key: u32) -> u8
-    ensures { outcome (plain result) s.new ≡ perform s.old (Call.erase key) }
+pub fn erase(s: &mut [u8], key: u32) -> Result<(), Refusal>
+    ensures { outcome (plain (number result)) s.new ≡ perform s.old (Call.erase key) }
 {
-    let home = home_of(s, key, true);
-    if home.number != 0 {
-        return home.number;
-    }
-    let missing = home.fill <= home.rank;
-    if missing {
-        return 6;
-    }
-    let table = group::table();
-    erase_at(s, home.unit, home.rank, home.fill - 1, &table);
-    0
+    let home = taught_home(s, key, true)?;
+    let products = group::Products::new();
+    erase_at(s, home.unit, home.rank, home.fill - 1, &products);
+    Ok(())
 }
 
 // A unit is lost: its bytes become zero, and it is out.
-pub fn unit_out(s: &mut [u8], unit: u32) -> u8
-    ensures { outcome (plain result) s.new ≡ perform s.old (Call.unit_out unit) }
+pub fn unit_out(s: &mut [u8], unit: u32) -> Result<(), Refusal>
+    ensures { outcome (plain (number result)) s.new ≡ perform s.old (Call.unit_out unit) }
 {
-    let ok = soundness::is_sound(s);
-    let number = out_number(s, ok, unit);
-    if number != 0 {
-        return number;
-    }
-    clear_unit(s, unit as u8);
-    0
+    clear_unit(s, unit_to_lose(s, unit)?);
+    Ok(())
 }

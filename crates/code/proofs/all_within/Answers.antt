@@ -1,21 +1,21 @@
--- `code::all_within` meets its contract: the four entries, one after the other.
-use mathlib.Core.Path.{sym}
-use Rattle.code.proofs.Checks.{not_within, within_last}
-use borrow.Author.Rules.{rules}
+-- `code::all_within` meets its contract: the test of each entry is that of `within`.
+use mathlib.Core.Bool.{Bool, ◌&&◌}
+use mathlib.Core.List.{List, [], ◌∷◌}
+use mathlib.Core.Path.{◌≡◌, refl, ap, ◌∙◌}
+use Prim.Native.Nat.{ℕ}
+use lib.Dec.{leb}
+use Rattle.std.proofs.Common.{rules, tests}
+use Rattle.std.proofs.lemmas.Iterator.{YieldsList-from_slice}
+use Rattle.std.proofs.lemmas.Iterator.Search.{all_from_yields_List}
+use Rattle.std.specs.List.{list_all}
+use Rattle.code.specs.Matrix.{within}
 use Rattle.code.proofs.all_within.Goals as goal
 
-pub returns-then-n-a : goal.returns-then-n-a
-returns-then-n-a c =
-    sym (not_within c.args.n c.args.a 0 (search rules) c.if-n-a.true)
-
-pub returns-then-n-a-2 : goal.returns-then-n-a-2
-returns-then-n-a-2 c =
-    sym (not_within c.args.n c.args.a 1 (search rules) c.if-n-a-2.true)
-
-pub returns-then-n-a-3 : goal.returns-then-n-a-3
-returns-then-n-a-3 c =
-    sym (not_within c.args.n c.args.a 2 (search rules) c.if-n-a-3.true)
+within_all : (n : ℕ) (l : List ℕ) → list_all (λ x. leb x n) l ≡ within n l
+within_all n [] = refl
+within_all n (x ∷ l) = ap (λ (b : Bool). leb x n && b) (within_all n l)
 
 pub returns : goal.returns
 returns c =
-    sym (within_last c.args.n c.args.a (search rules) (search rules) (search rules) (search rules))
+    all_from_yields_List (λ x. leb x c.args.n) _ _ c.all.result c.all.ensures.ran (YieldsList-from_slice c.args.a cc) (λ x b q k. search (rules, tests))
+    ∙ within_all c.args.n c.args.a

@@ -8,6 +8,6 @@ pub returns-then-d-lt16 : goal.returns-then-d-lt16
 returns-then-d-lt16 c =
     (sym (gap_low c.args.a c.args.b (search rules) (search rules) (search rules)), search rules)
 
-pub returns : goal.returns
-returns c =
+pub returns-else-d-lt16 : goal.returns-else-d-lt16
+returns-else-d-lt16 c =
     (sym (gap_one c.args.a c.args.b (search rules) (search rules) (search rules)), search rules)

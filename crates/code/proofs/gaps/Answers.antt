@@ -6,10 +6,10 @@ use Rattle.code.proofs.gaps.Goals as goal
 
 pub returns : goal.returns
 returns c = (
-  c.mul_in-2.ensures.0
+  c.mul-2.ensures.0
       ∙ ap₂ product c.gap.ensures.0
-      (c.mul_in.ensures.0 ∙ ap₂ product c.gap-2.ensures.0 c.gap-3.ensures.0)
+      (c.mul.ensures.0 ∙ ap₂ product c.gap-2.ensures.0 c.gap-3.ensures.0)
       ∙ gaps_are c.args.q c.args.a
       c.args.b c.args.c,
-  c.mul_in-2.ensures.1,
+  c.mul-2.ensures.1,
 )

@@ -11,12 +11,12 @@ pub returns-then-not-acceptable : goal.returns-then-not-acceptable
 returns-then-not-acceptable c =
     refuses c.args.columns c.args.symbols (sym c.acceptable.ensures ∙ c.if-not-acceptable.true)
 
-pub solve-found-requires : goal.solve-found-requires
-solve-found-requires c =
+pub solve-requires : goal.solve-requires
+solve-requires c =
     sym c.acceptable.ensures ∙ c.if-not-acceptable.false
 
 pub returns : goal.returns
 returns c =
-    subst (λ (l : List ℕ). Rebuilds c.args.columns c.args.symbols 0 l) (sym c.solve-found.ensures)
+    subst (λ (l : List ℕ). Rebuilds c.args.columns c.args.symbols 0 l) (sym c.solve.ensures)
     (grants c.args.columns c.args.symbols (search rules) (search rules)
     (sym c.acceptable.ensures ∙ c.if-not-acceptable.false))

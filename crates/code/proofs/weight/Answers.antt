@@ -7,9 +7,9 @@ use Rattle.code.proofs.weight.Goals as goal
 
 pub returns : goal.returns
 returns c = (
-  c.mul_in.ensures.0
+  c.mul.ensures.0
       ∙ ap₂ product c.gaps.ensures.0 (c.inv.ensures.0 ∙ ap inverse c.gaps-2.ensures.0)
       ∙ weight_is c.args.a c.args.b c.args.c
       c.args.p c.args.q,
-  c.mul_in.ensures.1,
+  c.mul.ensures.1,
 )

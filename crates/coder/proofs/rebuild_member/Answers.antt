@@ -7,43 +7,35 @@ use lib.ListN.{length, take, drop}
 use borrow.Author.Rules.{rules}
 use Rattle.buffer.specs.Bytes.{zeros, splice}
 use Rattle.buffer.specs.SpliceLaws.{put_lent, length_lent}
-use Rattle.coder.proofs.Members.{weights_small, weighed_is, still_placed, blank, rewritten}
+use Rattle.coder.proofs.Members.{weighed_is, still_placed, blank, rewritten}
 use Rattle.coder.proofs.rebuild_member.Goals as goal
 
-pub weigh-requires : goal.weigh-requires
-weigh-requires c =
-    let len : ℕ = length c.args.scratch.now in
-    let at : ℕ = c.place-at.result in
-    let members : List ℕ = take at c.args.members.now ++ (c.clear.new.s ++ drop (at + len - at) (drop at c.args.members.now)) in
-    let cleared : members ≡ splice (len * c.args.c) len (zeros len) c.args.members.now = let s = c.args.members.now in
-    let fits : at + len ≤ length s = omega (arith, c.requires.9, c.place-at.ensures.0) in
-    put_lent s c.clear.new.s at len
-    ∙ ap₂ (λ (n : ℕ) (x : List ℕ). splice n len x s) c.place-at.ensures.0
-    (c.clear.ensures ∙ ap zeros (length_lent s at len fits)) in
-    let asked = c.requires in (
-      asked.0,
-      asked.1,
-      still_placed _ _ _ _ _ asked.4 asked.9 _ cleared asked.2,
-      weights_small c.fill_weights.ensures (omega (arith, asked.0)),
-      blank _ _ _ _ _ asked.4 asked.9 _ cleared _ c.place-at.ensures.0,
-    )
+-- the members once the own stretch is cleared
+cleared : (len at q : ℕ) (s new : List ℕ) → at ≡ len * q → len * q + len ≤ length s → new ≡ zeros (length (take (at + len - at) (drop at s)))
+    → take at s ++ (new ++ drop (at + len - at) (drop at s)) ≡ splice (len * q) len (zeros len) s
+cleared len at q s new is fits e =
+    put_lent s new at len ∙ ap₂ (λ (n : ℕ) (x : List ℕ). splice n len x s) is (e ∙ ap zeros (length_lent s at len (omega arith)))
+
+pub invariant_of-weighted : goal.invariant_of-weighted
+invariant_of-weighted c =
+    let a = c.args in
+    let asked = c.requires in
+    let now = cleared (length a.scratch.now) c.place-at.result a.c a.members.now c.clear.new.s c.place-at.ensures.0 asked.4 c.clear.ensures in
+    record {
+      short = asked.0;
+      placed = still_placed _ _ _ _ _ asked.2 asked.4 _ now asked.1;
+      blank = blank _ _ _ _ _ asked.2 asked.4 _ now _ c.place-at.ensures.0;
+      small = record { long = search rules; low = λ k _. search rules };
+      bytes = λ j. search rules;
+    }
 
 pub returns : goal.returns
 returns c =
-    let len : ℕ = length c.args.scratch.now in
-    let at : ℕ = c.place-at.result in
-    let members : List ℕ = take at c.args.members.now ++ (c.clear.new.s ++ drop (at + len - at) (drop at c.args.members.now)) in
-    let cleared : members ≡ splice (len * c.args.c) len (zeros len) c.args.members.now = let s = c.args.members.now in
-    let fits : at + len ≤ length s = omega (arith, c.requires.9, c.place-at.ensures.0) in
-    put_lent s c.clear.new.s at len
-    ∙ ap₂ (λ (n : ℕ) (x : List ℕ). splice n len x s) c.place-at.ensures.0
-    (c.clear.ensures ∙ ap zeros (length_lent s at len fits)) in
-    let asked = c.requires in
     let a = c.args in
-    put_lent members c.copy.new.into at len
-    ∙ ap (λ (n : ℕ). splice n len c.copy.new.into members) c.place-at.ensures.0
-    ∙ rewritten len a.members.now a.points.now a.m a.c asked.4 asked.9 members cleared
-    c.fill_weights.new.weights _
-    (c.copy.ensures ∙ c.weigh.ensures)
-    (weighed_is _ _ _ _ c.fill_weights.ensures asked.3 asked.0 asked.4 (search rules) asked.5 _ _
-    (search rules))
+    let asked = c.requires in
+    let len : ℕ = length a.scratch.now in
+    let now = cleared len c.place-at.result a.c a.members.now c.clear.new.s c.place-at.ensures.0 asked.4 c.clear.ensures in
+    let ps = a.lagrange.now.points.now in
+    put_lent _ c.copy_from_slice.new.self c.place-at.result len
+    ∙ rewritten len a.members.now ps.list ps.m a.c asked.2 asked.4 _ now _ c.place-at.ensures.0 c.weights-weights.result _ (c.copy_from_slice.ensures.after ∙ c.sum.ensures)
+    (weighed_is _ _ _ _ c.weights-weights.ensures ps.small ps.group asked.2 (search rules) asked.3 _ _ (search rules))

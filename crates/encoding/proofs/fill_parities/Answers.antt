@@ -7,39 +7,8 @@ use Prim.Native.Nat.{ℕ, ◌+◌, ◌*◌}
 use Rattle.buffer.specs.Bytes.{byte, part}
 use Rattle.group.specs.Widths.{key_bytes}
 use Rattle.model.specs.Layout.{view, slot_at}
-use Rattle.encoding.proofs.Ranks.{slot_parts, rank_first, rank_slot, field_lent, parity_four}
+use Rattle.encoding.proofs.Ranks.{slot_parts, parity_four}
 use Rattle.encoding.proofs.fill_parities.Goals as goal
-
-pub slice_bounds-fill-end : goal.slice_bounds-fill-end
-slice_bounds-fill-end c =
-    omega (arith, rank_first c.requires.0, c.slot_at-a.ensures.0)
-
-pub slice_bounds-fill-end-2 : goal.slice_bounds-fill-end-2
-slice_bounds-fill-end-2 c =
-    omega (arith, rank_slot c.requires.0 1 (omega arith), c.slot_at-b.ensures.0)
-
-pub slice_bounds-fill-end-3 : goal.slice_bounds-fill-end-3
-slice_bounds-fill-end-3 c =
-    omega (arith, rank_slot c.requires.0 2 (omega arith), c.slot_at-c.ensures.0)
-
-pub slice_bounds-fill-end-4 : goal.slice_bounds-fill-end-4
-slice_bounds-fill-end-4 c =
-    omega (arith, rank_slot c.requires.0 3 (omega arith), c.slot_at-d.ensures.0)
-
-pub fill-requires : goal.fill-requires
-unfolding part
-fill-requires c =
-    let s = c.args.s.now in (
-      c.requires.1,
-      c.requires.2,
-      c.requires.3,
-      field_lent s c.slot_at-a.result (omega (arith, rank_first c.requires.0, c.slot_at-a.ensures.0)),
-      field_lent s c.slot_at-b.result (omega (arith, rank_slot c.requires.0 1 (omega arith), c.slot_at-b.ensures.0)),
-      field_lent s c.slot_at-c.result (omega (arith, rank_slot c.requires.0 2 (omega arith), c.slot_at-c.ensures.0)),
-      field_lent s c.slot_at-d.result (omega (arith, rank_slot c.requires.0 3 (omega arith), c.slot_at-d.ensures.0)),
-      c.requires.4,
-      c.requires.5,
-    )
 
 pub returns : goal.returns
 unfolding part

@@ -1,10 +1,9 @@
 -- `encoding::make_group` meets its contract.
 use mathlib.Core.Path.{sym, ◌∙◌}
-use native.Mathlib.Omega.{arith}
 use Rattle.model.specs.Layout.{view}
 use Rattle.encoding.specs.Made.{in_state, in_group}
 use Rattle.encoding.specs.MadeLaws.{tests_kept}
-use Rattle.encoding.proofs.RankLoop.{making_start, making_long, making_turn, making_end, nothing_made}
+use Rattle.encoding.proofs.RankLoop.{making_start, making_turn, making_end, nothing_made}
 use Rattle.encoding.proofs.make_group.Goals as goal
 
 pub returns-then-first_check-g : goal.returns-then-first_check-g
@@ -14,15 +13,6 @@ returns-then-first_check-g c =
 pub loop-r-init : goal.loop-r-init
 loop-r-init c =
     making_start (in_state 1 (view c.args.s.now) (in_group c.args.g)) c.requires.0
-
-pub make_rank-requires : goal.make_rank-requires
-make_rank-requires c =
-    let m = c.loop-r.invariant in
-    (record { long = making_long m; group = c.requires.1; rank = omega (arith, m.five, c.loop-r-test.true) }, c.requires.2, c.requires.3)
-
-pub overflow_add-r : goal.overflow_add-r
-overflow_add-r c =
-    omega (arith, c.slice_known-2-1.given 5)
 
 pub loop-r-preserved : goal.loop-r-preserved
 loop-r-preserved c =

@@ -1,22 +1,12 @@
 -- `encoding::make_unit` meets its contract.
 use mathlib.Core.Path.{refl}
-use native.Mathlib.Omega.{arith}
 use Rattle.encoding.specs.Made.{is_unit}
-use Rattle.encoding.proofs.RankLoop.{making_start, making_long, making_turn, making_end}
+use Rattle.encoding.proofs.RankLoop.{making_start, making_turn, making_end}
 use Rattle.encoding.proofs.make_unit.Goals as goal
 
 pub loop-r-init : goal.loop-r-init
 loop-r-init c =
     making_start (is_unit c.args.c) c.requires.0
-
-pub make_record-requires : goal.make_record-requires
-make_record-requires c =
-    let m = c.loop-r.invariant in
-    (record { long = making_long m; unit = c.requires.1; rank = omega (arith, m.five, c.loop-r-test.true) }, c.requires.2, c.requires.3)
-
-pub overflow_add-r : goal.overflow_add-r
-overflow_add-r c =
-    omega (arith, c.slice_known-2-1.given 5)
 
 pub loop-r-preserved : goal.loop-r-preserved
 loop-r-preserved c =

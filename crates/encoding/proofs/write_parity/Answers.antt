@@ -12,10 +12,6 @@ use Rattle.model.specs.Layout.{view}
 use Rattle.encoding.proofs.Ranks.{slot_field, exchanged_low, exchanged_before, parity_four}
 use Rattle.encoding.proofs.write_parity.Goals as goal
 
-pub overflow_add-g : goal.overflow_add-g
-overflow_add-g c =
-    omega (arith, c.requires.0.group, exchanged_low c.args.j 0 c.requires.1 (omega arith))
-
 pub overflow_add-g-2 : goal.overflow_add-g-2
 overflow_add-g-2 c =
     omega (arith, c.requires.0.group, exchanged_low c.args.j 1 c.requires.1 (omega arith))
@@ -37,8 +33,6 @@ write_first-requires c =
       omega (arith, p.2, before 1 p.1 (omega arith), c.slot_at-b.ensures.0),
       omega (arith, p.2, before 2 p.1 (omega arith), c.slot_at-c.ensures.0),
       omega (arith, p.2, before 3 p.1 (omega arith), c.slot_at-d.ensures.0),
-      p.4,
-      p.5,
     )
 
 pub returns : goal.returns

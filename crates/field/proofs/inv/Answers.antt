@@ -15,5 +15,5 @@ use Rattle.field.proofs.inv.Goals as goal
 pub returns : goal.returns
 unfolding values product_in remainder times inverse_in squares
 returns c =
-    let e = values_at 16 0 inverse c.wide.result (search rules) ∙ ap inverse (zero-add c.wide.result ∙ c.wide.ensures) in
+    let e = values_at 16 0 inverse c.from.result (search rules) ∙ ap inverse (zero-add c.from.result ∙ c.from.ensures) in
     (e, subst (λ (n : ℕ). n < 16) (sym e) (ltb→lt (inverse c.args.a) 16 (inverse_low tested c.args.a (search rules))))

@@ -1,6 +1,4 @@
-use Prim.Native.Nat.{◌-◌}
 use lib.Bits.{bit_xor}
-use lib.ListN.{length}
 use Rattle.buffer.specs.Bytes.{byte}
 use Rattle.buffer.specs.LoopWrites.{Filling}
 use Rattle.group.proofs.add.Given as goal
@@ -8,7 +6,3 @@ use Rattle.group.proofs.add.Given as goal
 abbrev pub invariant-loop-i : goal.invariant-loop-i
 invariant-loop-i l =
     Filling (λ k. bit_xor (byte l.initial.into k) (byte l.x k)) l.initial.into l.into l.i
-
-abbrev pub decreases-loop-i : goal.decreases-loop-i
-decreases-loop-i l =
-    length l.into - l.i

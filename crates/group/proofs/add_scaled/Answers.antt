@@ -2,7 +2,6 @@
 use mathlib.Core.Path.{sym, ap₂, ◌∙◌}
 use native.Mathlib.Omega.{arith}
 use lib.Bits.{bit_xor}
-use lib.ListN.{length-set}
 use borrow.Author.Rules.{rules}
 use Rattle.buffer.specs.LoopWrites.{filling_start, filling_turn, filling_read, filling_end}
 use Rattle.group.proofs.ParityLaws.{add_scaled_entries}
@@ -12,10 +11,6 @@ pub loop-i-init : goal.loop-i-init
 loop-i-init c =
     filling_start
 
-pub loop-i-smaller : goal.loop-i-smaller
-loop-i-smaller c =
-    simp length-set (omega arith)
-
 pub loop-i-preserved : goal.loop-i-preserved
 loop-i-preserved c =
     let inv = c.loop-i.invariant in
@@ -24,4 +19,4 @@ loop-i-preserved c =
 pub returns : goal.returns
 returns c =
     let a = c.args in
-    filling_end c.loop-i.invariant c.loop-i-test.false ∙ sym (add_scaled_entries a.symbol a.parity.now a.body.now c.requires.0)
+    filling_end c.loop-i.invariant (omega arith) ∙ sym (add_scaled_entries a.symbol a.parity.now a.body.now c.requires.0)

@@ -6,6 +6,6 @@ use Rattle.group.proofs.coefficient.Goals as goal
 pub returns : goal.returns
 unfolding coefficient
 returns c =
-    let place = c.wide.ensures.0 in
-    let check = c.wide-2.ensures.0 in
+    let place = c.from.ensures in
+    let check = c.from-2.ensures in
     (c.coefficient.ensures.0 ∙ rw (place, check), c.coefficient.ensures.1)

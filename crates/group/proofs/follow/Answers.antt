@@ -9,15 +9,11 @@ use Rattle.group.specs.Body.{add_body, scale_body}
 use Rattle.group.proofs.FollowLaws.{patched_steps}
 use Rattle.group.proofs.follow.Goals as goal
 
-pub add_scaled-requires : goal.add_scaled-requires
-add_scaled-requires c =
-    (search rules, search rules, search rules)
-
 pub returns : goal.returns
 unfolding part splice
 returns c =
     let a = c.args in
-    let at = 4 * c.wide-at.result in
+    let at = 4 * c.from-at.result in
     patched_steps
     field_bytes
     a.check
@@ -31,11 +27,11 @@ returns c =
     at
     (at + 4 - at)
     field_bytes
-    c.copy.new.into
+    c.copy_from_slice.new.self
     c.add_scaled.new.parity
-    (ap (λ p. 4 * p) c.wide-at.ensures.0)
+    (ap (λ p. 4 * p) c.from-at.ensures)
     (omega arith)
     (omega arith)
-    c.copy.ensures
-    (c.add_scaled.ensures ∙ ap (λ k. add_body (part 16 field_bytes (splice at (at + 4 - at) c.copy.new.into a.into.now)) (scale_body k a.change))
+    c.copy_from_slice.ensures.after
+    (c.add_scaled.ensures ∙ ap (λ k. add_body (part 16 field_bytes (splice at (at + 4 - at) c.copy_from_slice.new.self a.into.now)) (scale_body k a.change))
     c.coefficient.ensures.0)

@@ -1,7 +1,7 @@
 -- `group::rebuild_body` meets its contract.
 use mathlib.Core.Path.{sym, ◌∙◌}
 use native.Mathlib.Omega.{arith}
-use lib.ListN.{length, length-set}
+use lib.ListN.{length}
 use borrow.Author.Rules.{rules}
 use Rattle.buffer.specs.RangeLaws.{below-four}
 use Rattle.buffer.specs.LoopWrites.{filling_start, filling_turn, filling_end}
@@ -13,10 +13,6 @@ pub loop-i-init : goal.loop-i-init
 loop-i-init c =
     filling_start
 
-pub loop-i-smaller : goal.loop-i-smaller
-loop-i-smaller c =
-    simp length-set (omega arith)
-
 pub loop-i-preserved : goal.loop-i-preserved
 loop-i-preserved c =
     filling_turn _ c.loop-i.invariant (search rules) c.mix.ensures
@@ -25,6 +21,6 @@ pub returns : goal.returns
 unfolding four_bodies
 returns c =
     let a = c.args in
-    filling_end c.loop-i.invariant c.loop-i-test.false
+    filling_end c.loop-i.invariant (omega arith)
     ∙ sym (weighed_entries (length a.out.now) a.weights (search rules) (four_bodies a.a.now a.b.now a.c.now a.d.now)
     (below-four _ c.requires.0 c.requires.1 c.requires.2 c.requires.3))

@@ -10,9 +10,9 @@ use Rattle.group.proofs.serving.Goals as goal
 pub returns-then-member-lt4 : goal.returns-then-member-lt4
 unfolding serves
 returns-then-member-lt4 c =
-    ap (λ x. not (eqb x 1)) (rw c.wide.ensures.0 at c.byte_at.ensures) ∙ sym (pick_true (lt-ltb _ 4 c.if-member-lt4.true) _ _)
+    ap (λ x. not (eqb x 1)) (rw c.from.ensures at c.byte_at.ensures) ∙ sym (pick_true (lt-ltb _ 4 c.if-member-lt4.true) _ _)
 
 pub returns-else-member-lt4 : goal.returns-else-member-lt4
 unfolding serves
 returns-else-member-lt4 c =
-    ap (λ x. eqb x 1) (rw c.wide-else-member-lt4.ensures.0 at c.byte_at-else-member-lt4.ensures) ∙ sym (pick-false (le-ltb _ 4 c.if-member-lt4.false) _ _)
+    ap (λ x. eqb x 1) (rw c.from-else-member-lt4.ensures at c.byte_at-else-member-lt4.ensures) ∙ sym (pick-false (le-ltb _ 4 c.if-member-lt4.false) _ _)

@@ -7,8 +7,4 @@ use Rattle.lookup.proofs.find.Given as goal
 -- from key i on, the first that is the one is found
 abbrev pub invariant-loop-i : goal.invariant-loop-i
 invariant-loop-i l =
-    Seeking (λ (k : ℕ). eqb (strided32 l.s l.base l.step k) l.key) l.n l.i l.found
-
-abbrev pub decreases-loop-i : goal.decreases-loop-i
-decreases-loop-i l =
-    l.i
+    Seeking (λ (k : ℕ). eqb (strided32 l.s l.keys.base l.keys.step k) l.key) l.n l.i l.found

@@ -1,4 +1,4 @@
-use Prim.Native.Nat.{◌+◌, ◌*◌, ◌-◌}
+use Prim.Native.Nat.{◌+◌, ◌*◌}
 use lib.Dec.{eqb}
 use Rattle.buffer.specs.LoopTests.{Missing}
 use Rattle.buffer.specs.Bytes.{byte}
@@ -7,7 +7,3 @@ use Rattle.lookup.proofs.first_check.Given as goal
 abbrev pub invariant-loop-j : goal.invariant-loop-j
 invariant-loop-j l =
     Missing (λ i. eqb (byte l.s (24 + (3 * l.g + i))) 1) 3 l.j
-
-abbrev pub decreases-loop-j : goal.decreases-loop-j
-decreases-loop-j l =
-    3 - l.j

@@ -6,18 +6,14 @@ use Rattle.lookup.specs.States.{state_byte}
 use Rattle.lookup.specs.Keys.{keys_from, keys_step}
 use Rattle.lookup.proofs.keys_of.Goals as goal
 
-pub keys_at-requires : goal.keys_at-requires
-keys_at-requires c =
-    let p = c.requires in (p.0.sized, p.1)
-
-pub returns-then-state-eq2 : goal.returns-then-state-eq2
+pub returns-then-state-eq-OUT : goal.returns-then-state-eq-OUT
 unfolding keys_from keys_step
-returns-then-state-eq2 c =
-    let out = eq-eqb _ 2 (state_byte c.args.s.now c.args.u ∙ sym c.state.ensures ∙ c.if-state-eq2.true) in
+returns-then-state-eq-OUT c =
+    let out = eq-eqb _ 2 (state_byte c.args.s.now c.args.u ∙ sym c.state.ensures ∙ c.if-state-eq-OUT.true) in
     (c.keys_at.ensures ∙ sym (pick_true out _ _), sym (pick_true out _ _))
 
 pub returns : goal.returns
 unfolding keys_from keys_step
 returns c =
-    let serves = ne_eqb _ 2 (λ h. c.if-state-eq2.false (c.state.ensures ∙ sym (state_byte c.args.s.now c.args.u) ∙ h)) in
+    let serves = ne_eqb _ 2 (λ h. c.if-state-eq-OUT.false (c.state.ensures ∙ sym (state_byte c.args.s.now c.args.u) ∙ h)) in
     (c.slot_at.ensures.0 ∙ sym (pick-false serves _ _), sym (pick-false serves _ _))

@@ -5,27 +5,29 @@ use Rattle.buffer.specs.Choice.{pick}
 use Rattle.model.specs.Units.{power_below}
 use Rattle.lookup.proofs.power_below.Goals as goal
 
-pub returns-then-m-lt2 : goal.returns-then-m-lt2
+pub returns-in-0-to-1 : goal.returns-in-0-to-1
 unfolding power_below pick
-returns-then-m-lt2 c =
-    (simp (lt-ltb _ _ c.if-m-lt2.true), omega arith, omega arith)
+returns-in-0-to-1 c =
+    let m = c.args.m in (simp (lt-ltb m 2 (omega arith)), omega arith, omega arith)
 
-pub returns-then-m-lt4 : goal.returns-then-m-lt4
+pub returns-in-2-to-3 : goal.returns-in-2-to-3
 unfolding power_below pick
-returns-then-m-lt4 c =
-    (simp (le-ltb _ _ c.if-m-lt2.false, lt-ltb _ _ c.if-m-lt4.true), omega arith, omega arith)
+returns-in-2-to-3 c =
+    let m = c.args.m in (simp (le-ltb m 2 (omega arith), lt-ltb m 4 (omega arith)), omega arith, omega arith)
 
-pub returns-then-m-lt8 : goal.returns-then-m-lt8
+pub returns-in-4-to-7 : goal.returns-in-4-to-7
 unfolding power_below pick
-returns-then-m-lt8 c =
-    (simp (le-ltb _ _ c.if-m-lt2.false, le-ltb _ _ c.if-m-lt4.false, lt-ltb _ _ c.if-m-lt8.true), omega arith, omega arith)
+returns-in-4-to-7 c =
+    let m = c.args.m in (simp (le-ltb m 2 (omega arith), le-ltb m 4 (omega arith), lt-ltb m 8 (omega arith)), omega arith, omega arith)
 
-pub returns-then-m-lt16 : goal.returns-then-m-lt16
+pub returns-in-8-to-15 : goal.returns-in-8-to-15
 unfolding power_below pick
-returns-then-m-lt16 c =
-    (simp (le-ltb _ _ c.if-m-lt2.false, le-ltb _ _ c.if-m-lt4.false, le-ltb _ _ c.if-m-lt8.false, lt-ltb _ _ c.if-m-lt16.true), omega arith, omega arith)
+returns-in-8-to-15 c =
+    let m = c.args.m in
+    (simp (le-ltb m 2 (omega arith), le-ltb m 4 (omega arith), le-ltb m 8 (omega arith), lt-ltb m 16 (omega arith)), omega arith, omega arith)
 
-pub returns : goal.returns
+pub returns-in_default : goal.returns-in_default
 unfolding power_below pick
-returns c =
-    (simp (le-ltb _ _ c.if-m-lt2.false, le-ltb _ _ c.if-m-lt4.false, le-ltb _ _ c.if-m-lt8.false, le-ltb _ _ c.if-m-lt16.false), omega arith, omega arith)
+returns-in_default c =
+    let m = c.args.m in
+    (simp (le-ltb m 2 (omega arith), le-ltb m 4 (omega arith), le-ltb m 8 (omega arith), le-ltb m 16 (omega arith)), omega arith, omega arith)

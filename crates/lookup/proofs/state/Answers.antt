@@ -5,4 +5,4 @@ use Rattle.lookup.proofs.state.Goals as goal
 
 pub returns : goal.returns
 returns c =
-    rw c.wide.ensures.0 at c.byte_at.ensures ∙ state_byte c.args.s.now c.args.w
+    rw c.from.ensures at c.byte_at.ensures ∙ state_byte c.args.s.now c.args.w

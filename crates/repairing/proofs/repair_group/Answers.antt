@@ -4,13 +4,13 @@ use Rattle.repairing.proofs.repair_group.Goals as goal
 
 pub make_units-requires : goal.make_units-requires
 make_units-requires c =
-    group_rebuilt c.requires.0 c.rebuild_units.ensures
+    group_rebuilt c.requires.near c.rebuild_units.ensures
 
 pub serve_units-requires : goal.serve_units-requires
 serve_units-requires c =
-    group_made c.requires.0 c.rebuild_units.ensures c.make_units.ensures
+    group_made c.requires.near c.rebuild_units.ensures c.make_units.ensures
 
 pub returns : goal.returns
 returns c =
-    group_repaired c.requires.0 c.rebuild_units.ensures c.make_units.ensures
+    group_repaired c.requires.near c.rebuild_units.ensures c.make_units.ensures
     c.serve_units.ensures

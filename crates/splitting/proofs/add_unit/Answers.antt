@@ -5,18 +5,6 @@ use Rattle.model.specs.StoreLaws.{level_of}
 use Rattle.splitting.proofs.Added.{dealt_holds, marked_holds, new_holds, all_added}
 use Rattle.splitting.proofs.add_unit.Goals as goal
 
-pub bounds-s-7 : goal.bounds-s-7
-bounds-s-7 c =
-    omega (arith, c.requires.0.sized.long)
-
-pub deal_out-requires : goal.deal_out-requires
-deal_out-requires c =
-    c.requires
-
-pub overflow_add-m : goal.overflow_add-m
-overflow_add-m c =
-    omega (arith, c.requires.0.unit)
-
 pub mark-requires : goal.mark-requires
 mark-requires c =
     let sp = c.requires.0 in

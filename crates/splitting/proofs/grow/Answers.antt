@@ -1,22 +1,19 @@
 -- `splitting::grow` meets its contract.
-use borrow.Author.Tests.{eq-eqb}
-use mathlib.Core.Path.{refl, sym, ◌∙◌}
-use Rattle.buffer.specs.ChoiceLaws.{pick_true}
+use mathlib.Core.Path.{refl}
+use borrow.Author.Tests.{eqb-false}
+use Rattle.std.proofs.lemmas.Result.{err_from_is_err_and}
+use Rattle.refusal.specs.NumberLaws as law
 use Rattle.model.specs.Numbers.{number_in}
 use Rattle.model.specs.PerformLaws.{of_grow, refused, granted}
 use Rattle.splitting.proofs.grow.Goals as goal
 
-pub returns-then-growth-ne0 : goal.returns-then-growth-ne0
+pub returns-in_err-count : goal.returns-in_err-count
 unfolding number_in
-returns-then-growth-ne0 c =
-    refused _ of_grow refl c.growth_of-growth.ensures.0 c.if-growth-ne0.true
-
-pub add_next-requires : goal.add_next-requires
-add_next-requires c =
-    let zero = c.if-growth-ne0.false in
-    (sym c.growth_of-growth.ensures.0 ∙ zero, c.growth_of-growth.ensures.1 ∙ pick_true (eq-eqb _ 0 zero) _ 0)
+returns-in_err-count c =
+    let p = err_from_is_err_and c.from_residual.result c.from_residual.ensures.1 in
+    rw (p.1, p.2) (refused _ of_grow refl c.in_err-count.ensures.number (eqb-false _ 0 (law.refused _)))
 
 pub returns : goal.returns
 unfolding number_in
 returns c =
-    granted _ of_grow refl c.growth_of-growth.ensures.0 c.if-growth-ne0.false c.add_next.ensures
+    granted _ of_grow refl c.in_ok-count.ensures.number refl c.add_next.ensures

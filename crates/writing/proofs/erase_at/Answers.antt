@@ -1,25 +1,19 @@
 -- `writing::erase_at` meets its contract.
-use native.Mathlib.Omega.{arith}
 use native.Mathlib.Nat.{add-sub_cancel_left}
 use mathlib.Core.Path.{refl, ◌∙◌}
 use Rattle.buffer.specs.Bytes.{zeros, part}
-use Rattle.model.specs.LayoutLaws.{place_end}
 use Rattle.model.specs.StoreLaws.{slot_lent}
 use Rattle.writing.proofs.Written.{written_in, erased_bytes}
 use borrow.Author.Rules.{rules}
 use Rattle.writing.proofs.erase_at.Goals as goal
 
-pub slice_bounds-copy-end-2 : goal.slice_bounds-copy-end-2
-slice_bounds-copy-end-2 c =
-    omega (arith, place_end c.requires.1)
-
 pub write_slot-requires-2 : goal.write_slot-requires-2
 write_slot-requires-2 c =
-    (written_in _ _ _ _ _ c.requires.0 (search rules) c.write_slot.ensures _ (search rules), c.requires.2)
+    written_in _ _ _ _ _ c.requires.0 (search rules) c.write_slot.ensures _ c.requires.1
 
 pub returns : goal.returns
 unfolding zeros part
 returns c =
     erased_bytes _ _ _ _ _ _ _ c.requires.0 c.requires.1 (search rules)
-    (c.copy.ensures ∙ simp add-sub_cancel_left (slot_lent _ _ _ _ _ refl c.slot_at-from.ensures.0))
+    (c.copy_from_slice.ensures.after ∙ simp add-sub_cancel_left (slot_lent _ _ _ _ _ refl c.slot_at-from.ensures.0))
     c.write_slot.ensures c.write_slot-2.ensures

@@ -1,86 +1,99 @@
 -- `writing::home_of` meets its contract. What is known at a place is said once, and the needs behind it use it.
 use Prim.Native.Nat.{ℕ, ◌<◌}
-use mathlib.Core.Bool.{Bool, true, false, not}
+use mathlib.Core.Bool.{Bool, true}
 use mathlib.Core.List.{List}
-use mathlib.Core.Path.{◌≡◌, sym, ap, ◌∙◌}
+use mathlib.Core.Path.{◌≡◌, refl, sym, ap, ◌∙◌}
 use native.Mathlib.Omega.{arith}
-use lib.Dec.{eqb, ltb}
-use borrow.Author.Tests.{not-false}
+use lib.Dec.{ltb}
+use borrow.Author.Tests.{eq-eqb, ne_eqb, lt-ltb, le-ltb}
+use Rattle.std.proofs.lemmas.Result.{err_from_is_err_and}
 use Rattle.buffer.specs.Bytes.{byte}
 use Rattle.buffer.specs.Choice.{pick}
-use Rattle.buffer.specs.ChoiceLaws.{pick_true}
+use Rattle.buffer.specs.ChoiceLaws.{pick_true, pick-false}
 use Rattle.model.specs.Units.{unit_of}
 use Rattle.model.specs.Numbers.{first_of}
 use Rattle.soundness.specs.Survey.{Surveyed}
 use Rattle.soundness.specs.SurveyLaws.{found_sized, outs_read, fill_most}
 use Rattle.lookup.specs.UnitLaws.{home_found}
 use Rattle.writing.specs.Homes.{opening_rows}
-use Rattle.writing.proofs.Homes.{homeless, Belongs, opening, homed}
+use Rattle.soundness.specs.HandedLaws.{of_these, none_of}
+use Rattle.writing.proofs.Homes.{Belongs, opening, located}
 use Rattle.writing.proofs.home_of.Goals as goal
+use Rattle.writing.proofs.home_of.Goals.{then-key-eq0-via-then-key-eq0, then-key-eq0-via-else-key-eq0+then-not-fits}
 
 -- once the unit of the key is known
-belongs : {s : List ℕ} {ok : Bool} {fills first_checks outs : List ℕ} {k u : ℕ} {fits : Bool} → Surveyed s ok fills first_checks outs → not ok ≡ false
-    → eqb k 0 ≡ false → fits ≡ true → (u ≡ unit_of (byte s 6) k) × (u < byte s 6) → Belongs s k fits u
-belongs {ok = ok} e good key fitting unit =
-    let sized = found_sized e (not-false ok good) in
+belongs : {s : List ℕ} {fills first_checks outs : List ℕ} {k u : ℕ} {fits : Bool} → Surveyed s true fills first_checks outs → (k ≡ 0 → ⊥) → fits ≡ true
+    → (u ≡ unit_of (byte s 6) k) × (u < byte s 6) → Belongs s k fits u
+belongs {k = k} e key fitting unit =
     record {
-      key = key;
+      key = ne_eqb k 0 key;
       fitting = fitting;
-      tested = sym e.tested ∙ not-false ok good;
+      tested = sym e.tested;
       home = home_found _ _ unit.0;
-      low = omega (arith, unit.1, sized.units);
+      low = omega (arith, unit.1, (found_sized e refl).units);
     }
 
 -- ---- the needs
-pub returns-then-no_key : goal.returns-then-no_key
+pub returns-then-key-eq0-clause-number : goal.returns-then-key-eq0-clause-number
 unfolding first_of opening_rows pick
-returns-then-no_key c =
-    homeless c.refusal.ensures (simp c.if-no_key.true-raw)
+returns-then-key-eq0-clause-number c =
+    elim c.then-key-eq0.branch [
+      | then-key-eq0-via-then-key-eq0 w ↦ simp (eq-eqb _ _ w.if-key-eq0.true)
+      | then-key-eq0-via-else-key-eq0+then-not-fits w ↦ simp (ne_eqb _ _ w.if-key-eq0.false, w.if-not-fits.true)
+    ]
 
-pub returns-then-not-fits : goal.returns-then-not-fits
+pub returns-in_err-survey-clause-number : goal.returns-in_err-survey-clause-number
 unfolding first_of opening_rows pick
-returns-then-not-fits c =
-    homeless c.refusal-then-not-fits.ensures (simp (c.if-no_key.false-raw, c.if-not-fits.true))
-
-pub returns-then-not-survey : goal.returns-then-not-survey
-unfolding first_of opening_rows pick
-returns-then-not-survey c =
-    homeless c.refusal-then-not-survey.ensures (simp (c.if-no_key.false-raw, c.if-not-fits.false, ← c.survey_of-survey.ensures.tested, c.if-not-survey.true))
-
-pub bounds-s-6 : goal.bounds-s-6
-bounds-s-6 c =
-    let sized = found_sized c.survey_of-survey.ensures (not-false _ c.if-not-survey.false) in omega (arith, sized.long)
+returns-in_err-survey-clause-number c =
+    let p = err_from_is_err_and c.from_residual.result c.from_residual.ensures.1 in
+    let none = none_of _ _ c.survey_of.result c.survey_of.ensures (sym c.ok_or.ensures.value ∙ c.in_err-survey.was) in
+    rw (p.1, p.2, none.1) (simp (ne_eqb _ _ c.if-key-eq0.false, c.if-not-fits.false, none.0))
 
 pub unit_of-unit-requires : goal.unit_of-unit-requires
 unit_of-unit-requires c =
-    (found_sized c.survey_of-survey.ensures (not-false _ c.if-not-survey.false)).unit
+    let e = of_these _ c.survey_of.result c.survey_of.ensures (sym c.ok_or.ensures.value ∙ c.in_ok-survey.was) in
+    (found_sized e refl).unit
 
-pub bounds-outs-wide : goal.bounds-outs-wide
-bounds-outs-wide c =
-    let key = belongs c.survey_of-survey.ensures c.if-not-survey.false c.if-no_key.false-raw c.if-not-fits.false c.unit_of-unit.ensures in
-    omega (arith, c.wide.ensures.0, key.low)
+pub bounds-outs-from : goal.bounds-outs-from
+bounds-outs-from c =
+    let e = of_these _ c.survey_of.result c.survey_of.ensures (sym c.ok_or.ensures.value ∙ c.in_ok-survey.was) in
+    let key = belongs e c.if-key-eq0.false c.if-not-fits.false c.unit_of-unit.ensures in
+    omega (arith, c.from.ensures, key.low)
 
-pub returns-then-out : goal.returns-then-out
-returns-then-out c =
-    let good = not-false _ c.if-not-survey.false in
-    let key = belongs c.survey_of-survey.ensures c.if-not-survey.false c.if-no_key.false-raw c.if-not-fits.false c.unit_of-unit.ensures in
-    let outs = sym (outs_read c.survey_of-survey.ensures good _ c.wide.ensures.0 (omega (arith, key.low))) in
-    homeless c.refusal-then-out.ensures (opening key ∙ pick_true (ap (ltb 0) outs ∙ c.if-out.true-raw) _ _)
+pub returns-then-outs-from-gt0-clause-number : goal.returns-then-outs-from-gt0-clause-number
+returns-then-outs-from-gt0-clause-number c =
+    let e = of_these _ c.survey_of.result c.survey_of.ensures (sym c.ok_or.ensures.value ∙ c.in_ok-survey.was) in
+    let key = belongs e c.if-key-eq0.false c.if-not-fits.false c.unit_of-unit.ensures in
+    let outs = sym (outs_read e refl _ c.from.ensures (omega (arith, key.low))) in
+    sym (opening key ∙ pick_true (ap (ltb 0) outs ∙ lt-ltb _ _ c.if-outs-from-gt0.true) _ _)
 
-pub bounds-fills-wide : goal.bounds-fills-wide
-bounds-fills-wide c =
-    let key = belongs c.survey_of-survey.ensures c.if-not-survey.false c.if-no_key.false-raw c.if-not-fits.false c.unit_of-unit.ensures in
+pub bounds-fills-from : goal.bounds-fills-from
+bounds-fills-from c =
+    let e = of_these _ c.survey_of.result c.survey_of.ensures (sym c.ok_or.ensures.value ∙ c.in_ok-survey.was) in
+    let key = belongs e c.if-key-eq0.false c.if-not-fits.false c.unit_of-unit.ensures in
     omega (arith, key.low)
 
 pub rank-rank-requires : goal.rank-rank-requires
 rank-rank-requires c =
-    let key = belongs c.survey_of-survey.ensures c.if-not-survey.false c.if-no_key.false-raw c.if-not-fits.false c.unit_of-unit.ensures in
-    (found_sized c.survey_of-survey.ensures (not-false _ c.if-not-survey.false), key.low, rw c.wide-2.ensures.0 (fill_most c.survey_of-survey.ensures c.unit_of-unit.result key.low))
+    let e = of_these _ c.survey_of.result c.survey_of.ensures (sym c.ok_or.ensures.value ∙ c.in_ok-survey.was) in
+    let key = belongs e c.if-key-eq0.false c.if-not-fits.false c.unit_of-unit.ensures in
+    (found_sized e refl, key.low, rw c.from-2.ensures (fill_most e c.unit_of-unit.result key.low))
 
-pub returns : goal.returns
-returns c =
-    let good = not-false _ c.if-not-survey.false in
-    let key = belongs c.survey_of-survey.ensures c.if-not-survey.false c.if-no_key.false-raw c.if-not-fits.false c.unit_of-unit.ensures in
-    let outs = sym (outs_read c.survey_of-survey.ensures good _ c.wide.ensures.0 (omega (arith, key.low))) in
-    homed key c.survey_of-survey.ensures good (ap (ltb 0) outs ∙ c.if-out.false-raw)
-    c.wide-2.ensures.0 c.rank-rank.ensures.0
+pub returns-clause-number : goal.returns-clause-number
+returns-clause-number c =
+    let e = of_these _ c.survey_of.result c.survey_of.ensures (sym c.ok_or.ensures.value ∙ c.in_ok-survey.was) in
+    let key = belongs e c.if-key-eq0.false c.if-not-fits.false c.unit_of-unit.ensures in
+    let outs = sym (outs_read e refl _ c.from.ensures (omega (arith, key.low))) in
+    sym (opening key ∙ pick-false (ap (ltb 0) outs ∙ le-ltb _ _ c.if-outs-from-gt0.false) _ _)
+
+pub returns-clause-place : goal.returns-clause-place
+returns-clause-place c =
+    let e = of_these _ c.survey_of.result c.survey_of.ensures (sym c.ok_or.ensures.value ∙ c.in_ok-survey.was) in
+    let key = belongs e c.if-key-eq0.false c.if-not-fits.false c.unit_of-unit.ensures in
+    let outs = sym (outs_read e refl _ c.from.ensures (omega (arith, key.low))) in
+    located key e (ap (ltb 0) outs ∙ le-ltb _ _ c.if-outs-from-gt0.false) c.from-2.ensures c.rank-rank.ensures.0
+
+pub bounds-s-6 : goal.bounds-s-6
+bounds-s-6 c =
+    let e = of_these _ c.survey_of.result c.survey_of.ensures (sym c.ok_or.ensures.value ∙ c.in_ok-survey.was) in
+    omega (arith, (found_sized e refl).long)

@@ -1,32 +1,35 @@
 -- `writing::teach` meets its contract.
-use mathlib.Core.Path.{◌∙◌}
-use borrow.Author.Tests.{eqb-true}
-use Rattle.model.specs.RowLaws.{row_holds, row_fails}
-use Rattle.writing.proofs.Granted.{of_teaching, refused_first, refused_then, granted_then, next_slot, taught}
+use mathlib.Core.Path.{sym, ◌∙◌}
+use borrow.Author.Tests.{eqb-true, lt-ltb, le-ltb, le-leb, lt-leb}
+use Rattle.std.proofs.lemmas.Result.{err_from_is_err_and}
+use Rattle.refusal.specs.declared.Refusal.TheVariants.{KeyTaught, NoRoom}
+use Rattle.model.specs.RowLaws.{row_holds, row_fails, free_first}
+use Rattle.writing.proofs.Granted.{of_teaching, turned_down, done, at_first, then, fitting, teaching, next_slot, taught}
 use Rattle.writing.proofs.teach.Goals as goal
 
-pub returns-then-home-ne0 : goal.returns-then-home-ne0
-returns-then-home-ne0 c =
-    refused_first (of_teaching _ _ _) c.home_of-home.ensures c.if-home-ne0.true
+pub returns-in_err-home : goal.returns-in_err-home
+returns-in_err-home c =
+    let p = err_from_is_err_and c.from_residual.result c.from_residual.ensures.1 in
+    rw (p.1, p.2) (turned_down (of_teaching c.args.s.now _ _) _ (at_first _ _ _ _ _ c.in_err-home.ensures.number))
 
-pub returns-then-known : goal.returns-then-known
-returns-then-known c =
-    let found = c.home_of-home.ensures in
-    refused_then (of_teaching _ _ _) found c.if-home-ne0.false (row_holds 5 _ c.if-known.true-raw)
+pub returns-then-home : goal.returns-then-home
+returns-then-home c =
+    turned_down (of_teaching c.args.s.now _ _) KeyTaught
+    (sym (row_holds 5 _ (lt-ltb _ _ c.if-home.true)) ∙ then _ _ _ c.in_ok-home.ensures.number c.in_ok-home.ensures.place (teaching c.args.s.now))
 
-pub returns-then-full : goal.returns-then-full
-returns-then-full c =
-    let found = c.home_of-home.ensures in
-    refused_then (of_teaching _ _ _) found c.if-home-ne0.false
-    (row_fails 5 _ c.if-known.false-raw ∙ row_holds 7 _ (rw (← c.byte_at.ensures) c.if-full.true-raw))
+pub returns-then-s-home : goal.returns-then-s-home
+returns-then-s-home c =
+    turned_down (of_teaching c.args.s.now _ _) NoRoom
+    (sym (row_fails 5 _ (le-ltb _ _ c.if-home.false) ∙ row_holds 7 _ (le-leb _ _ c.if-s-home.true))
+    ∙ then _ _ _ c.in_ok-home.ensures.number c.in_ok-home.ensures.place (teaching c.args.s.now))
 
 pub write_record-requires : goal.write_record-requires
 write_record-requires c =
-    let found = c.home_of-home.ensures in
-    (next_slot (found.located c.if-home-ne0.false) (rw (← c.byte_at.ensures) c.if-full.false-raw), eqb-true _ _ (found.fitting c.if-home-ne0.false))
+    (next_slot c.in_ok-home.ensures.place c.if-s-home.false, eqb-true _ _ (fitting _ _ _ c.in_ok-home.ensures.number))
 
 pub returns : goal.returns
 returns c =
-    let found = c.home_of-home.ensures in
-    granted_then (of_teaching _ _ _) found c.if-home-ne0.false
-    (c.if-known.false-raw, (rw (← c.byte_at.ensures) c.if-full.false-raw, tt)) (taught (found.located c.if-home-ne0.false) _ c.write_record.ensures)
+    done (of_teaching c.args.s.now _ _)
+    (sym (free_first (teaching c.args.s.now _ _) (le-ltb _ _ c.if-home.false, (lt-leb _ _ c.if-s-home.false, tt)))
+    ∙ then _ _ _ c.in_ok-home.ensures.number c.in_ok-home.ensures.place (teaching c.args.s.now))
+    (taught c.in_ok-home.ensures.place _ c.write_record.ensures)

@@ -1,29 +1,20 @@
 -- `writing::unit_out` meets its contract.
-use native.Mathlib.Omega.{arith}
-use mathlib.Core.Path.{refl}
-use Rattle.model.specs.PerformLaws.{of_out, refused, granted}
-use Rattle.writing.proofs.Granted.{sized, loses, lost}
+use Rattle.std.proofs.lemmas.Result.{err_from_is_err_and}
+use Rattle.writing.proofs.Granted.{of_losing, turned_down, done, loses, lost}
 use Rattle.writing.proofs.unit_out.Goals as goal
 
-pub returns-then-number-ne0 : goal.returns-then-number-ne0
-returns-then-number-ne0 c =
-    let a = c.args in
-    refused a.s.now of_out c.is_sound-ok.ensures c.out_number-number.ensures c.if-number-ne0.true
-
-pub overflow_cast-unit : goal.overflow_cast-unit
-overflow_cast-unit c =
-    let a = c.args in
-    let g = loses a.s.now _ _ c.if-number-ne0.false a.unit c.out_number-number.ensures in
-    omega arith
+pub returns-in_err-unit_to_lose : goal.returns-in_err-unit_to_lose
+returns-in_err-unit_to_lose c =
+    let p = err_from_is_err_and c.from_residual.result c.from_residual.ensures.1 in
+    rw (p.1, p.2) (turned_down (of_losing _ _) _ c.in_err-unit_to_lose.ensures.number)
 
 pub clear_unit-requires : goal.clear_unit-requires
 clear_unit-requires c =
-    let a = c.args in
-    let g = loses a.s.now _ _ c.if-number-ne0.false a.unit c.out_number-number.ensures in
-    ((sized a.s.now _ c.is_sound-ok.ensures g.sound).long, g.unit)
+    let found = c.in_ok-unit_to_lose.ensures in
+    let g = loses _ _ found.number in
+    (g.sized.long, rw found.same g.unit)
 
 pub returns : goal.returns
 returns c =
-    let a = c.args in
-    granted a.s.now of_out c.is_sound-ok.ensures c.out_number-number.ensures c.if-number-ne0.false
-    (lost a.s.now _ a.unit _ refl c.clear_unit.ensures)
+    let found = c.in_ok-unit_to_lose.ensures in
+    done (of_losing _ _) found.number (lost _ _ _ _ found.same c.clear_unit.ensures)

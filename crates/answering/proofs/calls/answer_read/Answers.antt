@@ -1,8 +1,9 @@
 -- `calls::answer_read` meets its contract.
 use Prim.Native.Nat.{ℕ}
-use mathlib.Core.Path.{◌≡◌, sym, ap, ◌∙◌}
+use mathlib.Core.Path.{◌≡◌, refl, sym, ap, ◌∙◌}
 use mathlib.Core.List.{List, []}
-use borrow.Author.Tests.{eq-eqb, ne_eqb}
+use borrow.Author.Tests.{eq-eqb, eqb-false, ne_eqb}
+use Rattle.refusal.specs.NumberLaws.{refused}
 use Rattle.buffer.specs.ChoiceLaws.{pick_true, pick-false}
 use Rattle.buffer.specs.Bytes.{zeros}
 use Rattle.model.specs.Numbers.{Call}
@@ -21,12 +22,12 @@ module _ {s y : List ℕ} {n : ℕ} (c : Call) (e : outcome (copied n y) s ≡ p
   unfolding printed
   refusal_printed z = sym (pick-false (ne_eqb n 0 z) _ _) ∙ ap (λ (o : Outcome). printed o.answer []) e
 
-pub returns-then-number-eq0 : goal.returns-then-number-eq0
+pub returns-in-Ok : goal.returns-in-Ok
 unfolding zeros
-returns-then-number-eq0 c =
-    rw (← field_printed _ c.read-number.ensures c.if-number-eq0.true) c.put_field.ensures
+returns-in-Ok c =
+    rw (← field_printed _ c.in-Ok.ensures refl) c.put_field.ensures
 
-pub returns : goal.returns
+pub returns-in-Err : goal.returns-in-Err
 unfolding zeros
-returns c =
-    rw (← refusal_printed _ c.read-number.ensures c.if-number-eq0.false) c.put_number.ensures
+returns-in-Err c =
+    rw (← refusal_printed _ c.in-Err.ensures (eqb-false _ 0 (refused c.in-Err.refusal))) (rw c.from.ensures at c.put_number.ensures)

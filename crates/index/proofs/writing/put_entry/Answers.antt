@@ -15,7 +15,7 @@ pub bounds-x-at-2 : goal.bounds-x-at-2
 bounds-x-at-2 c =
     let a = c.args in
     let new = c.put32.new.s in
-    let long : length new ≡ 4 = ap length c.put32.ensures ∙ length_bytes32 a.key in
+    let long : length new ≡ 4 = ap length c.put32.ensures ∙ length_bytes32 a.entry.key in
     simp length-set (omega (arith, ap length (put_lent a.x.now new a.at 4), length_splice a.at 4 new a.x.now (omega arith) long))
 
 pub returns : goal.returns
@@ -23,5 +23,5 @@ returns c =
     let a = c.args in
     let new = c.put32.new.s in
     let lent = put_lent a.x.now new a.at 4 ∙ ap (λ (z : List ℕ). splice a.at 4 z a.x.now) c.put32.ensures in
-    ap (λ (y : List ℕ). set (set y (a.at + 4) a.unit) (a.at + 5) a.rank) lent
-    ∙ entry_written a.x.now a.at a.key a.unit a.rank (search rules)
+    ap (λ (y : List ℕ). set (set y (a.at + 4) a.entry.unit) (a.at + 5) a.entry.rank) lent
+    ∙ entry_written a.x.now a.at a.entry.key a.entry.unit a.entry.rank (search rules)

@@ -1,4 +1,4 @@
-use Prim.Native.Nat.{ℕ, ◌-◌}
+use Prim.Native.Nat.{ℕ, ◌*◌}
 use mathlib.Core.List.{List}
 use lib.ListN.{length}
 use Rattle.buffer.specs.Bytes.{byte}
@@ -11,8 +11,4 @@ pairs s i = hex 2 (byte s i)
 
 abbrev pub invariant-loop-i : goal.invariant-loop-i
 invariant-loop-i l =
-    Appending (pairs l.from) (length l.from) l.initial.into l.into l.i l.at
-
-abbrev pub decreases-loop-i : goal.decreases-loop-i
-decreases-loop-i l =
-    length l.from - l.i
+    Appending (pairs l.from) (length l.from) l.initial.into l.into l.i (2 * l.i)

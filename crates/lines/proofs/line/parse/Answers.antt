@@ -1,148 +1,88 @@
 -- `line::parse` meets its contract.
-use mathlib.Core.Path.{sym, ◌∙◌}
+use mathlib.Core.Path.{◌≡◌, refl, ap}
 use native.Mathlib.Omega.{arith}
-use Rattle.lines.proofs.Parsing.{Argued, unknown, misfit, bare, room, field_length, no_space, no_number, numbered, no_second_space, no_field, with_field, field_ok, field_not_ok}
-use Rattle.lines.proofs.Reading.{ok, not_ok}
+use borrow.Author.Rules.{rules}
+use lib.Dec.{ltb}
+use lib.ListN.{length}
+use Rattle.std.proofs.lemmas.Bool.Decides.{nat_tests}
+use Rattle.std.specs.Prelude.{option_map}
+use Rattle.buffer.specs.ByteLaws.{byte_past}
+use Rattle.buffer.specs.Choice.{pick}
+use Rattle.lines.specs.Line.{digits_of, has_field}
+use Rattle.lines.specs.declared.line.Command.TheVariants.{LayOut, Teach, Correct, Erase, Read, UnitOut, Repair, Grow, Shrink, Raise, List as ListAll}
+use Rattle.lines.proofs.Parsing.{unknown, bare_line, number_line, field_line}
 use Rattle.lines.proofs.line.parse.Goals as goal
 
-pub returns-then-n-gt8 : goal.returns-then-n-gt8
-returns-then-n-gt8 c =
-    c.unread.ensures ∙ sym (unknown _ _ _ c.byte_at-letter.ensures c.digits_of-n.ensures.0 c.if-n-gt8.true)
+pub returns-in_err-letter : goal.returns-in_err-letter
+unfolding digits_of pick
+returns-in_err-letter c =
+    let l = c.args.line.now in
+    let empty : length l ≡ 0 = c.in_err-letter.ensures.cases in
+    rw c.from_residual.ensures (unknown l (ap (λ x. ltb (digits_of x) 9) (byte_past l 0 (omega arith))))
 
-pub returns-then-l-length_of : goal.returns-then-l-length_of
-returns-then-l-length_of c =
-    c.unread-then-l-length_of.ensures
-    ∙ sym (misfit _ _ _ c.byte_at-letter.ensures c.digits_of-n.ensures.0
-    (λ e. c.if-l-length_of.true (e ∙ sym c.length_of.ensures)))
+pub returns-in-76 : goal.returns-in-76
+unfolding digits_of has_field pick
+returns-in-76 c =
+    let map : c.map.result ≡ option_map LayOut c.number_behind.result = search rules in
+    rw (c.in_ok-letter.ensures.cases.0, c.in-76.is, map) (number_line 76 _ 2 refl (omega arith) refl (omega arith) LayOut (λ v. refl) _ c.number_behind.ensures)
 
-pub returns-then-n-eq0 : goal.returns-then-n-eq0
-returns-then-n-eq0 c =
-    c.without_field.ensures
-    ∙ bare _ _ _ c.byte_at-letter.ensures c.digits_of-n.ensures.0
-    c.if-n-eq0.true (c.if-l-length_of.false ∙ c.length_of.ensures)
+pub returns-in-84 : goal.returns-in-84
+unfolding digits_of has_field pick
+returns-in-84 c =
+    let map : c.map-in-84.result ≡ option_map (λ x. Teach x.0 x.1) c.key_and_field.result = search rules in
+    rw (c.in_ok-letter.ensures.cases.0, c.in-84.is, map) (field_line 84 _ refl Teach (λ v x. refl) _ c.key_and_field.ensures)
 
-pub bounds-l-1 : goal.bounds-l-1
-bounds-l-1 c =
-    let argued : Argued c.args.l.now c.byte_at-letter.result c.digits_of-n.result = record {
-      letter = c.byte_at-letter.ensures;
-      digits = c.digits_of-n.ensures.0;
-      known = c.if-n-gt8.false;
-      some = c.if-n-eq0.false;
-      whole = c.if-l-length_of.false ∙ c.length_of.ensures;
-    } in
-    omega (arith, room argued)
+pub returns-in-67 : goal.returns-in-67
+unfolding digits_of has_field pick
+returns-in-67 c =
+    let map : c.map-in-67.result ≡ option_map (λ x. Correct x.0 x.1) c.key_and_field-in-67.result = search rules in
+    rw (c.in_ok-letter.ensures.cases.0, c.in-67.is, map) (field_line 67 _ refl Correct (λ v x. refl) _ c.key_and_field-in-67.ensures)
 
-pub returns-then-l-ne32 : goal.returns-then-l-ne32
-returns-then-l-ne32 c =
-    let argued : Argued c.args.l.now c.byte_at-letter.result c.digits_of-n.result = record {
-      letter = c.byte_at-letter.ensures;
-      digits = c.digits_of-n.ensures.0;
-      known = c.if-n-gt8.false;
-      some = c.if-n-eq0.false;
-      whole = c.if-l-length_of.false ∙ c.length_of.ensures;
-    } in
-    c.unread-then-l-ne32.ensures ∙ sym (no_space argued c.if-l-ne32.true)
+pub returns-in-69 : goal.returns-in-69
+unfolding digits_of has_field pick
+returns-in-69 c =
+    let map : c.map-in-69.result ≡ option_map Erase c.number_behind-in-69.result = search rules in
+    rw (c.in_ok-letter.ensures.cases.0, c.in-69.is, map) (number_line 69 _ 8 refl (omega arith) refl (omega arith) Erase (λ v. refl) _ c.number_behind-in-69.ensures)
 
-pub number-d-requires : goal.number-d-requires
-number-d-requires c =
-    let argued : Argued c.args.l.now c.byte_at-letter.result c.digits_of-n.result = record {
-      letter = c.byte_at-letter.ensures;
-      digits = c.digits_of-n.ensures.0;
-      known = c.if-n-gt8.false;
-      some = c.if-n-eq0.false;
-      whole = c.if-l-length_of.false ∙ c.length_of.ensures;
-    } in
-    (room argued, argued.known)
+pub returns-in-82 : goal.returns-in-82
+unfolding digits_of has_field pick
+returns-in-82 c =
+    let map : c.map-in-82.result ≡ option_map Read c.number_behind-in-82.result = search rules in
+    rw (c.in_ok-letter.ensures.cases.0, c.in-82.is, map) (number_line 82 _ 8 refl (omega arith) refl (omega arith) Read (λ v. refl) _ c.number_behind-in-82.ensures)
 
-pub returns-then-not-d : goal.returns-then-not-d
-returns-then-not-d c =
-    let argued : Argued c.args.l.now c.byte_at-letter.result c.digits_of-n.result = record {
-      letter = c.byte_at-letter.ensures;
-      digits = c.digits_of-n.ensures.0;
-      known = c.if-n-gt8.false;
-      some = c.if-n-eq0.false;
-      whole = c.if-l-length_of.false ∙ c.length_of.ensures;
-    } in
-    c.unread-then-not-d.ensures ∙ sym (no_number argued
-    (not_ok c.number-d.ensures c.if-not-d.true))
+pub returns-in-79 : goal.returns-in-79
+unfolding digits_of has_field pick
+returns-in-79 c =
+    let map : c.map-in-79.result ≡ option_map UnitOut c.number_behind-in-79.result = search rules in
+    rw (c.in_ok-letter.ensures.cases.0, c.in-79.is, map) (number_line 79 _ 2 refl (omega arith) refl (omega arith) UnitOut (λ v. refl) _ c.number_behind-in-79.ensures)
 
-pub returns-then-not-has_field : goal.returns-then-not-has_field
-returns-then-not-has_field c =
-    let argued : Argued c.args.l.now c.byte_at-letter.result c.digits_of-n.result = record {
-      letter = c.byte_at-letter.ensures;
-      digits = c.digits_of-n.ensures.0;
-      known = c.if-n-gt8.false;
-      some = c.if-n-eq0.false;
-      whole = c.if-l-length_of.false ∙ c.length_of.ensures;
-    } in
-    c.without_field-then-not-has_field.ensures ∙ numbered argued c.if-l-ne32.false (ok c.number-d.ensures c.if-not-d.false)
-    (sym c.has_field.ensures ∙ c.if-not-has_field.true)
+pub returns-in-70 : goal.returns-in-70
+unfolding digits_of has_field pick
+returns-in-70 c =
+    let map : c.map-in-70.result ≡ option_map Repair c.number_behind-in-70.result = search rules in
+    rw (c.in_ok-letter.ensures.cases.0, c.in-70.is, map) (number_line 70 _ 2 refl (omega arith) refl (omega arith) Repair (λ v. refl) _ c.number_behind-in-70.ensures)
 
-pub bounds-l-10 : goal.bounds-l-10
-bounds-l-10 c =
-    let argued : Argued c.args.l.now c.byte_at-letter.result c.digits_of-n.result = record {
-      letter = c.byte_at-letter.ensures;
-      digits = c.digits_of-n.ensures.0;
-      known = c.if-n-gt8.false;
-      some = c.if-n-eq0.false;
-      whole = c.if-l-length_of.false ∙ c.length_of.ensures;
-    } in
-    omega (
-      arith,
-      field_length argued
-          (sym c.has_field.ensures ∙ c.if-not-has_field.false),
-    )
+pub returns-in-71 : goal.returns-in-71
+unfolding digits_of has_field pick
+returns-in-71 c =
+    rw (c.in_ok-letter.ensures.cases.0, c.in-71.is, c.then_some.ensures, c.is_empty.ensures) (bare_line 71 _ refl Grow refl)
 
-pub returns-then-l-ne32-2 : goal.returns-then-l-ne32-2
-returns-then-l-ne32-2 c =
-    let argued : Argued c.args.l.now c.byte_at-letter.result c.digits_of-n.result = record {
-      letter = c.byte_at-letter.ensures;
-      digits = c.digits_of-n.ensures.0;
-      known = c.if-n-gt8.false;
-      some = c.if-n-eq0.false;
-      whole = c.if-l-length_of.false ∙ c.length_of.ensures;
-    } in
-    c.unread-then-l-ne32-2.ensures ∙ sym (no_second_space argued
-    (sym c.has_field.ensures ∙ c.if-not-has_field.false) c.if-l-ne32-2.true)
+pub returns-in-83 : goal.returns-in-83
+unfolding digits_of has_field pick
+returns-in-83 c =
+    rw (c.in_ok-letter.ensures.cases.0, c.in-83.is, c.then_some-in-83.ensures, c.is_empty-in-83.ensures) (bare_line 83 _ refl Shrink refl)
 
-pub read_field-b-requires : goal.read_field-b-requires
-read_field-b-requires c =
-    let argued : Argued c.args.l.now c.byte_at-letter.result c.digits_of-n.result = record {
-      letter = c.byte_at-letter.ensures;
-      digits = c.digits_of-n.ensures.0;
-      known = c.if-n-gt8.false;
-      some = c.if-n-eq0.false;
-      whole = c.if-l-length_of.false ∙ c.length_of.ensures;
-    } in
-    omega (arith, field_length argued (sym c.has_field.ensures ∙ c.if-not-has_field.false))
+pub returns-in-75 : goal.returns-in-75
+unfolding digits_of has_field pick
+returns-in-75 c =
+    rw (c.in_ok-letter.ensures.cases.0, c.in-75.is, c.then_some-in-75.ensures, c.is_empty-in-75.ensures) (bare_line 75 _ refl Raise refl)
 
-pub returns-then-not-b : goal.returns-then-not-b
-returns-then-not-b c =
-    let argued : Argued c.args.l.now c.byte_at-letter.result c.digits_of-n.result = record {
-      letter = c.byte_at-letter.ensures;
-      digits = c.digits_of-n.ensures.0;
-      known = c.if-n-gt8.false;
-      some = c.if-n-eq0.false;
-      whole = c.if-l-length_of.false ∙ c.length_of.ensures;
-    } in
-    c.unread-then-not-b.ensures
-    ∙ sym (no_field argued
-    (sym c.has_field.ensures ∙ c.if-not-has_field.false)
-    (field_not_ok c.read_field-b.ensures c.if-not-b.true))
+pub returns-in-80 : goal.returns-in-80
+unfolding digits_of has_field pick
+returns-in-80 c =
+    rw (c.in_ok-letter.ensures.cases.0, c.in-80.is, c.then_some-in-80.ensures, c.is_empty-in-80.ensures) (bare_line 80 _ refl ListAll refl)
 
-pub returns : goal.returns
-returns c =
-    let argued : Argued c.args.l.now c.byte_at-letter.result c.digits_of-n.result = record {
-      letter = c.byte_at-letter.ensures;
-      digits = c.digits_of-n.ensures.0;
-      known = c.if-n-gt8.false;
-      some = c.if-n-eq0.false;
-      whole = c.if-l-length_of.false ∙ c.length_of.ensures;
-    } in
-    with_field
-    argued
-    (sym c.has_field.ensures ∙ c.if-not-has_field.false)
-    c.if-l-ne32.false
-    (ok c.number-d.ensures c.if-not-d.false)
-    c.if-l-ne32-2.false
-    (field_ok c.read_field-b.ensures c.if-not-b.false)
+pub returns-in_default : goal.returns-in_default
+unfolding digits_of pick
+returns-in_default c =
+    rw c.in_ok-letter.ensures.cases.0 (unknown _ (grind (arith, nat_tests)))

@@ -7,4 +7,4 @@ use Rattle.lookup.proofs.decoders.decoder_at.Goals as goal
 pub weights-weights-requires : goal.weights-weights-requires
 weights-weights-requires c =
     let p = c.requires in
-    (p.2, rw c.members-members.ensures (members_within (missing_four p.0)), omega arith)
+    (rw c.members-members.ensures (members_within (missing_four p.0)), omega arith)

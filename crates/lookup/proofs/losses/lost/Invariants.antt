@@ -1,4 +1,3 @@
-use Prim.Native.Nat.{◌-◌}
 use Rattle.buffer.specs.LoopTests.{Missing}
 use Rattle.model.specs.Layout.{view}
 use Rattle.model.specs.Reads.{beyond_in}
@@ -7,7 +6,3 @@ use Rattle.lookup.proofs.losses.lost.Given as goal
 abbrev pub invariant-loop-g : goal.invariant-loop-g
 invariant-loop-g l =
     Missing (beyond_in (view l.s)) 4 l.g
-
-abbrev pub decreases-loop-g : goal.decreases-loop-g
-decreases-loop-g l =
-    4 - l.g

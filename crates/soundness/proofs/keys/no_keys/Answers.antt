@@ -1,6 +1,5 @@
 -- `soundness::keys::no_keys` meets its contract.
 use mathlib.Core.Path.{ap, ◌∙◌}
-use native.Mathlib.Omega.{arith}
 use lib.Dec.{eqb}
 use Rattle.buffer.specs.ByteOrderLaws.{le_be_zero}
 use Rattle.buffer.specs.LoopTests.{gathering_behind, gathering_behind_turn, gathering_end}
@@ -10,17 +9,13 @@ use Rattle.soundness.proofs.keys.no_keys.Goals as goal
 
 pub loop-r-init : goal.loop-r-init
 loop-r-init c =
-    gathering_behind c.requires.1
-
-pub turned_key-any-requires : goal.turned_key-any-requires
-turned_key-any-requires c =
-    c.requires.0.fits c.loop-r.r c.loop-r-test.true
+    gathering_behind c.requires
 
 pub loop-r-preserved : goal.loop-r-preserved
 unfolding turned_keys strided32
 loop-r-preserved c =
     gathering_behind_turn c.turned_key-any.result c.loop-r.invariant c.loop-r-test.true
-    (ap (λ k. eqb k 0) c.turned_key-any.ensures ∙ le_be_zero _ (λ i. omega (arith, c.shared_slice_known-1.given i)) _)
+    (ap (λ k. eqb k 0) c.turned_key-any.ensures ∙ le_be_zero _ c.args.list.octets.below _)
 
 pub returns : goal.returns
 unfolding no_keys

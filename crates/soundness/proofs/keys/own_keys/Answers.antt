@@ -13,7 +13,7 @@ loop-r-init c =
 
 pub turned_key-requires : goal.turned_key-requires
 turned_key-requires c =
-    c.requires.0.fits c.loop-r.r c.loop-r-test.true
+    omega (arith, c.loop-r-test.true, c.requires.0)
 
 pub astray-any-requires : goal.astray-any-requires
 astray-any-requires c =
@@ -22,11 +22,11 @@ astray-any-requires c =
 
 pub loop-r-preserved : goal.loop-r-preserved
 loop-r-preserved c =
-    let own = own_test _ _ c.mask_of-mask.ensures c.wide32-unit.ensures.0 c.turned_key.ensures c.astray-any.ensures in
+    let own = own_test _ _ c.mask_of-mask.ensures c.from-unit.ensures c.turned_key.ensures c.astray-any.ensures in
     gathering_behind_turn c.astray-any.result c.loop-r.invariant c.loop-r-test.true own
 
 pub returns : goal.returns
 unfolding own_from
 returns c =
     gathering_end c.loop-r.invariant.gathering c.loop-r-test.false
-    ∙ own_from_turned _ (λ i. omega (arith, c.shared_slice_known-1.given i)) _ _ _ _ _ _
+    ∙ own_from_turned _ c.args.list.octets.below _ _ _ _ _ _

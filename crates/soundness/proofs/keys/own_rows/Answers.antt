@@ -9,27 +9,30 @@ pub loop-r-init : goal.loop-r-init
 loop-r-init c =
     passing_start
 
-pub own_row-requires : goal.own_row-requires
-own_row-requires c =
-    let asked = c.requires in
-    let inside = c.loop-r-test.true in (
-      omega (arith, asked.0, inside),
-      record {
-        one = c.mask_of-first.ensures;
-        two = c.mask_of-second.ensures;
-        three = c.mask_of-third.ensures;
-        four = c.mask_of-fourth.ensures;
-        low = λ p. mask_small _ p asked.1 asked.2;
-      },
-    )
+pub invariant_of-row : goal.invariant_of-row
+invariant_of-row c =
+    record {
+      masks =
+          record {
+            one = c.mask_of.ensures;
+            two = c.mask_of-2.ensures;
+            three = c.mask_of-3.ensures;
+            four = c.mask_of-4.ensures;
+            low = λ p. mask_small _ p c.requires.1 c.requires.2;
+          };
+    }
 
-pub returns-then-not-own_row : goal.returns-then-not-own_row
-returns-then-not-own_row c =
-    passing_fail c.loop-r.invariant c.loop-r-test.true (sym c.own_row.ensures ∙ c.if-not-own_row.true)
+pub owns-requires : goal.owns-requires
+owns-requires c =
+    let inside = c.loop-r-test.true in omega (arith, c.requires.0, inside)
+
+pub returns-then-not-owns : goal.returns-then-not-owns
+returns-then-not-owns c =
+    passing_fail c.loop-r.invariant c.loop-r-test.true (sym c.owns.ensures ∙ c.if-not-owns.true)
 
 pub loop-r-preserved : goal.loop-r-preserved
 loop-r-preserved c =
-    passing_turn c.loop-r.invariant c.loop-r-test.true (sym c.own_row.ensures ∙ c.if-not-own_row.false)
+    passing_turn c.loop-r.invariant c.loop-r-test.true (sym c.owns.ensures ∙ c.if-not-owns.false)
 
 pub returns : goal.returns
 returns c =

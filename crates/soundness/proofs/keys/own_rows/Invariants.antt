@@ -1,4 +1,3 @@
-use Prim.Native.Nat.{◌-◌}
 use Rattle.buffer.specs.LoopTests.{Passing}
 use Rattle.soundness.specs.Keys.{own_row}
 use Rattle.soundness.proofs.keys.own_rows.Given as goal
@@ -6,7 +5,3 @@ use Rattle.soundness.proofs.keys.own_rows.Given as goal
 abbrev pub invariant-loop-r : goal.invariant-loop-r
 invariant-loop-r l =
     Passing (own_row l.s l.list l.m l.u) l.n l.r
-
-abbrev pub decreases-loop-r : goal.decreases-loop-r
-decreases-loop-r l =
-    l.n - l.r

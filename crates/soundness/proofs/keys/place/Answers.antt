@@ -9,4 +9,4 @@ use Rattle.soundness.proofs.keys.place.Goals as goal
 pub returns : goal.returns
 unfolding place_of
 returns c =
-    (ap (λ (x : ℕ). x * 1640531527 / 2097152 % 2048) c.wide64.ensures.0, mod-lt (c.wide64.result * 1640531527 / 2097152) (search rules))
+    (ap (λ (x : ℕ). x * 1640531527 / 2097152 % 2048) c.from.ensures, mod-lt (c.from.result * 1640531527 / 2097152) (search rules))

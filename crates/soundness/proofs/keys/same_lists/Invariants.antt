@@ -1,4 +1,4 @@
-use Prim.Native.Nat.{ℕ, ◌+◌, ◌*◌, ◌-◌}
+use Prim.Native.Nat.{ℕ, ◌+◌, ◌*◌}
 use mathlib.Core.Bool.{Bool}
 use mathlib.Core.List.{List}
 use Rattle.buffer.specs.LoopTests.{Gathering}
@@ -19,7 +19,3 @@ pub record Both (p q : ℕ → Bool) (b r first second : ℕ) : Type 0 where
 abbrev pub invariant-loop-r : goal.invariant-loop-r
 invariant-loop-r l =
     Both (front l.s l.x l.y) (back l.s l.x l.y) l.b l.r l.first l.second
-
-abbrev pub decreases-loop-r : goal.decreases-loop-r
-decreases-loop-r l =
-    l.b - l.r

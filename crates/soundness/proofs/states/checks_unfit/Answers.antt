@@ -14,7 +14,7 @@ pub loop-c-preserved : goal.loop-c-preserved
 loop-c-preserved c =
     let s = c.args.s.now in
     gathering_turn _ c.loop-c.invariant c.loop-c-test.true
-    (c.unfit-any.ensures ∙ ap₂ (λ t i. state_fits t (byte s (24 + i))) c.has_check-placed.ensures c.wide.ensures.0)
+    (c.unfit-any.ensures ∙ ap₂ (λ t i. state_fits t (byte s (24 + i))) c.has_check-placed.ensures c.from.ensures)
 
 pub returns : goal.returns
 returns c =

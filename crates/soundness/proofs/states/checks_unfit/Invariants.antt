@@ -1,4 +1,3 @@
-use Prim.Native.Nat.{◌-◌}
 use Rattle.buffer.specs.LoopTests.{Gathering}
 use Rattle.soundness.specs.Pieces.{check_fits}
 use Rattle.soundness.proofs.states.checks_unfit.Given as goal
@@ -6,7 +5,3 @@ use Rattle.soundness.proofs.states.checks_unfit.Given as goal
 abbrev pub invariant-loop-c : goal.invariant-loop-c
 invariant-loop-c l =
     Gathering (check_fits l.s) 12 l.c l.any
-
-abbrev pub decreases-loop-c : goal.decreases-loop-c
-decreases-loop-c l =
-    12 - l.c

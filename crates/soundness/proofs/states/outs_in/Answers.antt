@@ -4,4 +4,4 @@ use Rattle.soundness.proofs.states.outs_in.Goals as goal
 
 pub returns : goal.returns
 returns c =
-    group_outs c.args.s.now c.args.g c.wide-group.ensures.0 c.out_from.ensures.0 c.out_from-2.ensures.0
+    group_outs c.args.s.now c.args.g c.from-group.ensures c.out_from.ensures.0 c.out_from-2.ensures.0

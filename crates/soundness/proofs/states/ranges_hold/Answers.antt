@@ -1,7 +1,7 @@
 -- `soundness::states::ranges_hold` meets its contract: each test that fails is one of the ranges, and where none fails the last test decides.
 use mathlib.Core.Bool.{false, and-false}
 use mathlib.Core.List.{List}
-use mathlib.Core.Path.{◌≡◌, refl, ap, ◌∙◌}
+use mathlib.Core.Path.{◌≡◌, refl, ap}
 use Prim.Native.Nat.{ℕ, ◌<◌}
 use native.Mathlib.Omega.{arith}
 use lib.Dec.{leb}
@@ -27,11 +27,11 @@ unfolding ranges
 returns-then-s-ne-VERSION c =
     simp (is_ne refl refl c.if-s-ne-VERSION.true)
 
-pub returns-then-index-length : goal.returns-then-index-length
+pub returns-then-load32-length : goal.returns-then-load32-length
 unfolding ranges
-returns-then-index-length c =
-    let width = ap (λ n. store_bytes n) c.wide.ensures.0 in
-    simp (is_ne (c.index.ensures ∙ c.load32.ensures) width c.if-index-length.true, and-false)
+returns-then-load32-length c =
+    let width = ap (λ n. store_bytes n) c.from.ensures in
+    simp (is_ne (c.load32.ensures) width c.if-load32-length.true, and-false)
 
 pub returns-then-b-lt1 : goal.returns-then-b-lt1
 unfolding ranges
@@ -66,10 +66,10 @@ returns-then-k-gt3 c =
 pub returns : goal.returns
 unfolding ranges
 returns c =
-    let width = c.wide.ensures.0 in
+    let width = c.from.ensures in
     rw (
       is_eq refl refl c.if-s-ne-VERSION.false,
-      is_eq (c.index.ensures ∙ c.load32.ensures) (ap (λ n. store_bytes n) width) c.if-index-length.false,
+      is_eq (c.load32.ensures) (ap (λ n. store_bytes n) width) c.if-load32-length.false,
       is_le refl refl c.if-b-lt1.false,
       is_le refl refl c.if-b-gt64.false,
       is_le refl refl c.if-m-lt1.false,

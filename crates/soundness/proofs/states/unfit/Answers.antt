@@ -35,9 +35,9 @@ pub returns-then-placed : goal.returns-then-placed
 unfolding state_fits pick
 returns-then-placed c =
     let half : ℕ → ℕ = λ x. (x + 1) / 2 in
-    rw c.if-placed.true (xor_same (half c.wide32.result) 1 ∙ ap (λ x. eqb (half x) 1) c.wide32.ensures.0 ∙ half_one c.args.x)
+    rw c.if-placed.true (xor_same (half c.from.result) 1 ∙ ap (λ x. eqb (half x) 1) c.from.ensures ∙ half_one c.args.x)
 
 pub returns : goal.returns
 unfolding state_fits pick
 returns c =
-    rw c.if-placed.false (ap (λ (x : ℕ). eqb ((x + 1) / 2) 0) c.wide32.ensures.0 ∙ half_none c.args.x)
+    rw c.if-placed.false (ap (λ (x : ℕ). eqb ((x + 1) / 2) 0) c.from.ensures ∙ half_none c.args.x)

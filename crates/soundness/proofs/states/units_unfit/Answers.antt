@@ -16,7 +16,7 @@ loop-u-preserved c =
     let s = c.args.s.now in
     let u = c.loop-u.u in
     gathering_turn _ c.loop-u.invariant c.loop-u-test.true
-    (c.unfit-any.ensures ∙ ap (λ i. state_fits (ltb u (byte s 6)) (byte s (8 + i))) c.wide.ensures.0)
+    (c.unfit-any.ensures ∙ ap (λ i. state_fits (ltb u (byte s 6)) (byte s (8 + i))) c.from.ensures)
 
 pub returns : goal.returns
 returns c =

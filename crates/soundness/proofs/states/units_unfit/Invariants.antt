@@ -1,4 +1,3 @@
-use Prim.Native.Nat.{◌-◌}
 use Rattle.buffer.specs.LoopTests.{Gathering}
 use Rattle.soundness.specs.Pieces.{data_fits}
 use Rattle.soundness.proofs.states.units_unfit.Given as goal
@@ -6,7 +5,3 @@ use Rattle.soundness.proofs.states.units_unfit.Given as goal
 abbrev pub invariant-loop-u : goal.invariant-loop-u
 invariant-loop-u l =
     Gathering (data_fits l.s) 16 l.u l.any
-
-abbrev pub decreases-loop-u : goal.decreases-loop-u
-decreases-loop-u l =
-    16 - l.u

@@ -1,11 +1,9 @@
 -- `soundness::units::all_own` meets its contract.
-use Prim.Native.Nat.{◌<◌}
 use mathlib.Core.Path.{◌∙◌}
 use native.Mathlib.Omega.{arith}
 use Rattle.buffer.specs.Bytes.{byte}
 use Rattle.buffer.specs.LoopTests.{passing_start, passing_turn, passing_fail, passing_end}
 use Rattle.soundness.specs.Pieces.{own_listed}
-use Rattle.soundness.proofs.Endings.{kept_at}
 use Rattle.soundness.proofs.Together.{by_groups}
 use mathlib.Core.Path.{sym}
 use Rattle.soundness.proofs.units.all_own.Goals as goal
@@ -16,21 +14,20 @@ loop-g-init c =
 
 pub group_own-requires : goal.group_own-requires
 group_own-requires c =
-    let asked = c.requires in
-    let few : c.loop-g.g < 4 = omega (arith, c.loop-g-test.true, asked.0.most) in
-    (asked.0, kept_at c.loop-g.g asked.1 c.wide.ensures.0 few, few, asked.2)
+    let most = c.args.header.ranged.most in
+    (omega (arith, c.loop-g-test.true, c.units.ensures, most), c.requires)
 
 pub returns-then-not-group_own : goal.returns-then-not-group_own
 returns-then-not-group_own c =
-    let s = c.args.s.now in
-    passing_fail c.loop-g.invariant c.loop-g-test.true (sym c.group_own.ensures ∙ c.if-not-group_own.true)
+    let s = c.args.header.store.now in
+    passing_fail c.loop-g.invariant (omega (arith, c.loop-g-test.true, c.units.ensures)) (sym c.group_own.ensures ∙ c.if-not-group_own.true)
     ∙ by_groups (byte s 6) (own_listed s)
 
 pub loop-g-preserved : goal.loop-g-preserved
 loop-g-preserved c =
-    passing_turn c.loop-g.invariant c.loop-g-test.true (sym c.group_own.ensures ∙ c.if-not-group_own.false)
+    passing_turn c.loop-g.invariant (omega (arith, c.loop-g-test.true, c.units.ensures)) (sym c.group_own.ensures ∙ c.if-not-group_own.false)
 
 pub returns : goal.returns
 returns c =
-    let s = c.args.s.now in
-    passing_end c.loop-g.invariant c.loop-g-test.false ∙ by_groups (byte s 6) (own_listed s)
+    let s = c.args.header.store.now in
+    passing_end c.loop-g.invariant (omega (arith, c.loop-g-test.false, c.units.ensures)) ∙ by_groups (byte s 6) (own_listed s)

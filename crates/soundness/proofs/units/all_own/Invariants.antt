@@ -1,4 +1,4 @@
-use Prim.Native.Nat.{◌+◌, ◌-◌, ◌/◌}
+use Prim.Native.Nat.{◌+◌, ◌/◌}
 use Rattle.buffer.specs.Bytes.{byte}
 use Rattle.buffer.specs.Range.{all}
 use Rattle.buffer.specs.LoopTests.{Passing}
@@ -7,8 +7,4 @@ use Rattle.soundness.proofs.units.all_own.Given as goal
 
 abbrev pub invariant-loop-g : goal.invariant-loop-g
 invariant-loop-g l =
-    Passing (λ k. all 4 (place_own l.s k)) ((byte l.s 6 + 3) / 4) l.g
-
-abbrev pub decreases-loop-g : goal.decreases-loop-g
-decreases-loop-g l =
-    (byte l.s 6 + 3) / 4 - l.g
+    Passing (λ k. all 4 (place_own l.header.store.now k)) ((byte l.header.store.now 6 + 3) / 4) l.g

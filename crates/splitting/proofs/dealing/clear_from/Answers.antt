@@ -8,10 +8,6 @@ use Rattle.buffer.specs.SpliceLaws.{length_part}
 use Rattle.splitting.proofs.Places.{unit_end, clear_from}
 use Rattle.splitting.proofs.dealing.clear_from.Goals as goal
 
-pub slice_bounds-clear-end : goal.slice_bounds-clear-end
-slice_bounds-clear-end c =
-    omega (arith, unit_end c.args.s.now c.args.u c.requires.0 c.requires.1)
-
 pub returns : goal.returns
 unfolding part splice
 returns c =

@@ -1,11 +1,6 @@
-use Prim.Native.Nat.{◌-◌}
 use Rattle.splitting.proofs.MergeLoop.{Merging}
 use Rattle.splitting.proofs.dealing.merge_into.Given as goal
 
 abbrev pub invariant-loop-t : goal.invariant-loop-t
 invariant-loop-t l =
     Merging l.initial.s l.n l.m l.more l.s l.t
-
-abbrev pub decreases-loop-t : goal.decreases-loop-t
-decreases-loop-t l =
-    l.more - l.t

@@ -8,10 +8,6 @@ use Rattle.buffer.specs.SpliceLaws.{length_part}
 use Rattle.splitting.proofs.Places.{check_unit_end, clear_check}
 use Rattle.splitting.proofs.making.clear_unit.Goals as goal
 
-pub slice_bounds-clear-end : goal.slice_bounds-clear-end
-slice_bounds-clear-end c =
-    omega (arith, check_unit_end c.args.s.now c.args.c c.requires.0 c.requires.1)
-
 pub returns : goal.returns
 unfolding part splice
 returns c =

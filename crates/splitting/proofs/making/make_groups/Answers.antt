@@ -15,8 +15,6 @@ pub make_group-requires-then-n-m : goal.make_group-requires-then-n-m
 make_group-requires-then-n-m c = (
   holds_long (made_once c.requires.0 (λ d r. in_state 1 (view c.args.s.now) (in_group (c.args.m / 4)) d) c.make_group.ensures).holds,
   omega (arith, c.requires.2, c.requires.3),
-  c.first_row-first.ensures,
-  c.second_row-second.ensures,
 )
 
 pub returns-then-n-m : goal.returns-then-n-m

@@ -6,4 +6,4 @@ use Rattle.splitting.proofs.raising.add_check.Goals as goal
 
 pub returns : goal.returns
 returns c =
-    unit_added c.args.s.now _ _ _ c.args.c c.requires.0 c.requires.1 (ap (λ x. 24 + x) c.wide.ensures.0) c.make_unit.ensures refl
+    unit_added c.args.s.now _ _ _ c.args.c c.requires.0 c.requires.1 (ap (λ x. 24 + x) c.from.ensures) c.make_unit.ensures refl

@@ -1,20 +1,21 @@
 -- `splitting::states::set_checks` meets its contract.
-use mathlib.Core.Path.{ap}
-use native.Mathlib.Omega.{arith}
-use lib.ListN.{length-set}
-use Prim.Native.Nat.{◌+◌, ◌*◌}
-use Rattle.splitting.proofs.Places.{set_states}
+use Prim.Native.Nat.{◌+◌}
+use mathlib.Core.Bool.{Bool, true, false}
+use mathlib.Core.Path.{◌≡◌, refl, ap, ◌∙◌}
+use mir.Val.{bool_byte}
+use Rattle.buffer.specs.Choice.{pick}
+use Rattle.splitting.proofs.Places.{setting_start, setting_turn}
 use Rattle.splitting.proofs.states.set_checks.Goals as goal
 
-pub bounds-s-at-2 : goal.bounds-s-at-2
-bounds-s-at-2 c =
-    simp length-set (omega (arith, c.requires.0, c.requires.1, c.wide.ensures.0))
+byte_of : (t : Bool) → bool_byte t ≡ pick t 1 0
+unfolding pick
+byte_of true = refl
+byte_of false = refl
 
-pub bounds-s-at-3 : goal.bounds-s-at-3
-bounds-s-at-3 c =
-    simp length-set (omega (arith, c.requires.0, c.requires.1, c.wide.ensures.0))
+pub loop-j-init : goal.loop-j-init
+loop-j-init c =
+    setting_start _ _ c.requires.0 _
 
-pub returns : goal.returns
-returns c =
-    set_states c.args.s.now _ c.args.g c.args.level _ _ _ c.requires.0 (ap (λ x. 24 + 3 * x) c.wide.ensures.0) c.requires.1
-    c.state_at.ensures c.state_at-2.ensures c.state_at-3.ensures
+pub loop-j-preserved : goal.loop-j-preserved
+loop-j-preserved c =
+    setting_turn _ _ c.requires.0 _ _ _ _ c.requires.1 c.loop-j-test.true (ap (λ x. 24 + x) c.from-in-loop-j.ensures) (c.from.ensures ∙ byte_of _) c.loop-j.invariant

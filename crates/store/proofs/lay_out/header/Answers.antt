@@ -1,5 +1,5 @@
 -- `lay_out::header` meets its contract.
-use mathlib.Core.Path.{refl}
+use Rattle.std.specs.Int.{to_be_bytes}
 use Rattle.buffer.specs.Bytes.{bytes32, zeros}
 use Rattle.model.specs.Layout.{front_of}
 use Rattle.store.proofs.lay_out.header.Goals as goal
@@ -7,4 +7,4 @@ use Rattle.store.proofs.lay_out.header.Goals as goal
 pub returns : goal.returns
 unfolding front_of bytes32 zeros
 returns c =
-    refl
+    rw (c.copy_from_slice.ensures.after, c.to_be_bytes.ensures)
