@@ -1,4 +1,4 @@
-// Lent bytes: total reads, numbers of 32 bits, clearing, and the test for zeros.
+// Lent bytes: total reads, numbers of 32 bits, copying, clearing, and the test for zeros.
 #![tactic(auto)]
 
 ghost use Rattle.std.specs.Prelude.{◌≡◌, ◌+◌, ◌*◌, ◌/◌, ◌%◌, ◌≤◌, ◌<◌, length};
@@ -53,6 +53,17 @@ pub fn put32(s: &mut [u8], x: u32)
     ensures { s.new ≡ bytes32 x }
 {
     s.copy_from_slice(&x.to_be_bytes());
+}
+
+// Copies bytes into a slice of the same length, one by one, which the compiler makes one call of memcpy or none. Where the length is not known, the
+// library's copy calls memmove, which a C program need not have (include/lhrs.h).
+pub fn copy(into: &mut [u8], from: &[u8])
+    requires { length into.old ≡ length from.now }
+    ensures { into.new ≡ from.now }
+{
+    for i in 0..into.len() {
+        into[i] = from[i];
+    }
 }
 
 // Makes every byte zero.

@@ -22,7 +22,7 @@ pub extern "C" fn compared_read_in_place(store: &[u8], key: u32, out: &mut [u8])
     if out.len() < n {
         return n;
     }
-    out[..n].copy_from_slice(part);
+    buffer::copy(&mut out[..n], part);
     n
 }
 

@@ -18,17 +18,6 @@ pub struct Records<'a> {
     pub ghost counted: { count ≡ total_in (view survey.store.now) },
 }
 
-// Copies bytes one by one, which the compiler makes one call of memcpy. Where the length is not known, the library's copy calls memmove, which a C program
-// need not have (include/lhrs.h).
-fn copy_bytes(into: &mut [u8], from: &[u8])
-    requires { length into.old ≡ length from.now }
-    ensures { into.new ≡ from.now }
-{
-    for i in 0..into.len() {
-        into[i] = from[i];
-    }
-}
-
 impl Records<'_> {
     // Rebuilds the slots of data unit u, which is out, one behind the other.
     fn rebuild_unit(&self, u: u8, out: &mut [u8], products: &group::Products)
@@ -74,7 +63,7 @@ impl Records<'_> {
         } else {
             let at = lookup::slot_at(s[lookup::SIZE_AT], u, 0);
             let end = at + out.len();
-            copy_bytes(out, &s[at..end]);
+            buffer::copy(out, &s[at..end]);
         }
     }
 

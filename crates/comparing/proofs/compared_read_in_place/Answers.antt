@@ -31,4 +31,4 @@ returns c =
     let e = handed _ _ _ c.read_in_place-part.ensures.place in
     let out = c.args.out.now in
     let n = length c.read_in_place-part.result.now in
-    record { length = ap length e; bytes = copied _ _ out n (c.copy_from_slice.ensures.after ∙ e) (le-ltb _ _ c.if-out-n.false) }
+    record { length = ap length e; bytes = copied _ _ out n (c.copy.ensures ∙ e) (le-ltb _ _ c.if-out-n.false) }

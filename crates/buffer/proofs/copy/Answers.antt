@@ -1,11 +1,11 @@
--- `reading::copy_bytes` meets its contract.
+-- `buffer::copy` meets its contract.
 use mathlib.Core.Path.{refl, sym, ◌∙◌}
 use native.Mathlib.Omega.{arith}
 use lib.ListN.{length}
 use borrow.Author.Rules.{rules}
 use Rattle.buffer.specs.RangeLaws.{entries_of}
 use Rattle.buffer.specs.LoopWrites.{filling_start, filling_turn, filling_end}
-use Rattle.reading.proofs.records.copy_bytes.Goals as goal
+use Rattle.buffer.proofs.copy.Goals as goal
 
 pub loop-i-init : goal.loop-i-init
 loop-i-init c =
