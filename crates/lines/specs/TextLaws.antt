@@ -2,10 +2,12 @@
 use Rattle.std.specs.Prelude.{ℕ, zero, suc, ◌+◌, ◌-◌, ◌≤◌, ◌<◌, ◌≡◌, ◌≢◌, Bool, ◌&&◌, List, [], ◌∷◌, eqb, leb, length, take, drop}
 use Rattle.std.proofs.Math.Nat.{sub-zero}
 use Rattle.std.proofs.Common.{refl, sym, ap, ◌∙◌, arith, not-suc-le-zero, length-drop, drop_of_length-le, get_or-drop, drop-drop, eq-eqb, ne_eqb, eqb-true, le-leb}
+use Rattle.std.proofs.Math.Dec.{leb-suc-zero, leb-suc-suc}
+use Rattle.std.proofs.lemmas.Bool.{lt-leb}
 use Rattle.buffer.specs.ChoiceLaws.{pick_true, pick-false}
-use Rattle.buffer.specs.TestLaws.{not-both, and-true, and_second}
+use Rattle.buffer.specs.TestLaws.{not-both, and-true, and_second, and_false_first}
 use Rattle.buffer.specs.Range.{first}
-use Rattle.buffer.specs.RangeLaws.{first_le, first_misses, first_holds}
+use Rattle.buffer.specs.RangeLaws.{first_le, first_ext, first_none, first_misses, first_holds}
 use Rattle.buffer.specs.Bytes.{byte}
 use Rattle.lines.specs.Text.{before, lines_of}
 use Rattle.lines.specs.Found.{line_end, Ends}
@@ -65,3 +67,31 @@ first_line_is s l =
 pub no_line : (s : List ℕ) (at : ℕ) → length s ≤ at → lines_of (drop at s) ≡ []
 unfolding lines_of
 no_line s at l = rw (drop_of_length-le s l)
+
+-- a line that starts at a place ends where the first line of what is left there does
+pub line_end_from : (s : List ℕ) (at : ℕ) → at ≤ length s → line_end s at ≡ at + line_end (drop at s) 0
+unfolding line_end first
+line_end_from s zero l = omega arith
+line_end_from [] (suc at) l = absurd (omega arith)
+line_end_from (c ∷ s) (suc at) l =
+    let later : line_end s at ≡ at + line_end (drop at s) 0 = line_end_from s at (omega arith) in
+    pick-false (and_false_first (leb-suc-zero at) _) 0 _
+    ∙ ap suc (first_ext (length s) _ (λ k. leb at k && eqb (byte s k) 10) (λ k q. ap (λ t. t && eqb (byte s k) 10) (leb-suc-suc at k)) ∙ later)
+    ∙ omega arith
+
+pub ends_from : (s : List ℕ) (at : ℕ) → at ≤ length s → Ends s at (at + line_end (drop at s) 0)
+unfolding line_end
+ends_from s at l = record {
+  place = sym (line_end_from s at l);
+  within = omega (arith, length-drop at s, first_le (length (drop at s)) (λ k. leb 0 k && eqb (byte (drop at s) k) 10));
+  behind = λ _. omega arith;
+}
+
+-- from the text's end on there is no other line
+pub ends_past : (s : List ℕ) (at : ℕ) → length s ≤ at → Ends s at (length s)
+unfolding line_end
+ends_past s at l = record {
+  place = sym (first_none (length s) _ (λ k q. and_false_first (lt-leb at k (omega arith)) _));
+  within = omega arith;
+  behind = λ h. h;
+}

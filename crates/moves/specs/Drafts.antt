@@ -22,6 +22,6 @@ entry_of p i = pick (ltb i most_moves) (get_or p.moves i no_move) no_move
 unfoldable pub moves_of : Plan → List Move
 moves_of p = entries p.count (entry_of p)
 
--- a count within a list of n entries that is its own
-unfoldable pub right_count : ℕ → ℕ → Plan → Bool
-right_count n c p = not (ltb n c) && eqb c p.count
+-- a count within a list of n entries that is that of m moves
+unfoldable pub right_count : ℕ → ℕ → ℕ → Bool
+right_count n c m = not (ltb n c) && eqb c m
